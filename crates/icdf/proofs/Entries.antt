@@ -1,0 +1,39 @@
+-- What the loop over a table's entries and the test of a symbol lean on. Assumes nothing.
+use Prim.Native.Nat.{ℕ, zero, suc, _-_, _*_, _%_, _^_, _≤_, _<_}
+use mathlib.Core.Path.{_≡_, refl, ap, _∙_}
+use mathlib.Core.Bool.{Bool, false, _&&_}
+use mathlib.Core.List.{List, [], _∷_}
+use native.Mathlib.Omega.{arith}
+use native.Mathlib.Nat.{one-mul, not-suc-le-zero}
+use lib.Dec.{leb, eqb, lit<}
+use lib.ListN.{length, getD}
+use lib.Pow.{shl-exact}
+use Rattle.icdf.specs.Rule.{before}
+use Rattle.icdf.specs.Test.{fallsOk, icdfOk}
+
+-- the test of what is left behind an entry m: nothing left means that m was the last
+abbrev pub left : ℕ → List ℕ → Bool
+left m [] = eqb m 0
+left m (x ∷ t) = leb x m && left x t
+
+pub left-some : (m : ℕ) (t : List ℕ) → 1 ≤ length t → left m t ≡ fallsOk m t
+left-some m [] h = absurd (not-suc-le-zero h)
+left-some m (x ∷ []) h = refl
+left-some m (x ∷ y ∷ t) h = ap (λ (b : Bool). leb x m && b) (left-some x (y ∷ t) (omega arith))
+
+pub none-ok : (scale : ℕ) (t : List ℕ) → length t < 1 → false ≡ icdfOk scale t
+unfolding icdfOk
+none-ok scale [] h = refl
+none-ok scale (x ∷ t) h = absurd (omega arith)
+
+-- the entry before symbol k, by the test whether k is the first
+pub before-first : (scale k : ℕ) (t : List ℕ) → k ≡ 0 → before scale t k ≡ 2 ^ scale
+before-first scale k t z = ap (before scale t) z
+
+pub before-later : (scale k : ℕ) (t : List ℕ) → (k ≡ 0 → ⊥) → before scale t k ≡ getD t (k - 1) 0
+before-later scale zero t z = absurd (z refl)
+before-later scale (suc j) t z = let e : j ≡ suc j - 1 = omega arith in ap (λ (i : ℕ). getD t i 0) e
+
+-- 1 << scale is 2^scale
+pub one-shl : (scale : ℕ) → scale ≤ 8 → 1 * 2 ^ scale % 2 ^ 32 ≡ 2 ^ scale
+one-shl scale h = shl-exact 1 scale 32 (lit< tt) (omega arith) ∙ one-mul (2 ^ scale)

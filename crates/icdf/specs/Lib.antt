@@ -1,0 +1,4 @@
+pub mod Rule
+pub mod Test
+pub mod RuleLaws
+pub mod Search
