@@ -1,0 +1,4 @@
+pub mod Rows
+pub mod Directory
+pub mod SheetRule
+pub mod Places
