@@ -1,11 +1,16 @@
--- Rows one after the other in one list, and where each of them stands there. Assumes nothing.
-use Prim.Native.Nat.{ℕ, zero, suc, _+_, _≤_, _<_}
-use mathlib.Core.Path.{_≡_, refl, sym, ap, subst, _∙_}
+-- Rows one after the other in one list, and where each of them stands there; rows that are all of one width. Assumes nothing.
+use Prim.Native.Nat.{ℕ, zero, suc, _+_, _*_, _≤_, _<_, suc-le-suc}
+use mathlib.Core.Path.{_≡_, refl, sym, ap, _∙_}
+use mathlib.Core.Bool.{Bool, true, _&&_}
 use mathlib.Core.List.{List, [], _∷_, _++_}
-use native.Mathlib.Nat.{le-of-suc-le-suc, not-suc-le-zero}
+use native.Mathlib.Nat.{le-of-suc-le-suc, not-suc-le-zero, suc-mul, zero-mul}
 use native.Mathlib.Omega.{arith}
-use lib.ListN.{length, getD, take, drop, length-append}
-use lib.Seq.{take-append-seam, drop-append-add}
+use borrow.Author.Tests.{eqb-true}
+use lib.Dec.{eqb}
+use lib.ListN.{length, getD, take, drop, length-append, List·getD-append}
+use lib.Seq.{take-append-seam, drop-append-add, getD-append-add}
+use Rattle.tests.specs.Both.{and-both}
+use Rattle.lists.specs.Every.{every, every-at}
 
 module _ {ℓ} {A : Type ℓ} where
   abbrev pub flatten : List (List A) → List A
@@ -32,3 +37,43 @@ module _ {ℓ} {A : Type ℓ} where
   row-within [] k h = absurd (not-suc-le-zero h)
   row-within (r ∷ rs) zero h = omega (arith, length-append r (flatten rs))
   row-within (r ∷ rs) (suc k) h = omega (arith, length-append r (flatten rs), row-within rs k (le-of-suc-le-suc h))
+
+  -- ---- rows of one width
+
+  -- n rows of w entries each
+  pub record Grid (n w : ℕ) (rs : List (List A)) : Type 0 where
+    pub count : length rs ≡ n
+    pub width : (k : ℕ) → k < n → length (getD rs k []) ≡ w
+
+  abbrev pub gridOk : ℕ → ℕ → List (List A) → Bool
+  gridOk n w rs = eqb (length rs) n && every (λ r. eqb (length r) w) rs
+
+  pub grid-of : (n w : ℕ) (rs : List (List A)) → gridOk n w rs ≡ true → Grid n w rs
+  grid-of n w rs e =
+      let p = and-both (eqb (length rs) n) (every (λ r. eqb (length r) w) rs) e in
+      let c : length rs ≡ n = eqb-true _ _ (p .0) in
+      record { count = c; width = λ k h. eqb-true _ _ (every-at (λ r. eqb (length r) w) rs [] (p .1) k (omega arith)) }
+
+  less : (n w : ℕ) (r : List A) (rs : List (List A)) → Grid (suc n) w (r ∷ rs) → Grid n w rs
+  less n w r rs g = record { count = omega (arith, g .count); width = λ k h. g .width (suc k) (suc-le-suc h) }
+
+  pub grid-length : (n w : ℕ) (rs : List (List A)) → Grid n w rs → length (flatten rs) ≡ n * w
+  grid-length zero w [] g = sym (zero-mul w)
+  grid-length (suc n) w [] g = absurd (omega (arith, g .count))
+  grid-length zero w (r ∷ rs) g = absurd (omega (arith, g .count))
+  grid-length (suc n) w (r ∷ rs) g =
+      omega (arith, length-append r (flatten rs), g .width 0 (omega arith), grid-length n w rs (less n w r rs g), suc-mul n w)
+
+  -- entry c of row k, and d where there is no row k
+  pub grid-entry : (n w : ℕ) (rs : List (List A)) → Grid n w rs → (k c : ℕ) (d : A) → c < w
+      → getD (flatten rs) (k * w + c) d ≡ getD (getD rs k []) c d
+  grid-entry n w [] g k c d h = refl
+  grid-entry zero w (r ∷ rs) g k c d h = absurd (omega (arith, g .count))
+  grid-entry (suc n) w (r ∷ rs) g zero c d h =
+      let e : zero * w + c ≡ c = omega (arith, zero-mul w) in
+      let l : length r ≡ w = g .width 0 (omega arith) in
+      rw e (List·getD-append r (flatten rs) d c (omega arith))
+  grid-entry (suc n) w (r ∷ rs) g (suc k) c d h =
+      let l : length r ≡ w = g .width 0 (omega arith) in
+      let e : suc k * w + c ≡ length r + (k * w + c) = omega (arith, suc-mul k w) in
+      rw e (getD-append-add r (flatten rs) (k * w + c) d ∙ grid-entry n w rs (less n w r rs g) k c d h)

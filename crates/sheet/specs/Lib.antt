@@ -2,3 +2,6 @@ pub mod Rows
 pub mod Directory
 pub mod SheetRule
 pub mod Places
+pub mod Probabilities
+pub mod Books
+pub mod Weights
