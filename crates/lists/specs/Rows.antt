@@ -1,13 +1,13 @@
 -- Rows one after the other in one list, and where each of them stands there; rows that are all of one width. Assumes nothing.
-use Prim.Native.Nat.{ℕ, zero, suc, _+_, _*_, _≤_, _<_, suc-le-suc}
+use Prim.Native.Nat.{ℕ, zero, suc, _+_, _*_, _/_, _%_, _≤_, _<_, suc-le-suc}
 use mathlib.Core.Path.{_≡_, refl, sym, ap, _∙_}
 use mathlib.Core.Bool.{Bool, true, _&&_}
 use mathlib.Core.List.{List, [], _∷_, _++_}
-use native.Mathlib.Nat.{le-of-suc-le-suc, not-suc-le-zero, suc-mul, zero-mul}
+use native.Mathlib.Nat.{le-of-suc-le-suc, not-suc-le-zero, suc-mul, zero-mul, div-add-mod', mod-lt}
 use native.Mathlib.Omega.{arith}
 use borrow.Author.Tests.{eqb-true}
 use lib.Dec.{eqb}
-use lib.ListN.{length, getD, take, drop, length-append, List·getD-append}
+use lib.ListN.{length, getD, take, drop, length-append, List·getD-append, List·getD-eq-default}
 use lib.Seq.{take-append-seam, drop-append-add, getD-append-add}
 use Rattle.tests.specs.Both.{and-both}
 use Rattle.lists.specs.Every.{every, every-at}
@@ -77,3 +77,24 @@ module _ {ℓ} {A : Type ℓ} where
       let l : length r ≡ w = g .width 0 (omega arith) in
       let e : suc k * w + c ≡ length r + (k * w + c) = omega (arith, suc-mul k w) in
       rw e (getD-append-add r (flatten rs) (k * w + c) d ∙ grid-entry n w rs (less n w r rs g) k c d h)
+
+  -- entry i, by the quotient and the remainder of i
+  pub grid-at : (n w : ℕ) (rs : List (List A)) → Grid n w rs → 0 < w → (i : ℕ) (d : A)
+      → getD (flatten rs) i d ≡ getD (getD rs (i / w) []) (i % w) d
+  grid-at n w rs g h i d =
+      ap (λ (m : ℕ). getD (flatten rs) m d) (sym (div-add-mod' i w)) ∙ grid-entry n w rs g (i / w) (i % w) d (mod-lt i h)
+
+  pub grid-past : (n w : ℕ) (rs : List (List A)) → Grid n w rs → (i : ℕ) (d : A) → n * w ≤ i → getD (flatten rs) i d ≡ d
+  grid-past n w rs g i d h = List·getD-eq-default (flatten rs) d (omega (arith, grid-length n w rs g))
+
+  -- inside a list the default does not matter
+  pub getD-inside : (l : List A) (i : ℕ) (d e : A) → i < length l → getD l i d ≡ getD l i e
+  getD-inside [] i d e h = absurd (not-suc-le-zero h)
+  getD-inside (x ∷ l) zero d e h = refl
+  getD-inside (x ∷ l) (suc i) d e h = getD-inside l i d e (le-of-suc-le-suc h)
+
+  -- entry i, by the quotient and the remainder of i, with any two defaults
+  pub grid-inside : (n w : ℕ) (rs : List (List A)) → Grid n w rs → 0 < w → (i : ℕ) (d e : A) → i < n * w
+      → getD (getD rs (i / w) []) (i % w) d ≡ getD (flatten rs) i e
+  grid-inside n w rs g h i d e l =
+      sym (grid-at n w rs g h i d) ∙ getD-inside (flatten rs) i d e (omega (arith, grid-length n w rs g))

@@ -248,18 +248,20 @@ wideBook =
 
 -- ---- shape
 
--- 32 vectors, weights and selectors, two lists of predictors, and one gap more than the order
-pub record Shaped (b : Book) : Type 0 where
-  pub vectors : Grid 32 (b .order) (b .vectors)
-  pub weights : Grid 32 (b .order) (b .weights)
-  pub selectors : Grid 32 (b .order / 2) (b .selectors)
-  pub predictors : Grid 2 (b .order - 1) (b .predictors)
-  pub gaps : length (b .gaps) ≡ b .order + 1
+-- a book of order n: 32 vectors, weights and selectors, two lists of predictors, and one gap more than the order
+pub record Shaped (n : ℕ) (b : Book) : Type 0 where
+  pub order : b .order ≡ n
+  pub vectors : Grid 32 n (b .vectors)
+  pub weights : Grid 32 n (b .weights)
+  pub selectors : Grid 32 (n / 2) (b .selectors)
+  pub predictors : Grid 2 (n - 1) (b .predictors)
+  pub gaps : length (b .gaps) ≡ n + 1
 
-pub narrow-shaped : Shaped narrowBook
+pub narrow-shaped : Shaped 10 narrowBook
 unfolding narrowBook
 narrow-shaped =
     record {
+      order = refl;
       vectors = grid-of 32 10 (narrowBook .vectors) refl;
       weights = grid-of 32 10 (narrowBook .weights) refl;
       selectors = grid-of 32 5 (narrowBook .selectors) refl;
@@ -267,10 +269,11 @@ narrow-shaped =
       gaps = refl;
     }
 
-pub wide-shaped : Shaped wideBook
+pub wide-shaped : Shaped 16 wideBook
 unfolding wideBook
 wide-shaped =
     record {
+      order = refl;
       vectors = grid-of 32 16 (wideBook .vectors) refl;
       weights = grid-of 32 16 (wideBook .weights) refl;
       selectors = grid-of 32 8 (wideBook .selectors) refl;

@@ -1,0 +1,43 @@
+-- `selectors_entry` of the wide book meets its contract: the rows are 8 wide. Assumes nothing.
+use borrow.Author.Needs.{needs}
+use Prim.Native.Nat.{ℕ, _/_, _%_}
+use mathlib.Core.Path.{sym, ap, _∙_}
+use mathlib.Core.List.{List, []}
+use lib.Dec.{lit<}
+use lib.ListN.{getD}
+use Rattle.lists.specs.Rows.{grid-past, grid-inside}
+use Rattle.sheet.specs.Books.{wideBook, wide-shaped}
+use Rattle.table_entries.specs.Entries.{noEntry}
+use Rattle.table_entries.proofs.wide.selectors_entry.Statement.{statement}
+use Rattle.table_entries.proofs.wide.selectors_entry.Tie as tie
+
+returns : tie.Need-returns
+returns c = sym (grid-past 32 8 (wideBook .selectors) (wide-shaped .selectors) (c .before .args .place) noEntry (c .if1 .taken))
+
+wide-selectors-requires : tie.Need-wide-selectors-requires
+wide-selectors-requires c κs = search needs
+
+mul-byte : tie.Need-mul-byte
+mul-byte c = search needs
+
+index-1-byte : tie.Need-index-1-byte
+index-1-byte c = search needs
+
+index-2-byte : tie.Need-index-2-byte
+index-2-byte c = search needs
+
+byte-requires : tie.Need-byte-requires
+byte-requires c κs = search needs
+
+returns-2 : tie.Need-returns-2
+returns-2 c =
+    let b = c .before .before .before in
+    let i = b .before .args .place in
+    c .byte .ensures
+    ∙ ap (λ (t : List (List ℕ)). getD (getD t (i / 8) []) (i % 8) 0) (c .before .before .wide-selectors .ensures)
+    ∙ grid-inside 32 8 (wideBook .selectors) (wide-shaped .selectors) (lit< tt) i 0 noEntry (b .if1 .left)
+
+pub selectors-entry-spec : {M : Type 1} → statement M
+selectors-entry-spec =
+    tie.close
+    (tie.spec returns wide-selectors-requires mul-byte index-1-byte index-2-byte byte-requires returns-2)
