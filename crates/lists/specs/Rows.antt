@@ -38,6 +38,12 @@ module _ {ℓ} {A : Type ℓ} where
   row-within (r ∷ rs) zero h = omega (arith, length-append r (flatten rs))
   row-within (r ∷ rs) (suc k) h = omega (arith, length-append r (flatten rs), row-within rs k (le-of-suc-le-suc h))
 
+  -- inside a list the default does not matter
+  pub getD-inside : (l : List A) (i : ℕ) (d e : A) → i < length l → getD l i d ≡ getD l i e
+  getD-inside [] i d e h = absurd (not-suc-le-zero h)
+  getD-inside (x ∷ l) zero d e h = refl
+  getD-inside (x ∷ l) (suc i) d e h = getD-inside l i d e (le-of-suc-le-suc h)
+
   -- ---- rows of one width
 
   -- n rows of w entries each
@@ -84,17 +90,11 @@ module _ {ℓ} {A : Type ℓ} where
   grid-at n w rs g h i d =
       ap (λ (m : ℕ). getD (flatten rs) m d) (sym (div-add-mod' i w)) ∙ grid-entry n w rs g (i / w) (i % w) d (mod-lt i h)
 
-  pub grid-past : (n w : ℕ) (rs : List (List A)) → Grid n w rs → (i : ℕ) (d : A) → n * w ≤ i → getD (flatten rs) i d ≡ d
-  grid-past n w rs g i d h = List·getD-eq-default (flatten rs) d (omega (arith, grid-length n w rs g))
-
-  -- inside a list the default does not matter
-  pub getD-inside : (l : List A) (i : ℕ) (d e : A) → i < length l → getD l i d ≡ getD l i e
-  getD-inside [] i d e h = absurd (not-suc-le-zero h)
-  getD-inside (x ∷ l) zero d e h = refl
-  getD-inside (x ∷ l) (suc i) d e h = getD-inside l i d e (le-of-suc-le-suc h)
-
-  -- entry i, by the quotient and the remainder of i, with any two defaults
+  -- and inside the list, with any two defaults
   pub grid-inside : (n w : ℕ) (rs : List (List A)) → Grid n w rs → 0 < w → (i : ℕ) (d e : A) → i < n * w
       → getD (getD rs (i / w) []) (i % w) d ≡ getD (flatten rs) i e
   grid-inside n w rs g h i d e l =
       sym (grid-at n w rs g h i d) ∙ getD-inside (flatten rs) i d e (omega (arith, grid-length n w rs g))
+
+  pub grid-past : (n w : ℕ) (rs : List (List A)) → Grid n w rs → (i : ℕ) (d : A) → n * w ≤ i → getD (flatten rs) i d ≡ d
+  grid-past n w rs g i d h = List·getD-eq-default (flatten rs) d (omega (arith, grid-length n w rs g))
