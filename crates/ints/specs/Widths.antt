@@ -1,6 +1,6 @@
 -- What fits a signed width, from and to what lies above and below 0. Assumes nothing.
 use Prim.Native.Nat.{ℕ, _*_, _^_, _≤_, _<_, zero-le}
-use mathlib.Core.Path.{_≡_, sym, subst, subst⁻¹}
+use mathlib.Core.Path.{sym, subst, subst⁻¹}
 use native.Mathlib.Nat.{div-le-self, lt-of-le-of-lt, le-trans, le-of-lt, mul-le-mul}
 use lib.Pow.{pow-pos}
 use lib.IntN.{ℤ, pos, negsuc, _*ℤ_}

@@ -2,7 +2,7 @@
 use Prim.Native.Nat.{ℕ, zero, suc, _+_, _*_, _/_, _%_, _≤_, _<_, suc-le-suc}
 use mathlib.Core.Path.{_≡_, refl, sym, ap, _∙_}
 use mathlib.Core.Bool.{Bool, true, _&&_}
-use mathlib.Core.List.{List, [], _∷_, _++_}
+use mathlib.Core.List.{List, [], _∷_, flatten}
 use native.Mathlib.Nat.{le-of-suc-le-suc, not-suc-le-zero, suc-mul, zero-mul, div-add-mod', mod-lt}
 use native.Mathlib.Omega.{arith}
 use borrow.Author.Tests.{eqb-true}
@@ -13,10 +13,6 @@ use Rattle.tests.specs.Both.{and-both}
 use Rattle.lists.specs.Every.{every, every-at}
 
 module _ {ℓ} {A : Type ℓ} where
-  abbrev pub flatten : List (List A) → List A
-  flatten [] = []
-  flatten (r ∷ rs) = r ++ flatten rs
-
   -- where row k starts: behind all rows before it
   abbrev pub startOf : List (List A) → ℕ → ℕ
   startOf [] k = 0
@@ -26,6 +22,7 @@ module _ {ℓ} {A : Type ℓ} where
   -- row k stands there
   pub row-part : (rs : List (List A)) (k : ℕ) → k < length rs
       → take (length (getD rs k [])) (drop (startOf rs k) (flatten rs)) ≡ getD rs k []
+  unfolding flatten
   row-part [] k h = absurd (not-suc-le-zero h)
   row-part (r ∷ rs) zero h = take-append-seam r (flatten rs)
   row-part (r ∷ rs) (suc k) h =
@@ -34,6 +31,7 @@ module _ {ℓ} {A : Type ℓ} where
 
   -- and ends within the list
   pub row-within : (rs : List (List A)) (k : ℕ) → k < length rs → startOf rs k + length (getD rs k []) ≤ length (flatten rs)
+  unfolding flatten
   row-within [] k h = absurd (not-suc-le-zero h)
   row-within (r ∷ rs) zero h = omega (arith, length-append r (flatten rs))
   row-within (r ∷ rs) (suc k) h = omega (arith, length-append r (flatten rs), row-within rs k (le-of-suc-le-suc h))
@@ -64,6 +62,7 @@ module _ {ℓ} {A : Type ℓ} where
   less n w r rs g = record { count = omega (arith, g .count); width = λ k h. g .width (suc k) (suc-le-suc h) }
 
   pub grid-length : (n w : ℕ) (rs : List (List A)) → Grid n w rs → length (flatten rs) ≡ n * w
+  unfolding flatten
   grid-length zero w [] g = sym (zero-mul w)
   grid-length (suc n) w [] g = absurd (omega (arith, g .count))
   grid-length zero w (r ∷ rs) g = absurd (omega (arith, g .count))
@@ -73,6 +72,7 @@ module _ {ℓ} {A : Type ℓ} where
   -- entry c of row k, and d where there is no row k
   pub grid-entry : (n w : ℕ) (rs : List (List A)) → Grid n w rs → (k c : ℕ) (d : A) → c < w
       → getD (flatten rs) (k * w + c) d ≡ getD (getD rs k []) c d
+  unfolding flatten
   grid-entry n w [] g k c d h = refl
   grid-entry zero w (r ∷ rs) g k c d h = absurd (omega (arith, g .count))
   grid-entry (suc n) w (r ∷ rs) g zero c d h =

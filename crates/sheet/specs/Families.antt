@@ -2,14 +2,13 @@
 use Prim.Native.Nat.{ℕ, _+_, _-_, _*_, _/_, _^_, _≤_, _<_}
 use mathlib.Core.Path.{_≡_, refl}
 use mathlib.Core.Bool.{Bool, true, _&&_}
-use mathlib.Core.List.{List}
+use mathlib.Core.List.{List, flatten}
 use native.Mathlib.Omega.{arith}
 use borrow.Author.Tests.{eqb-true}
 use lib.Dec.{eqb, lit≤}
 use lib.ListN.{getD}
 use Rattle.tests.specs.Both.{and-both}
 use Rattle.lists.specs.Every.{everyBelow, below-at}
-use Rattle.lists.specs.Rows.{flatten}
 use Rattle.sheet.specs.Rows.{indexRows, pulseRows}
 use Rattle.sheet.specs.Places.{Stands, starts, sizes, index-stands, pulse-stands}
 

@@ -3,14 +3,14 @@
 use Prim.Native.Nat.{ℕ, _+_, _-_, _≤_, _<_}
 use mathlib.Core.Path.{_≡_, refl, sym, ap, _∙_}
 use mathlib.Core.Bool.{Bool, true}
-use mathlib.Core.List.{List, [], _∷_, _++_, map}
+use mathlib.Core.List.{List, [], _∷_, _++_, map, flatten}
 use native.Mathlib.Omega.{arith}
 use borrow.Author.Tests.{eqb-true}
 use lib.Dec.{eqb}
 use lib.ListN.{length, getD, take, drop, List·getD-append, List·getD-map}
 use lib.Seq.{getD-append-add}
 use Rattle.lists.specs.Every.{everyBelow, below-at}
-use Rattle.lists.specs.Rows.{flatten, startOf, row-part, row-within}
+use Rattle.lists.specs.Rows.{startOf, row-part, row-within}
 use Rattle.sheet.specs.Rows.{headerRows, indexRows, pulseRows, sheet}
 use Rattle.sheet.specs.Directory.{rowOf}
 

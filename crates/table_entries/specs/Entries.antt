@@ -1,8 +1,7 @@
 -- Every constant by a number, as one flat list. Assumes nothing.
 use Prim.Native.Nat.{ℕ}
-use mathlib.Core.List.{List, [], _∷_, _++_}
+use mathlib.Core.List.{List, [], _∷_, _++_, flatten}
 use lib.ListN.{getD}
-use Rattle.lists.specs.Rows.{flatten}
 use Rattle.sheet.specs.Rows.{headerRows, indexRows, pulseRows}
 use Rattle.sheet.specs.Books.{Book, narrowBook, wideBook}
 

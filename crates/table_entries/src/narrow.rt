@@ -1,9 +1,8 @@
 // Entries of the narrow book, table by table.
 ghost use mathlib.Core.Path.{_≡_};
 ghost use Prim.Native.Nat.{_<_};
-ghost use mathlib.Core.List.{[]};
+ghost use mathlib.Core.List.{[], flatten};
 ghost use lib.ListN.{getD};
-ghost use Rattle.lists.specs.Rows.{flatten};
 ghost use Rattle.sheet.specs.Books.{narrowBook};
 ghost use Rattle.table_entries.specs.Entries.{noEntry, bookTables};
 use crate::entry::NO_ENTRY;

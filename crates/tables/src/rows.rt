@@ -1,6 +1,6 @@
 // The inverse rows, one after the other, in the sheet's order: one constant for each part of a frame.
 ghost use mathlib.Core.Path.{_≡_};
-ghost use Rattle.lists.specs.Rows.{flatten};
+ghost use mathlib.Core.List.{flatten};
 ghost use Rattle.sheet.specs.Rows.{headerRows, indexRows, pulseRows};
 
 const HEADER_ROWS: [u8; 10] = [203, 150, 0, 215, 195, 166, 125, 110, 82, 0];

@@ -1,6 +1,5 @@
 -- `icdf_ok` meets its contract. Assumes nothing.
 use borrow.Author.Needs.{needs}
-use mathlib.Core.Path.{_≡_}
 use native.Mathlib.Omega.{arith}
 use lib.Pow.{pow-pos}
 use Rattle.icdf.specs.Test.{icdfOk}
