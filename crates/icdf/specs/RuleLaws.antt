@@ -4,7 +4,7 @@ use mathlib.Core.Path.{_≡_, refl, sym, _∙_}
 use mathlib.Core.Bool.{Bool, true, false, false≢true, cond}
 use mathlib.Core.List.{List, [], _∷_}
 use native.Mathlib.Omega.{arith}
-use native.Mathlib.Nat.{le-of-suc-le-suc, not-suc-le-zero, lt-of-le-of-lt}
+use native.Mathlib.Nat.{le-refl, le-trans, le-of-suc-le-suc, not-suc-le-zero, lt-of-le-of-lt}
 use native.Mathlib.Decide.{decLe}
 use native.Mathlib.Numerals.{sub-one}
 use borrow.Author.Tests.{leb-true, le-leb, ltb-true, lt-ltb, eqb-true, eq-eqb}
@@ -125,10 +125,14 @@ symbol-accepts scale t k h w = rw (icdf-scale scale t h, icdf-ok scale t h, symb
 
 -- ---- what the coder takes from the rule
 
--- no entry is above the first
-falls-all : (scale : ℕ) (t : List ℕ) → Icdf scale t → (k : ℕ) → k < length t → getD t k 0 ≤ getD t 0 0
-falls-all scale t h zero l = omega arith
-falls-all scale t h (suc k) l = omega (arith, h .falls k l, falls-all scale t h k (omega arith))
+-- no entry is above an earlier one
+pub falls-between : (scale : ℕ) (t : List ℕ) → Icdf scale t → (i k : ℕ) → i ≤ k → k < length t → getD t k 0 ≤ getD t i 0
+falls-between scale t h i zero p l = let e : i ≡ 0 = omega arith in rw e (le-refl (getD t 0 0))
+falls-between scale t h i (suc k) p l = go (decLe i k) (λ q. falls-between scale t h i k q (omega arith))
+  where
+    go : Dec (i ≤ k) → (i ≤ k → getD t k 0 ≤ getD t i 0) → getD t (suc k) 0 ≤ getD t i 0
+    go (yes q) f = le-trans (h .falls k l) (f q)
+    go (no q) f = let e : i ≡ suc k = omega arith in rw e (le-refl (getD t (suc k) 0))
 
 -- an entry is below 2^scale
 pub entry-below : (scale : ℕ) (t : List ℕ) → Icdf scale t → (k : ℕ) → getD t k 0 < 2 ^ scale
@@ -136,7 +140,7 @@ entry-below scale t h k = go (decLe (length t) k)
   where
     go : Dec (length t ≤ k) → getD t k 0 < 2 ^ scale
     go (yes p) = rw (List·getD-eq-default t 0 p) (pow-pos scale)
-    go (no p) = lt-of-le-of-lt (falls-all scale t h k (omega arith)) (h .first)
+    go (no p) = lt-of-le-of-lt (falls-between scale t h 0 k (omega arith) (omega arith)) (h .first)
 
 -- a writable symbol has a part above 0: its fl is below its fh
 pub part-some : (scale : ℕ) (t : List ℕ) (k : ℕ) → Icdf scale t → Writable scale t k → 2 ^ scale - before scale t k < 2 ^ scale - getD t k 0

@@ -1,18 +1,18 @@
 -- The search for a symbol (RFC 6716, section 4.1.3.3), and that it ends inside the table at the symbol whose part holds the value.
 -- Assumes nothing.
 use Prim.Native.Nat.{ℕ, zero, suc, _-_, _*_, _≤_, _<_}
-use mathlib.Core.Path.{_≡_, sym, ap, _∙_}
+use mathlib.Core.Path.{_≡_, refl, sym, ap, _∙_}
 use mathlib.Core.Bool.{cond}
 use mathlib.Core.List.{List, [], _∷_}
 use native.Mathlib.Omega.{arith}
-use native.Mathlib.Nat.{mul-zero, not-suc-le-zero}
+use native.Mathlib.Nat.{mul-zero, mul-le-mul-left, not-suc-le-zero}
 use borrow.Author.Tests.{lt-ltb, le-ltb}
 use lib.Dec.{ltb}
 use lib.ListN.{length, getD, drop}
 use lib.Seq.{drop-cons}
-use Rattle.tests.specs.Choice.{chosen-lt}
+use Rattle.tests.specs.Choice.{chosen-lt, by-lt}
 use Rattle.icdf.specs.Rule.{Icdf}
-use Rattle.icdf.specs.RuleLaws.{last-later}
+use Rattle.icdf.specs.RuleLaws.{last-later, falls-between}
 
 -- the first symbol whose entry, times the unit floor(range / 2^scale), is not above the value
 unfoldable pub search : ℕ → ℕ → List ℕ → ℕ
@@ -27,6 +27,15 @@ search-on unit v t k h l = rw (drop-cons t k 0 h, lt-ltb v (unit * getD t k 0) l
 pub search-stop : (unit v : ℕ) (t : List ℕ) (k : ℕ) → k < length t → unit * getD t k 0 ≤ v → search unit v (drop k t) ≡ 0
 unfolding search
 search-stop unit v t k h l = rw (drop-cons t k 0 h, le-ltb v (unit * getD t k 0) l)
+
+-- a symbol whose lower end is above a value is not the last
+pub not-last : (scale unit v : ℕ) (t : List ℕ) (k : ℕ) → Icdf scale t → k < length t → v < unit * getD t k 0 → suc k < length t
+not-last scale unit v t k h l p = by-lt (suc k) (length t) (λ q. q) (λ q. absurd (never (omega arith)))
+  where
+    never : k ≡ length t - 1 → ⊥
+    never e =
+        let z : unit * getD t k 0 ≡ 0 = ap (λ (i : ℕ). unit * getD t i 0) e ∙ ap (λ (x : ℕ). unit * x) (h .ends) ∙ mul-zero unit in
+        omega arith
 
 -- the symbol k that the search finds: a place of the table, its lower end not above the value, the end of the one before it above
 pub record Found (unit v : ℕ) (t : List ℕ) (k : ℕ) : Type 0 where
@@ -55,3 +64,16 @@ found-in unit v (x ∷ y ∷ t) h e =
 
 pub search-found : (scale unit v : ℕ) (t : List ℕ) → Icdf scale t → Found unit v t (search unit v t)
 search-found scale unit v t h = found-in unit v t (h .some) (h .ends)
+
+-- in a table no other symbol is found so
+later-not : (scale unit v : ℕ) (t : List ℕ) (j k : ℕ) → Icdf scale t → Found unit v t j → Found unit v t k → j < k → ⊥
+later-not scale unit v t j zero h f g l = not-suc-le-zero l
+later-not scale unit v t j (suc k) h f g l =
+    let m : unit * getD t k 0 ≤ unit * getD t j 0 = mul-le-mul-left unit (falls-between scale t h j k (omega arith) (omega (arith, g .inside))) in
+    omega (arith, f .low, g .high k refl)
+
+pub found-one : (scale unit v : ℕ) (t : List ℕ) (j k : ℕ) → Icdf scale t → Found unit v t j → Found unit v t k → j ≡ k
+found-one scale unit v t j k h f g =
+    let a = later-not scale unit v t j k h f g in
+    let b = later-not scale unit v t k j h g f in
+    omega arith

@@ -16,3 +16,11 @@ module _ {ℓ κ} {A : Type ℓ} (P : A → Type κ) {x y : A} where
 
   pub chosen-le : (a b : ℕ) → (a ≤ b → P x) → (b < a → P y) → P (cond (leb a b) x y)
   chosen-le a b f g = chosen (leb a b) (λ e. f (leb-true a b e)) (λ e. g (leb-false a b e))
+
+-- two cases, by the order of two numbers
+pub by-lt {ℓ} : {A : Type ℓ} (a b : ℕ) → (a < b → A) → (b ≤ a → A) → A
+by-lt {A} a b f g = go (ltb a b) refl
+  where
+    go : (t : Bool) → ltb a b ≡ t → A
+    go true e = f (ltb-true a b e)
+    go false e = g (ltb-false a b e)
