@@ -1,0 +1,58 @@
+/* Tignarops: reading Opus speech packets, each call proved. Contracts: crates/tignarops/src/lib.rt.
+ *
+ * What every caller owes: a pointer names as many readable elements as the length beside it says
+ * (writable ones, where it is not const), and memory that a call writes overlaps no other memory
+ * that it is lent. A length of 0 may come with any pointer that is not NULL.
+ *
+ * What every call gives: `refusal` is 0, or the number of document 01's table that refuses the
+ * call: 1 more than 1,275 bytes, 2 an unsound state, 3 a total above 1,000,000, 4 a number out of
+ * its range, 5 a table that breaks its rule. The checks run in that order and the first decides. A
+ * refused call answers value 0 and the state it was given, and writes nothing.
+ */
+#ifndef TIGNAROPS_H
+#define TIGNAROPS_H
+
+#include <stddef.h>
+#include <stdint.h>
+
+#ifdef __cplusplus
+extern "C" {
+#endif
+
+/* A reader beside its packet. Only a state that a call handed back, for the same packet, is of use. */
+typedef struct {
+    uint32_t storage, end_offs, end_window, nend_bits, nbits_total, offs, rng, val, ext, rem, error;
+} tg_reader;
+
+typedef struct {
+    uint32_t refusal, value;
+    tg_reader state;
+} tg_read;
+
+/* A reader at the packet's start; value 0. Refused with 1 alone, and then the state is all zeros,
+ * on which any other call answers 2. */
+tg_read tg_dec_open(const uint8_t *packet, size_t len);
+
+/* The bits taken so far, less those that the range still holds: 1 for a fresh reader. Refusals 1
+ * to 3; the state stays as it is. */
+tg_read tg_dec_account(const uint8_t *packet, size_t len, tg_reader r);
+
+/* A bit that is 1 with probability 1 in 2^exponent, exponent 1 to 15. Refusals 1 to 4. */
+tg_read tg_dec_bit(const uint8_t *packet, size_t len, tg_reader r, uint32_t exponent);
+
+/* A symbol of an inverse table: scale 1 to 8, n from 1 to 256 entries, first below 2^scale, never
+ * rising, last 0. Refusals 1 to 5 (4 the scale, 5 the table). */
+tg_read tg_dec_icdf(const uint8_t *packet, size_t len, tg_reader r, const uint8_t *table, size_t n, uint32_t scale);
+
+/* A number below total, total 2 to 2^32 - 1. A packet that says more yields total - 1 and sets the
+ * state's error to 1; later reads go on. Refusals 1 to 4. */
+tg_read tg_dec_uint(const uint8_t *packet, size_t len, tg_reader r, uint32_t total);
+
+/* Raw bits from the packet's end, 1 to 25 of them. Refusals 1 to 4. */
+tg_read tg_dec_bits(const uint8_t *packet, size_t len, tg_reader r, uint32_t bits);
+
+#ifdef __cplusplus
+}
+#endif
+
+#endif
