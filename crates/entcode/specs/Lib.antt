@@ -20,3 +20,4 @@ pub mod ReaderLaws
 pub mod ReadLaws
 pub mod ReadingLaws
 pub mod GeneralForm
+pub mod ReaderCases
