@@ -5,13 +5,15 @@ use mathlib.Core.Path.{_≡_, refl, sym, ap, ap₂, subst, subst⁻¹, _∙_}
 use mathlib.Core.Bool.{true, false, cond}
 use mathlib.Core.List.{List}
 use native.Mathlib.Omega.{arith}
+use native.Mathlib.Nat.{mod-lt}
 use borrow.Author.Tests.{le-ltb, lt-ltb}
 use lib.Dec.{leb, ltb}
-use lib.ListN.{getD}
-use Rattle.tests.specs.Choice.{chosen-le}
+use lib.ListN.{length, getD}
+use lib.Pow.{pow-pos}
+use Rattle.tests.specs.Choice.{chosen-le, chosen-lt}
 use Rattle.icdf.specs.Rule.{Icdf}
 use Rattle.icdf.specs.RuleLaws.{entry-below}
-use Rattle.icdf.specs.Search.{search}
+use Rattle.icdf.specs.Search.{search, search-found}
 use Rattle.entcode.specs.declared.Dec.{Dec}
 use Rattle.entcode.specs.declared.Decoded.{Decoded}
 use Rattle.entcode.specs.Models.{Model, bit, raw, num, tab, lo, hi, all, rawBits, Readable}
@@ -206,8 +208,16 @@ growth (raw n) = n
 growth (num ft) = 16 + rawBits ft
 growth (tab scale t) = 16
 
+-- a value that a read may give
+abbrev pub Inside : Model → ℕ → Type 0
+Inside (bit lp) v = v ≤ 1
+Inside (raw n) v = v < 2 ^ n
+Inside (num ft) v = v < ft
+Inside (tab scale t) v = v < length t
+
 pub record Took (b : List ℕ) (m : Model) (d : Dec) (a : Decoded) : Type 0 where
   pub is : a ≡ gives (readVal b m d) (readNext b m d)
+  pub inside : Inside m (a .value)
   pub core : Core b (a .state)
   pub least : d .total ≤ a .state .total
   pub most : a .state .total ≤ d .total + growth m
@@ -218,7 +228,14 @@ grows b (raw n) d y o c = subst (CoreNext b n d) (ap (λ (a : Decoded). a .state
 grows b (num ft) d y o c = core-read b (num ft) d y o c
 grows b (tab scale t) d y o c = core-read b (tab scale t) d y o c
 
+pub read-inside : (b : List ℕ) (m : Model) (d : Dec) → Readable m → Inside m (readVal b m d)
+unfolding readVal
+read-inside b (bit lp) d o = chosen-lt (λ (v : ℕ). v ≤ 1) (d .val) (d .rng / 2 ^ lp) (λ h. omega arith) (λ h. omega arith)
+read-inside b (raw n) d o = mod-lt _ (pow-pos n)
+read-inside b (num ft) d o = omega (arith, o .0)
+read-inside b (tab scale t) d o = search-found scale (d .rng / 2 ^ scale) (d .val) t o .inside
+
 pub took : (b : List ℕ) (m : Model) (d : Dec) (a : Decoded) → Bytes b → Readable m → Core b d → a ≡ gives (readVal b m d) (readNext b m d) → Took b m d a
 took b m d a y o c e =
     let g = grows b m d y o c in
-    subst⁻¹ (Took b m d) e (record { is = refl; core = g .core; least = g .least; most = g .most })
+    subst⁻¹ (Took b m d) e (record { is = refl; inside = read-inside b m d o; core = g .core; least = g .least; most = g .most })

@@ -196,6 +196,16 @@ pub fn ec_dec_icdf_run(packet: &[u8], d: Dec, table: &[u8], scale: u32) -> Decod
     }
 }
 
+// A symbol of a row of SILK: all of them have scale 8.
+pub fn ec_dec_icdf8_run(packet: &[u8], d: Dec, row: &[u8]) -> Decoded
+    requires { ⌜ Core (now packet) d ⌝ }
+    requires { ⌜ d .total ≤ 2 ^ 30 ⌝ }
+    requires { ⌜ Icdf 8 (now row) ⌝ }
+    ensures { λ a. ⌜ Took (now (packet .entry)) (tab 8 (now (row .entry))) d a ⌝ }
+{
+    ec_dec_icdf_run(packet, d, row, 8)
+}
+
 // ---- raw bits
 
 // A byte more in the window.
