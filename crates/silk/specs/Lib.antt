@@ -1,0 +1,4 @@
+pub mod Record
+pub mod IndexSyntax
+pub mod PulseSyntax
+pub mod FrameCalls
