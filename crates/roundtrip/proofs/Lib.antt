@@ -1,0 +1,6 @@
+pub mod Digits
+pub mod Carry
+pub mod Back
+pub mod Interval
+pub mod Progress
+pub mod Track
