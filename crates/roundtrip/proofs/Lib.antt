@@ -4,3 +4,5 @@ pub mod Back
 pub mod Interval
 pub mod Progress
 pub mod Track
+pub mod Within
+pub mod Choose
