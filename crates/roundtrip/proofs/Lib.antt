@@ -6,3 +6,4 @@ pub mod Progress
 pub mod Track
 pub mod Within
 pub mod Choose
+pub mod Close
