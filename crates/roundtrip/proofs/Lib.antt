@@ -7,3 +7,5 @@ pub mod Track
 pub mod Within
 pub mod Choose
 pub mod Close
+pub mod Finished
+pub mod Bytes
