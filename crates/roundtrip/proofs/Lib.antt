@@ -9,3 +9,5 @@ pub mod Choose
 pub mod Close
 pub mod Finished
 pub mod Bytes
+pub mod Stands
+pub mod RawRead

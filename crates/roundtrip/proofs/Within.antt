@@ -55,7 +55,7 @@ in-four b bytes m E p x y =
 -- ---- back through a symbol, and through a list of them
 
 module _ (b : List ℕ) (bytes : Bytes b) where
-  norm-back : (t : Bool) (a : Interval) → Within b (cond t (shiftI a) a) → Within b a
+  pub norm-back : (t : Bool) (a : Interval) → Within b (cond t (shiftI a) a) → Within b a
   norm-back true a i = in-shift b bytes (suc (suc (suc (a .digits)))) (a .low) (a .size) i
   norm-back false a i = i
 
