@@ -11,3 +11,4 @@ pub mod Finished
 pub mod Bytes
 pub mod Stands
 pub mod RawRead
+pub mod OneRead
