@@ -12,3 +12,4 @@ pub mod Bytes
 pub mod Stands
 pub mod RawRead
 pub mod OneRead
+pub mod ReadBack
