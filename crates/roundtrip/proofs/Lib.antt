@@ -13,3 +13,4 @@ pub mod Stands
 pub mod RawRead
 pub mod OneRead
 pub mod ReadBack
+pub mod Round
