@@ -14,3 +14,4 @@ pub mod RawRead
 pub mod OneRead
 pub mod ReadBack
 pub mod Round
+pub mod Accepted
