@@ -28,6 +28,7 @@ bitsW w = bitsOf (w .front .rng) (w .front .val)
 pub record Finished (w : Writer) : Type 0 where
   pub E : ℕ
   pub ending : Ended (storedNumber w) (w .front) (bitsW w) E
+  pub len : length (finish w .buf) ≡ sizeOf w
   pub offs : finish w .offs ≡ digitsOf w + emits (bitsW w)
   pub room : finish w .offs ≤ length (finish w .buf)
   pub front : (E ≤ prefix (finish w .buf) (finish w .offs)) × (prefix (finish w .buf) (finish w .offs) < E + 2 ^ spareBits (bitsW w))
@@ -77,6 +78,7 @@ module _ (w : Writer) (F : Fine w) (h : 2 ^ 23 < w .front .rng)
       record {
         E = E;
         ending = en;
+        len = cl .len ∙ f .len ∙ s .len;
         offs = p .offs ∙ fin-offs;
         room = omega (arith, p .offs, p .len, fin-fit);
         front = subst (λ (x : ℕ). (E ≤ prefix (finish w .buf) x) × (prefix (finish w .buf) x < E + 2 ^ j)) (sym (p .offs)) (cl .front);

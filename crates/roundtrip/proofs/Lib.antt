@@ -15,3 +15,6 @@ pub mod OneRead
 pub mod ReadBack
 pub mod Round
 pub mod Accepted
+pub mod Calls
+pub mod Public
+pub mod Theorems

@@ -1,15 +1,18 @@
 -- What "written reads back" means, said of the public calls as document 01 has them, refusals included: `encOpen`, `encSym` and `encDone` of a writer,
 -- `decOpen` and `decSym` of a reader. The theorems are in `proofs/Theorems`. Assumes nothing.
-use Prim.Native.Nat.{ℕ}
+use Prim.Native.Nat.{ℕ, _≤_}
 use mathlib.Core.Path.{_≡_}
 use mathlib.Core.List.{List, [], _∷_}
+use lib.IntN.{pos}
+use lib.ListN.{length}
 use Rattle.entcode.specs.declared.Dec.{Dec}
 use Rattle.entcode.specs.declared.Decoded.{Decoded}
 use Rattle.entcode.specs.Models.{Model, Sym, rawN}
 use Rattle.entcode.specs.Cuts.{account}
 use Rattle.entcode.specs.Flat.{Out, out}
+use Rattle.entcode.specs.ReaderLaws.{Bytes}
 use Rattle.entcode.specs.Reading.{decSym}
-use Rattle.entcode.specs.Writing.{Sent, encSym}
+use Rattle.entcode.specs.Writing.{Sent, encOpen, encSym, encDone}
 
 -- ---- writing
 
@@ -21,6 +24,14 @@ after x = out (x .buf) (x .answer .state)
 abbrev pub Sends : Out → List Sym → Out → Type 0
 Sends o [] q = o ≡ q
 Sends o (s ∷ ss) q = (encSym o s .answer .refusal ≡ 0) × Sends (after (encSym o s)) ss q
+
+-- the symbols ss were written into the buffer b from opening on, and finished without error; q is the state before finishing
+pub record Written (b : List ℕ) (ss : List Sym) (q : Out) : Type 0 where
+  pub bytes : Bytes b
+  pub short : length b ≤ 1275
+  pub sends : Sends (after (encOpen b)) ss q
+  pub accepted : encDone q .answer .refusal ≡ 0
+  pub error : encDone q .answer .state .error ≡ pos 0
 
 -- ---- reading
 

@@ -1,0 +1,139 @@
+-- What was written reads back: the theorems, over the public calls (`specs/Statement`). A reader starts here; the parts of the argument are numbered in
+-- the headers of the other files. Assumes nothing.
+use Prim.Native.Nat.{ℕ, _+_, _*_, _/_, _%_, _≤_, _<_}
+use mathlib.Core.Path.{_≡_, refl, sym, ap, _∙_, subst, subst⁻¹, subst₂}
+use mathlib.Core.List.{List}
+use native.Mathlib.Omega.{arith}
+use lib.IntN.{pos}
+use lib.ListN.{length, getD, take}
+use Rattle.entcode.specs.declared.Dec.{Dec}
+use Rattle.entcode.specs.declared.Decoded.{Decoded}
+use Rattle.entcode.specs.Models.{Sym}
+use Rattle.entcode.specs.Cuts.{account}
+use Rattle.entcode.specs.Reader.{settled, opened}
+use Rattle.entcode.specs.ReaderLaws.{Bytes}
+use Rattle.entcode.specs.Reading.{decOpen}
+use Rattle.entcode.specs.Writer.{Writer, openW}
+use Rattle.entcode.specs.Finish.{finish}
+use Rattle.entcode.specs.Flat.{errorOf, Out, flat}
+use Rattle.entcode.specs.Writing.{Sent, encOpen, encDone}
+use Rattle.roundtrip.specs.Statement.{after, Sends, Written, Reads, Questions, Leads, Answers, InStep, CodedReads}
+use Rattle.roundtrip.proofs.Interval.{runI, openI, rawNumber, AllAllowed}
+use Rattle.roundtrip.proofs.Track.{View}
+use Rattle.roundtrip.proofs.ReadBack.{Follows, Any, view-follows, view-follows-coded}
+use Rattle.roundtrip.proofs.Round.{no-error}
+use Rattle.roundtrip.proofs.Accepted.{opens, done-accepted}
+use Rattle.roundtrip.proofs.Calls.{went, opens-reader, reads-of, coded-of, in-step-of, answers-of}
+use Rattle.roundtrip.proofs.Public.{wroteAll, sent, done-fits, Known, known}
+
+-- ---- an account of at most 8 bits a byte is finished: accepted, and without error
+
+pub fits : (b : List ℕ) (ss : List Sym) (q : Out) → length b ≤ 1275 → Sends (after (encOpen b)) ss q
+    → account (q .state .total) (q .state .rng) ≤ 8 * length b
+    → (encDone q .answer .refusal ≡ 0) × (encDone q .answer .state .error ≡ pos 0)
+fits b ss q short h l =
+    let g = went ss (openW b) q (sent b ss q short h) in
+    let w = wroteAll b ss in
+    let a : account (w .total) (w .front .rng) ≤ 8 * length b
+    = subst (λ (x : Out). account (x .state .total) (x .state .rng) ≤ 8 * length b) (g .end) l in
+    let z : encDone (flat w) .answer .refusal ≡ 0 = done-fits b ss short (g .allowed) a in
+    subst⁻¹ (λ (x : Out). (encDone x .answer .refusal ≡ 0) × (encDone x .answer .state .error ≡ pos 0)) (g .end)
+    (z, ap (λ (x : Sent). x .answer .state .error) (done-accepted w z) ∙ ap errorOf (no-error b ss (g .allowed) a))
+
+-- ---- the finished buffer holds bytes, has the old length, and opens
+
+buf-is : (b : List ℕ) (ss : List Sym) (q : Out) → Known b ss q → encDone q .buf ≡ finish (wroteAll b ss) .buf
+buf-is b ss q k = ap (λ (x : Sent). x .buf) (k .is)
+
+pub finished-bytes : (b : List ℕ) (ss : List Sym) (q : Out) → Written b ss q → Bytes (encDone q .buf)
+finished-bytes b ss q r = let k = known b ss q r in subst⁻¹ Bytes (buf-is b ss q k) (k .bytes)
+
+pub finished-length : (b : List ℕ) (ss : List Sym) (q : Out) → Written b ss q → length (encDone q .buf) ≡ length b
+finished-length b ss q r = let k = known b ss q r in ap length (buf-is b ss q k) ∙ k .len
+
+pub finished-opens : (b : List ℕ) (ss : List Sym) (q : Out) → Written b ss q → decOpen (encDone q .buf) .refusal ≡ 0
+finished-opens b ss q r =
+    ap (λ (a : Decoded). a .refusal) (opens-reader (encDone q .buf) (omega (arith, finished-length b ss q r, r .short)))
+
+-- ---- and reads back
+
+-- the core: from any writer w that stands where the symbols lead, however it came there, and is finished without error
+open-error : (b : List ℕ) → opened b .error ≡ 0
+unfolding opened settled
+open-error b = refl
+
+opened-is : (b : List ℕ) → length b ≤ 1275 → decOpen b .state ≡ opened b
+opened-is b h = ap (λ (a : Decoded). a .state) (opens-reader b h)
+
+pub reads-view : (c : List ℕ) (ss : List Sym) (q : Out) → Sends (flat (openW c)) ss q → AllAllowed ss
+    → (w : Writer) (n : ℕ) → View w (runI openI ss) (λ X. rawNumber ss X) n → Bytes (w .tail .room .buf)
+    → finish w .err ≡ 0 → length (finish w .buf) ≤ 1275
+    → Reads (finish w .buf) (decOpen (finish w .buf) .state) (flat (openW c)) ss
+reads-view c ss q h ok w n v y z short =
+    let b = finish w .buf in
+    subst⁻¹ (λ (d : Dec). Reads b d (flat (openW c)) ss) (opened-is b short)
+    (reads-of b ss (opened b) (openW c) q h (open-error b) (view-follows ss ok w n v z y short c))
+
+pub reads-back : (b : List ℕ) (ss : List Sym) (q : Out) → Written b ss q
+    → Reads (encDone q .buf) (decOpen (encDone q .buf) .state) (after (encOpen b)) ss
+reads-back b ss q r =
+    let k = known b ss q r in
+    subst₂ (λ (l : List ℕ) (o : Out). Reads l (decOpen l .state) o ss) (sym (buf-is b ss q k)) (sym (opens b (r .short)))
+    (reads-view b ss q (k .sends) (k .allowed) (wroteAll b ss) (length b) (k .view) (k .old) (k .error) (omega (arith, k .len, r .short)))
+
+-- an account that fits reads back
+pub fits-reads : (b : List ℕ) (ss : List Sym) (q : Out) → Bytes b → length b ≤ 1275 → Sends (after (encOpen b)) ss q
+    → account (q .state .total) (q .state .rng) ≤ 8 * length b
+    → Reads (encDone q .buf) (decOpen (encDone q .buf) .state) (after (encOpen b)) ss
+fits-reads b ss q y short h l =
+    let f = fits b ss q short h l in
+    reads-back b ss q (record { bytes = y; short = short; sends = h; accepted = f .0; error = f .1 })
+
+-- ---- also where each next question depends on the values read so far
+
+pub answers-back : (b : List ℕ) (ss : List Sym) (q : Out) → Written b ss q → (t : Questions) → Leads t ss
+    → Answers (encDone q .buf) (decOpen (encDone q .buf) .state) (after (encOpen b)) t ss
+answers-back b ss q r t l =
+    answers-of (encDone q .buf) ss t (decOpen (encDone q .buf) .state) (after (encOpen b)) l (reads-back b ss q r)
+
+-- ---- reader and writer have the same range and total after each symbol
+
+pub in-step : (b : List ℕ) (ss : List Sym) (q : Out) → Written b ss q
+    → InStep (encDone q .buf) (decOpen (encDone q .buf) .state) (after (encOpen b)) ss
+in-step b ss q r =
+    let k = known b ss q r in
+    let w = wroteAll b ss in
+    let c = finish w .buf in
+    let short : length c ≤ 1275 = omega (arith, k .len, r .short) in
+    let f : Follows Any c (opened c) (openW b) ss = view-follows ss (k .allowed) w (length b) (k .view) (k .error) (k .old) short b in
+    subst₂ (λ (l : List ℕ) (o : Out). InStep l (decOpen l .state) o ss) (sym (buf-is b ss q k)) (sym (opens b (r .short)))
+    (subst⁻¹ (λ (d : Dec). InStep c d (flat (openW b)) ss) (opened-is c short) (in-step-of c ss (opened c) (openW b) q (k .sends) f))
+
+-- ---- the bytes behind the coded ones and before the raw ones, left-over bits included, are 0
+
+pub middle-zero : (b : List ℕ) (ss : List Sym) (q : Out) → Written b ss q → (i : ℕ) → encDone q .answer .state .offs ≤ i
+    → i + encDone q .answer .state .endoffs + (q .state .wbits % 8 + 7) / 8 < length b → getD (encDone q .buf) i 0 ≡ 0
+middle-zero b ss q r i x y =
+    let k = known b ss q r in
+    let f = k .finished in
+    let w = wroteAll b ss in
+    let o : encDone q .answer .state .offs ≡ finish w .offs = ap (λ (a : Sent). a .answer .state .offs) (k .is) in
+    let e : encDone q .answer .state .endoffs ≡ finish w .end = ap (λ (a : Sent). a .answer .state .endoffs) (k .is) in
+    let u : q .state .wbits ≡ w .tail .used = ap (λ (a : Out). a .state .wbits) (k .before) in
+    ap (λ (l : List ℕ). getD l i 0) (buf-is b ss q k) ∙ f .free i (omega arith) (omega (arith, f .used, k .len))
+
+-- ---- any packet that begins with the coded bytes of the finished buffer gives the same coded symbols
+
+pub front-decides : (b : List ℕ) (ss : List Sym) (q : Out) → Written b ss q → (c : List ℕ) → Bytes c → length c ≤ 1275
+    → encDone q .answer .state .offs ≤ length c
+    → take (encDone q .answer .state .offs) c ≡ take (encDone q .answer .state .offs) (encDone q .buf)
+    → CodedReads c (decOpen c .state) (after (encOpen b)) ss
+front-decides b ss q r c y short l e =
+    let k = known b ss q r in
+    let w = wroteAll b ss in
+    let o : encDone q .answer .state .offs ≡ finish w .offs = ap (λ (a : Sent). a .answer .state .offs) (k .is) in
+    let t : take (finish w .offs) c ≡ take (finish w .offs) (finish w .buf)
+    = subst₂ (λ (n : ℕ) (x : List ℕ). take n c ≡ take n x) o (buf-is b ss q k) e in
+    subst₂ (λ (d : Dec) (x : Out). CodedReads c d x ss) (sym (opened-is c short)) (sym (opens b (r .short)))
+    (coded-of c ss (opened c) (openW b) q (k .sends)
+    (view-follows-coded ss (k .allowed) w (length b) (k .view) (k .error) c y short (omega arith) t b))
