@@ -1,8 +1,8 @@
 -- Public calls on a writer: what an accepted one says of its symbol and its state, and that a firm writer passes the gate. Part 17 of the argument.
 -- Assumes nothing.
-use Prim.Native.Nat.{ℕ, zero, suc, _+_, _*_, _^_, _≤_, _<_}
-use mathlib.Core.Path.{_≡_, refl, sym, ap, ap₂, _∙_}
-use mathlib.Core.Bool.{Bool, true, false, _&&_, cond}
+use Prim.Native.Nat.{ℕ, zero, suc, _^_, _≤_}
+use mathlib.Core.Path.{_≡_, refl, ap, ap₂, _∙_}
+use mathlib.Core.Bool.{Bool, true, false, cond}
 use mathlib.Core.List.{List}
 use native.Mathlib.Omega.{arith}
 use borrow.Author.Tests.{leb-true, ltb-true, eqb-true, le-leb, lt-ltb, eq-eqb}
@@ -10,7 +10,7 @@ use lib.Dec.{leb, ltb, eqb}
 use lib.IntN.{pos, negsuc}
 use lib.ListN.{length}
 use lib.Signed.{leZ}
-use Rattle.tests.specs.Both.{and-both, range-in, both-and}
+use Rattle.tests.specs.Both.{range-in, both-and}
 use Rattle.tests.specs.Choice.{chosen}
 use Rattle.icdf.specs.RuleLaws.{symbol-accepted, icdf-accepts}
 use Rattle.refusals.specs.First.{firstOf, first-none}
@@ -49,7 +49,7 @@ withSigns w h e =
       total = w .total;
     }
 
-pub as-flat : (w : Writer) → asWriter (flat w) ≡ w
+as-flat : (w : Writer) → asWriter (flat w) ≡ w
 as-flat w = ap₂ (withSigns w) (held-rem (w .front .held)) (err-error (w .tail .room .err))
 
 pub error-none : (e : ℕ) → errorOf e ≡ pos 0 → e ≡ 0
@@ -67,7 +67,7 @@ ask-zero : (t : Bool) → t ≡ true → _≡_ {A = ℕ} (cond t 0 4) 0
 ask-zero t e = rw e
 
 -- a symbol that is not refused may be written
-pub say-open : (m : Model) (v : ℕ) → sayRule m v ≡ 0 → Allowed m v
+say-open : (m : Model) (v : ℕ) → sayRule m v ≡ 0 → Allowed m v
 say-open (bit lp) v e =
     let g = rule-parts (exponentOk lp) (leb v 1) e in
     record { readable = ask-open (bit lp) (ask-zero (exponentOk lp) (g .0)); fitting = leb-true v 1 (g .1) }

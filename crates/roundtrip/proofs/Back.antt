@@ -1,6 +1,6 @@
 -- The writer's raw bits: bytes that leave the window for the buffer's back do not change the number at the buffer's low end, whatever stands above
 -- the window. Part 3 of the argument. Assumes nothing.
-use Prim.Native.Nat.{ℕ, zero, suc, _+_, _-_, _*_, _/_, _%_, _^_, _≤_, _<_}
+use Prim.Native.Nat.{ℕ, zero, suc, _+_, _-_, _*_, _%_, _^_, _≤_, _<_}
 use mathlib.Core.Path.{_≡_, refl, ap, _∙_}
 use mathlib.Core.List.{List, _∷_}
 use native.Mathlib.Omega.{arith}
@@ -14,7 +14,7 @@ use Rattle.entcode.specs.Room.{Room}
 use Rattle.entcode.specs.RoomLaws.{back-full}
 use Rattle.entcode.specs.Tail.{Tail, flush1, flush}
 use Rattle.entcode.specs.TailLaws.{flush-stays}
-use Rattle.roundtrip.proofs.Digits.{number}
+use Rattle.roundtrip.proofs.Digits.{number, pow-split}
 
 -- the raw bytes stored
 abbrev pub backBytes : Room → List ℕ
@@ -43,9 +43,7 @@ drop-set l i b h =
     ∙ rw (getD-set-same l i b 0 h, drop-set-lt (suc i) l i b (omega arith))
 
 pow-eight : (u Z : ℕ) → 8 ≤ u → 2 ^ u * Z ≡ 256 * (2 ^ (u - 8) * Z)
-pow-eight u Z h =
-    let e : u ≡ 8 + (u - 8) = omega arith in
-    ap (λ (n : ℕ). 2 ^ n * Z) e ∙ rw (pow-add 2 8 (u - 8)) (mul-assoc 256 (2 ^ (u - 8)) Z)
+pow-eight u Z h = ap (λ (n : ℕ). n * Z) (pow-split u 8 h) ∙ mul-assoc 256 (2 ^ (u - 8)) Z
 
 flush-one : (t : Tail) → t .room .offs + t .room .end < length (t .room .buf) → 8 ≤ t .used → Flushed t 1 (flush1 t)
 flush-one t h u =

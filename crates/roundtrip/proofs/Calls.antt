@@ -1,7 +1,7 @@
 -- Lists of public calls: accepted writes are the definition's writes, and a reader that follows the definitions answers its calls. Part 18 of the
 -- argument. Assumes nothing.
-use Prim.Native.Nat.{ℕ, _≤_, _<_}
-use mathlib.Core.Path.{_≡_, refl, sym, ap, ap₂, _∙_, subst, subst₂}
+use Prim.Native.Nat.{ℕ, _≤_}
+use mathlib.Core.Path.{_≡_, refl, sym, ap₂, _∙_, subst, subst₂}
 use mathlib.Core.List.{List, [], _∷_}
 use native.Mathlib.Omega.{arith}
 use borrow.Author.Tests.{le-leb}
@@ -17,7 +17,7 @@ use Rattle.entcode.specs.ReadingLaws.{Sound, gate-pass, answered-ok}
 use Rattle.entcode.specs.Writer.{Writer, writeSym, writeAll}
 use Rattle.entcode.specs.Flat.{Out, flat}
 use Rattle.entcode.specs.Writing.{encSym}
-use Rattle.roundtrip.specs.Statement.{after, Sends, Right, Reads, Questions, done, ask, Leads, Answers, SamePace, InStep, CodedRight, CodedReads}
+use Rattle.roundtrip.specs.Statement.{after, Sends, Right, Reads, Questions, done, ask, Leads, Answers, InStep, CodedRight, CodedReads}
 use Rattle.roundtrip.proofs.Interval.{AllAllowed}
 use Rattle.roundtrip.proofs.OneRead.{Level}
 use Rattle.roundtrip.proofs.ReadBack.{Step, Follows, Any, NoRaw}
@@ -69,8 +69,7 @@ reads-of b (s ∷ ss) d w q h z f =
     let t = took w s (h .0) in
     let e : readNext b (s .model) d .error ≡ 0 = f .0 .error tt ∙ z in
     let n = readNext b (s .model) d in
-    both Any b d w s (λ (a : Decoded) (o : Out). Right a (s .value) o × Reads b (a .state) o ss) (f .0) t
-    (
+    both Any b d w s (λ (a : Decoded) (o : Out). Right a (s .value) o × Reads b (a .state) o ss) (f .0) t (
       record { refusal = refl; value = f .0 .value tt; account = same-account n (writeSym w s) (f .0 .next); error = e },
       reads-of b ss n (writeSym w s) q (subst (λ (o : Out). Sends o ss q) (t .is) (h .1)) e (f .1),
     )
@@ -81,8 +80,7 @@ coded-of b [] d w q h f = tt
 coded-of b (s ∷ ss) d w q h f =
     let t = took w s (h .0) in
     let n = readNext b (s .model) d in
-    both NoRaw b d w s (λ (a : Decoded) (o : Out). CodedRight a s o × CodedReads b (a .state) o ss) (f .0) t
-    (
+    both NoRaw b d w s (λ (a : Decoded) (o : Out). CodedRight a s o × CodedReads b (a .state) o ss) (f .0) t (
       record { refusal = refl; account = same-account n (writeSym w s) (f .0 .next); value = f .0 .value },
       coded-of b ss n (writeSym w s) q (subst (λ (o : Out). Sends o ss q) (t .is) (h .1)) (f .1),
     )
@@ -105,8 +103,7 @@ answers-of b [] (ask m next) d o l r = l
 answers-of b (s ∷ ss) done d o l r = l
 answers-of b (s ∷ ss) (ask m next) d o l r =
     subst (λ (k : Model). Right (decSym b d k) (s .value) (after (encSym o s))
-    × Answers b (decSym b d k .state) (after (encSym o s)) (next (decSym b d k .value)) ss) (l .0)
-    (
+    × Answers b (decSym b d k .state) (after (encSym o s)) (next (decSym b d k .value)) ss) (l .0) (
       r .0,
       subst (λ (v : ℕ). Answers b (decSym b d (s .model) .state) (after (encSym o s)) (next v) ss) (sym (r .0 .value))
           (answers-of b ss (next (s .value)) (decSym b d (s .model) .state) (after (encSym o s)) (l .1) (r .1)),

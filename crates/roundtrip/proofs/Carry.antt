@@ -59,7 +59,7 @@ carry-by false P h x c e hb cb ok =
     (λ l. ap (λ (d : ℕ). 256 * d + c % 256) (swept-carry P h x c (ok l .0) (ok l .1) l cb) ∙ omega arith)
 
 -- stored and held digits together are the old ones and the new digit
-pub carry-number : (P h x c : ℕ) → h ≤ 256 → c < 512 → (256 ≤ c → (1 ≤ h) × (h ≤ 255))
+carry-number : (P h x c : ℕ) → h ≤ 256 → c < 512 → (256 ≤ c → (1 ≤ h) × (h ≤ 255))
     → number (number P (bytesOut h x c)) (unstored (heldNext h c) (runNext x c)) ≡ 256 * number P (unstored h x) + c
 carry-number P h x c hb cb ok = carry-by (eqb c 255) P h x c refl hb cb ok
 

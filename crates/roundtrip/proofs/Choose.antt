@@ -12,7 +12,7 @@ use Rattle.tests.specs.Choice.{by-lt, chosen-lt}
 use Rattle.entcode.specs.Front.{Front, unstored, shift, shiftOut}
 use Rattle.entcode.specs.Finish.{cell, roundUp, bitsOf, emits, spareBits, finOut, finBytes}
 use Rattle.entcode.specs.ReaderLaws.{Bytes}
-use Rattle.roundtrip.proofs.Digits.{number, number-append}
+use Rattle.roundtrip.proofs.Digits.{number, number-append, pow-split}
 use Rattle.roundtrip.proofs.Carry.{Tame, frontNumber, shift-number, tame-shift, carry-length}
 use Rattle.roundtrip.proofs.Within.{In, in-part, in-shift}
 
@@ -106,20 +106,16 @@ ended-one P f t l g l1 l8 a c =
     let z : g * cell l % 2 ^ 23 ≡ 0
     = ap (λ (m : ℕ). m % 2 ^ 23) (pg ∙ sym (add-zero (2 ^ 23 * (g * 2 ^ (8 - l))))) ∙ mul-add-mod-self-left (2 ^ 23) (g * 2 ^ (8 - l)) 0 in
     let eq : E * 2 ^ 31 ≡ 256 * (D * 2 ^ 31 + g * cell l) = omega arith in
-    let p8 : 256 ≡ 2 ^ l * 2 ^ (8 - l) = ap (λ (m : ℕ). 2 ^ m) (eight l l8) ∙ pow-add 2 l (8 - l) in
     let val : E ≡ 256 * D + g * 2 ^ (8 - l) = omega arith in
     record {
       whole = 2 ^ l * D + g;
-      multiple = rw sp (val ∙ (parts (2 ^ l) (2 ^ (8 - l)) D g p8));
+      multiple = rw sp (val ∙ (parts (2 ^ l) (2 ^ (8 - l)) D g (pow-split 8 l l8)));
       inside = λ b bytes j i.
           let i1 : In b (suc j) (E * 2 ^ 31) (2 ^ (8 - l) * 2 ^ 31) = rw (em, one-more j) at i in
           let i2 : In b (suc j) (256 * (D * 2 ^ 31 + g * cell l)) (256 * cell l) = rw (← eq, ← (cells l pc)) i1 in
           in-part b j (frontNumber P f) (D * 2 ^ 31 + g * cell l) (f .rng) (cell l) (omega arith) (omega arith) (in-shift b bytes j _ _ i2);
     }
   where
-    eight : (l : ℕ) → l ≤ 8 → 8 ≡ l + (8 - l)
-    eight l h = omega arith
-
     one-more : (j : ℕ) → 1 + j ≡ suc j
     one-more j = omega arith
 
@@ -154,7 +150,7 @@ ended-two P f t g a c =
     ∙ number-append P1 (shiftOut f2) (unstored (shift f2 .held) (shift f2 .run)) in
     let s1 : number P1 (unstored (f2 .held) (f2 .run)) * 2 ^ 31 + f2 .val ≡ 256 * (D * 2 ^ 31 + g * 2 ^ 22) = shift-number P f1 t1 in
     let s2 : number (number P1 (shiftOut f2)) (unstored (shift f2 .held) (shift f2 .run)) * 2 ^ 31 + 256 * (f2 .val % 2 ^ 23)
-        ≡ 256 * (number P1 (unstored (f2 .held) (f2 .run)) * 2 ^ 31 + f2 .val)
+    ≡ 256 * (number P1 (unstored (f2 .held) (f2 .run)) * 2 ^ 31 + f2 .val)
     = shift-number P1 f2 (tame-shift f1 t1 (omega arith)) in
     let z : f2 .val % 2 ^ 23 ≡ 0 = nine-bits g in
     let eq : E * 2 ^ 31 ≡ 256 * (256 * (D * 2 ^ 31 + g * 2 ^ 22)) = omega arith in

@@ -2,22 +2,22 @@
 -- for the spare bits, and the raw bits are the buffer's low end. Part 9 of the argument. Assumes nothing.
 use Prim.Native.Nat.{ℕ, suc, _+_, _-_, _*_, _/_, _%_, _^_, _≤_, _<_}
 use mathlib.Core.Path.{_≡_, refl, sym, ap, ap₂, _∙_, subst}
-use mathlib.Core.Bool.{Bool, true, false, _&&_}
+use mathlib.Core.Bool.{false, _&&_}
 use mathlib.Core.List.{List, _++_, append-assoc}
 use native.Mathlib.Omega.{arith}
-use native.Mathlib.Nat.{mul-sub, mul-assoc}
+use native.Mathlib.Nat.{mul-sub, mul-assoc, mul-comm}
 use borrow.Author.Tests.{ltb-true, ltb-false, leb-true, le-leb, eqb-true, eqb-false, ne-eqb}
 use lib.Bits.{bitOr, or-zero-l, or-shifted}
 use lib.Dec.{eqb, leb, ltb}
 use lib.ListN.{length, getD, take, drop, set, replicate, length-append, length-set, length-replicate, length-drop, getD-replicate, List·getD-append}
-use lib.Pow.{pow-add, pow-pos, pow-mono}
+use lib.Pow.{pow-pos, pow-mono}
 use lib.Seq.{take-at, drop-at, take-set-le, drop-set-lt, getD-set-same, getD-set-other, getD-append-add, length-take-le}
 use Rattle.tests.specs.Both.{and-both}
 use Rattle.tests.specs.Choice.{by-lt, chosen, chosen-lt}
 use Rattle.entcode.specs.Room.{Room}
 use Rattle.entcode.specs.Tail.{Tail}
-use Rattle.entcode.specs.Finish.{clear, orLast, leftOver, close}
-use Rattle.roundtrip.proofs.Digits.{number, prefix, prefix-take, prefix-split, prefix-same}
+use Rattle.entcode.specs.Finish.{clear, orLast, close}
+use Rattle.roundtrip.proofs.Digits.{number, prefix, prefix-take, prefix-split, prefix-same, pow-split}
 use Rattle.roundtrip.proofs.Back.{tailNumber, backBytes}
 
 -- the closed buffer b of a tail t, where E, a multiple of 2^j, is the number of its coded bytes
@@ -29,6 +29,9 @@ pub record Closed (t : Tail) (j E : ℕ) (b : List ℕ) : Type 0 where
   pub free : (i : ℕ) → t .room .offs ≤ i → i + t .room .end + (t .used + 7) / 8 < length (t .room .buf) → getD b i 0 ≡ 0
 
 -- ---- the middle cleared
+
+getD-middle : (x z y : List ℕ) (k : ℕ) → k < length z → getD (x ++ (z ++ y)) (length x + k) 0 ≡ getD z k 0
+getD-middle x z y k h = getD-append-add x (z ++ y) k 0 ∙ List·getD-append z y 0 k h
 
 module _ (r : Room) (fit : r .offs + r .end ≤ length (r .buf)) where
   front-length : length (take (r .offs) (r .buf)) ≡ r .offs
@@ -57,10 +60,7 @@ module _ (r : Room) (fit : r .offs + r .end ≤ length (r .buf)) where
       let z : ℕ = length (r .buf) - r .end - r .offs in
       let e : i ≡ length (take (r .offs) (r .buf)) + (i - r .offs) = rw front-length (omega arith) in
       let l : i - r .offs < length (replicate {A = ℕ} z 0) = rw length-replicate (omega arith) in
-      rw e
-      (getD-append-add (take (r .offs) (r .buf)) _ (i - r .offs) 0
-      ∙ List·getD-append (replicate z 0) (drop (length (r .buf) - r .end) (r .buf)) 0 (i - r .offs) l
-      ∙ getD-replicate z (i - r .offs) 0 0 (omega arith))
+      rw e (getD-middle (take (r .offs) (r .buf)) (replicate z 0) (backBytes r) (i - r .offs) l ∙ getD-replicate z (i - r .offs) 0 0 (omega arith))
 
 -- ---- a byte y set at i, before the back of e bytes
 
@@ -112,7 +112,7 @@ module _ (t : Tail) (j E whole : ℕ) (fit : t .room .offs + t .room .end ≤ le
       let nf : prefix b (t .room .offs) ≡ E = at-offs b l (take-set-le (t .room .offs) c i y (omega arith) ∙ clear-front (t .room) fit) in
       let d : drop (n - e) b ≡ backBytes (t .room) = drop-set-lt (n - e) c i y (omega arith) ∙ clear-back (t .room) fit in
       let m : prefix b (n - e) ≡ 256 * prefix c i + y = last-number c n e i y ln (omega arith) ie in
-      let p : 256 ≡ 2 ^ t .used * 2 ^ (8 - t .used) = ap (λ (x : ℕ). 2 ^ x) (eight (t .used) u) ∙ pow-add 2 (t .used) (8 - t .used) in
+      let p : 256 ≡ 2 ^ t .used * 2 ^ (8 - t .used) = pow-split 8 (t .used) (omega arith) in
       record {
         len = l;
         front = (omega arith, omega (arith, pow-pos j));
@@ -121,9 +121,6 @@ module _ (t : Tail) (j E whole : ℕ) (fit : t .room .offs + t .room .end ≤ le
         free = λ k x z. getD-set-other c i k y 0 (λ q. absurd (omega arith)) ∙ clear-free (t .room) fit k x (omega arith);
       }
     where
-      eight : (l : ℕ) → l < 8 → 8 ≡ l + (8 - l)
-      eight l h = omega arith
-
       part : (w y M a z : ℕ) → y ≡ w → 256 ≡ a * z → 256 * M + y ≡ w + a * (z * M)
       part w y M a z e p = ap (λ (x : ℕ). x * M + y) p ∙ omega (arith, mul-assoc a z M)
 
@@ -138,7 +135,7 @@ module _ (t : Tail) (j E whole : ℕ) (fit : t .room .offs + t .room .end ≤ le
       let ie : i ≡ n - suc e = omega arith in
       let os : t .room .offs ≡ suc i = omega arith in
       let nc : 256 * prefix c i + getD c i 0 ≡ E = subst (λ (x : ℕ). prefix c x ≡ E) os (at-offs c ln (clear-front (t .room) fit)) in
-      let p : 256 ≡ 2 ^ (8 - j) * 2 ^ j = ap (λ (x : ℕ). 2 ^ x) (eight j j8) ∙ pow-add 2 (8 - j) j in
+      let p : 256 ≡ 2 ^ (8 - j) * 2 ^ j = pow-split 8 j j8 ∙ mul-comm (2 ^ j) (2 ^ (8 - j)) in
       let y0 : getD c i 0 ≡ (whole - 2 ^ (8 - j) * prefix c i) * 2 ^ j = low (getD c i 0) (prefix c i) (2 ^ (8 - j)) (2 ^ j) p (nc ∙ mul) in
       let ye : bitOr (getD c i 0) (t .win) ≡ getD c i 0 + t .win
       = rw y0 (or-shifted (whole - 2 ^ (8 - j) * prefix c i) j (t .win) (omega (arith, pow-mono u))) in
@@ -149,22 +146,15 @@ module _ (t : Tail) (j E whole : ℕ) (fit : t .room .offs + t .room .end ≤ le
       let m : prefix b (n - e) ≡ 256 * prefix c i + y = last-number c n e i y ln g ie in
       let ne : n - e ≡ t .room .offs = omega arith in
       let mo : prefix b (t .room .offs) ≡ E + t .win = ap (λ (x : ℕ). prefix b x) (sym ne) ∙ m ∙ omega arith in
-      let ju : 2 ^ j ≡ 2 ^ t .used * 2 ^ (j - t .used) = ap (λ (x : ℕ). 2 ^ x) (sum j (t .used) u) ∙ pow-add 2 (t .used) (j - t .used) in
       record {
         len = l;
         front = (omega arith, omega (arith, pow-mono u));
         above = 2 ^ (j - t .used) * whole;
         back = at-end b (2 ^ (j - t .used) * whole) l d
-            (m ∙ part (t .win) (256 * prefix c i + y) E (2 ^ t .used) (2 ^ (j - t .used)) (omega arith) (mul ∙ ap (λ (x : ℕ). whole * x) ju));
+            (m ∙ part (t .win) (256 * prefix c i + y) E (2 ^ t .used) (2 ^ (j - t .used)) (omega arith) (mul ∙ ap (λ (x : ℕ). whole * x) (pow-split j (t .used) u)));
         free = λ k x z. absurd (omega arith);
       }
     where
-      eight : (l : ℕ) → l ≤ 8 → 8 ≡ (8 - l) + l
-      eight l h = omega arith
-
-      sum : (j u : ℕ) → u ≤ j → j ≡ u + (j - u)
-      sum j u h = omega arith
-
       low : (y M a z : ℕ) → 256 ≡ a * z → 256 * M + y ≡ whole * z → y ≡ (whole - a * M) * z
       low y M a z p q =
           let s : z * (whole - a * M) ≡ z * whole - z * (a * M) = mul-sub z whole (a * M) in

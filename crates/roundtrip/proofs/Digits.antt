@@ -1,10 +1,11 @@
 -- Numbers of digits to the base 256. The buffer is one number seen from both ends: its first bytes are the coded stream, its last the raw one.
 -- Part 1 of the argument. Assumes nothing.
-use Prim.Native.Nat.{ℕ, zero, suc, _+_, _*_, _/_, _%_, _≤_, _<_}
+use Prim.Native.Nat.{ℕ, zero, suc, _+_, _-_, _*_, _/_, _%_, _^_, _≤_, _<_}
 use mathlib.Core.Path.{_≡_, refl, sym, ap, _∙_}
 use mathlib.Core.List.{List, [], _∷_, _++_}
 use native.Mathlib.Omega.{arith}
 use lib.ListN.{length, replicate, getD, take, drop, take-append-drop}
+use lib.Pow.{pow-add}
 use lib.Seq.{take-suc, take-length}
 
 -- the number of the digits ds, most significant first, behind the number a
@@ -20,6 +21,11 @@ prefix b (suc m) = 256 * prefix b m + getD b m 0
 -- the number of its first 8 m - 1 bits: what a reader of m bytes has looked at
 abbrev pub code : List ℕ → ℕ → ℕ
 code b m = prefix b m / 2
+
+-- ---- a power taken apart
+
+pub pow-split : (n u : ℕ) → u ≤ n → 2 ^ n ≡ 2 ^ u * 2 ^ (n - u)
+pow-split n u h = let e : n ≡ u + (n - u) = omega arith in ap (λ (x : ℕ). 2 ^ x) e ∙ pow-add 2 u (n - u)
 
 -- ---- digits behind digits
 

@@ -7,7 +7,7 @@ use mathlib.Core.List.{List, [], _∷_}
 use native.Mathlib.Omega.{arith}
 use borrow.Author.Tests.{leb-true, leb-false}
 use lib.Dec.{leb}
-use Rattle.entcode.specs.Models.{Model, Sym, coded, lo, hi, all, rawN, rawV, Allowed}
+use Rattle.entcode.specs.Models.{Sym, coded, lo, hi, all, rawN, rawV, Allowed}
 use Rattle.entcode.specs.Cuts.{upper, lower}
 use Rattle.entcode.specs.CutLaws.{Proper, CutOk, cut-ok}
 use Rattle.entcode.specs.ModelLaws.{proper}

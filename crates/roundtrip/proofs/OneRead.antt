@@ -1,6 +1,6 @@
 -- One symbol read: over a packet that lies within the interval after the symbol, the reader picks its coded part, and keeps range and total equal to the
 -- writer's; with the raw number that the writer wrote, it gives the value. Part 14 of the argument. Assumes nothing.
-use Prim.Native.Nat.{ℕ, suc, _+_, _-_, _*_, _^_, _≤_, _<_}
+use Prim.Native.Nat.{ℕ, suc, _+_, _-_, _*_, _^_, _<_}
 use mathlib.Core.Path.{_≡_, refl, sym, ap, _∙_, subst}
 use mathlib.Core.Bool.{Bool, true, false, cond}
 use mathlib.Core.List.{List}
@@ -11,7 +11,7 @@ use Rattle.tests.specs.Choice.{chosen}
 use Rattle.entcode.specs.declared.Dec.{Dec}
 use Rattle.entcode.specs.Models.{Model, bit, raw, num, tab, coded, lo, hi, all, rawN, rawV, joined, Allowed}
 use Rattle.entcode.specs.Cuts.{upper, lower}
-use Rattle.entcode.specs.CutLaws.{Proper, cut-ok}
+use Rattle.entcode.specs.CutLaws.{cut-ok}
 use Rattle.entcode.specs.ModelLaws.{proper, raw-most, raw-small, joined-parts, pick-is}
 use Rattle.entcode.specs.Reader.{shiftR, normR, cutR, cutDown, picked, afterCode, rawVal, rawNext, whole, clamped, marked, readVal, readNext}
 use Rattle.entcode.specs.ReaderLaws.{Bytes, Core, core-cut, core-read}
@@ -28,11 +28,11 @@ pub record Level (d : Dec) (w : Writer) : Type 0 where
   pub total : d .total ≡ w .total
 
 -- the writer after the value v of the model m
-abbrev pub wrote : Writer → Model → ℕ → Writer
+abbrev wrote : Writer → Model → ℕ → Writer
 wrote w m v = rawW (codeW w (lo m (coded m v)) (hi m (coded m v)) (all m)) (rawN m) (rawV m v)
 
 -- the interval after it
-abbrev pub narrowed : Interval → Model → ℕ → Interval
+abbrev narrowed : Interval → Model → ℕ → Interval
 narrowed a m v = codeI a (lo m (coded m v)) (hi m (coded m v)) (all m)
 
 -- the reader after the coded part c
@@ -85,7 +85,7 @@ module _ (b : List ℕ) (bytes : Bytes b) (m : Model) (v : ℕ) (ok : Allowed m 
   found : Coded b bytes d a (lo m (coded m v)) (hi m (coded m v)) (all m)
   found = coded-stands b bytes d a (lo m (coded m v)) (hi m (coded m v)) (all m) st big (proper m v ok) i
 
-  pub picks : picked m d ≡ coded m v
+  picks : picked m d ≡ coded m v
   picks = pick-is m v (d .rng) (d .val) ok (co .above) (found .low) (found .high)
 
   -- after the coded part

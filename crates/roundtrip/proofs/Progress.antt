@@ -1,7 +1,7 @@
 -- A writer from which nothing was lost (`Fine`), or one that has dropped a byte and taken more than the buffer holds (`Over`): a turn of renormalising
 -- leads from the first to one of the two. Part 5 of the argument. Assumes nothing.
 use Prim.Native.Nat.{ℕ, suc, _+_, _*_, _^_, _≤_, _<_}
-use mathlib.Core.Path.{_≡_, refl, ap, _∙_}
+use mathlib.Core.Path.{_≡_, ap, _∙_}
 use mathlib.Core.List.{List}
 use native.Mathlib.Omega.{arith}
 use lib.ListN.{length, take}

@@ -12,8 +12,8 @@ use lib.Pow.{pow-add, pow-pos}
 use Rattle.tests.specs.Choice.{chosen}
 use Rattle.entcode.specs.declared.Dec.{Dec}
 use Rattle.entcode.specs.Reader.{lastOf, fetch, fetches, fill, rawVal, rawNext}
-use Rattle.entcode.specs.ReaderLaws.{Bytes, Core, Filled, fill-kept, core-raw}
-use Rattle.roundtrip.proofs.Digits.{prefix}
+use Rattle.entcode.specs.ReaderLaws.{Bytes, Core, Filled, fill-kept}
+use Rattle.roundtrip.proofs.Digits.{prefix, pow-split}
 
 -- the raw number still ahead of the reader
 abbrev pub rest : List ℕ → Dec → ℕ
@@ -43,16 +43,13 @@ rest-fill b n d h =
 
 drop-number : (w u n X : ℕ) → n ≤ u → w + 2 ^ u * X ≡ w % 2 ^ n + 2 ^ n * (w / 2 ^ n + 2 ^ (u - n) * X)
 drop-number w u n X h =
-    let e : n + (u - n) ≡ u = omega arith in
-    let p : 2 ^ u ≡ 2 ^ n * 2 ^ (u - n) = ap (λ (m : ℕ). 2 ^ m) (sym e) ∙ pow-add 2 n (u - n) in
-    let q : 2 ^ u * X ≡ 2 ^ n * (2 ^ (u - n) * X) = ap (λ (m : ℕ). m * X) p ∙ mul-assoc (2 ^ n) (2 ^ (u - n)) X in
+    let q : 2 ^ u * X ≡ 2 ^ n * (2 ^ (u - n) * X) = ap (λ (m : ℕ). m * X) (pow-split u n h) ∙ mul-assoc (2 ^ n) (2 ^ (u - n)) X in
     omega (arith, div-add-mod w (2 ^ n), mul-add (2 ^ n) (w / 2 ^ n) (2 ^ (u - n) * X))
 
 -- the value v and the reader q after n raw bits; the coded part is untouched
 pub record RawRead (b : List ℕ) (d : Dec) (n v : ℕ) (q : Dec) : Type 0 where
   pub small : v < 2 ^ n
   pub number : rest b d ≡ v + 2 ^ n * rest b q
-  pub core : Core b q
   pub rng : q .rng ≡ d .rng
   pub val : q .val ≡ d .val
   pub rem : q .rem ≡ d .rem
@@ -67,7 +64,6 @@ raw-read b n d y c h =
     record {
       small = mod-lt (q .window) (pow-pos n);
       number = sym (rest-fill b n d (c .back)) ∙ drop-number (q .window) (q .wbits) n (prefix b (length b - q .endoffs)) (f .enough);
-      core = core-raw b n d y c h .core;
       rng = p .rng;
       val = p .val;
       rem = p .rem;

@@ -1,13 +1,12 @@
 -- A list of symbols read back, over the definitions: forwards with the reader, symbol by symbol, the packet lying within each interval on the way. It
 -- starts from any writer whose state is that of its interval and raw number (`View`), however it came there. Part 15 of the argument. Assumes nothing.
 use Prim.Native.Nat.{ℕ, suc, _+_, _-_, _*_, _^_, _≤_, _<_}
-use mathlib.Core.Path.{_≡_, refl, sym, ap, _∙_, subst}
+use mathlib.Core.Path.{_≡_, refl, _∙_, subst}
 use mathlib.Core.List.{List, [], _∷_}
 use native.Mathlib.Omega.{arith}
-use lib.ListN.{length, getD, take}
+use lib.ListN.{length, take}
 use Rattle.entcode.specs.declared.Dec.{Dec}
-use Rattle.entcode.specs.Models.{Sym, coded, lo, hi, all, rawN, Allowed}
-use Rattle.entcode.specs.ModelLaws.{proper}
+use Rattle.entcode.specs.Models.{Sym, rawN, Allowed}
 use Rattle.entcode.specs.Reader.{settled, opened, readVal, readNext}
 use Rattle.entcode.specs.ReaderLaws.{Bytes, Core, core-read}
 use Rattle.entcode.specs.Writer.{Writer, openW, writeSym}
@@ -21,7 +20,7 @@ use Rattle.roundtrip.proofs.Finished.{bitsW, Finished, finished}
 use Rattle.roundtrip.proofs.Bytes.{bytes-finish}
 use Rattle.roundtrip.proofs.Stands.{StandsI, stands-open}
 use Rattle.roundtrip.proofs.RawRead.{rest}
-use Rattle.roundtrip.proofs.OneRead.{Level, Next, next, gives-coded, gives-whole}
+use Rattle.roundtrip.proofs.OneRead.{Level, next, gives-coded, gives-whole}
 
 -- ---- what reading the list ss from d amounts to, w being the writer before it
 

@@ -4,7 +4,6 @@ use Prim.Native.Nat.{ℕ, _*_, _^_, _≤_, _<_}
 use mathlib.Core.Path.{_≡_, refl, sym, _∙_}
 use mathlib.Core.List.{List, [], _∷_}
 use native.Mathlib.Omega.{arith}
-use lib.Count.{leadingZeros}
 use lib.ListN.{length}
 use Rattle.bitlen.specs.LengthLaws.{leading-zeros-length}
 use Rattle.entcode.specs.Models.{Sym}

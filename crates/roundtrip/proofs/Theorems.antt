@@ -18,7 +18,7 @@ use Rattle.entcode.specs.Finish.{finish}
 use Rattle.entcode.specs.Flat.{errorOf, Out, flat}
 use Rattle.entcode.specs.Writing.{Sent, encOpen, encDone}
 use Rattle.roundtrip.specs.Statement.{after, Sends, Written, Reads, Questions, Leads, Answers, InStep, CodedReads}
-use Rattle.roundtrip.proofs.Interval.{runI, openI, rawNumber, AllAllowed}
+use Rattle.roundtrip.proofs.Interval.{runI, openI, rawNumber}
 use Rattle.roundtrip.proofs.Track.{View}
 use Rattle.roundtrip.proofs.ReadBack.{Follows, Any, view-follows, view-follows-coded}
 use Rattle.roundtrip.proofs.Round.{no-error}
@@ -65,21 +65,21 @@ open-error b = refl
 opened-is : (b : List ℕ) → length b ≤ 1275 → decOpen b .state ≡ opened b
 opened-is b h = ap (λ (a : Decoded). a .state) (opens-reader b h)
 
-pub reads-view : (c : List ℕ) (ss : List Sym) (q : Out) → Sends (flat (openW c)) ss q → AllAllowed ss
+pub reads-view : (c : List ℕ) (ss : List Sym) (q : Out) → Sends (flat (openW c)) ss q
     → (w : Writer) (n : ℕ) → View w (runI openI ss) (λ X. rawNumber ss X) n → Bytes (w .tail .room .buf)
     → finish w .err ≡ 0 → length (finish w .buf) ≤ 1275
     → Reads (finish w .buf) (decOpen (finish w .buf) .state) (flat (openW c)) ss
-reads-view c ss q h ok w n v y z short =
+reads-view c ss q h w n v y z short =
     let b = finish w .buf in
     subst⁻¹ (λ (d : Dec). Reads b d (flat (openW c)) ss) (opened-is b short)
-    (reads-of b ss (opened b) (openW c) q h (open-error b) (view-follows ss ok w n v z y short c))
+    (reads-of b ss (opened b) (openW c) q h (open-error b) (view-follows ss (went ss (openW c) q h .allowed) w n v z y short c))
 
 pub reads-back : (b : List ℕ) (ss : List Sym) (q : Out) → Written b ss q
     → Reads (encDone q .buf) (decOpen (encDone q .buf) .state) (after (encOpen b)) ss
 reads-back b ss q r =
     let k = known b ss q r in
     subst₂ (λ (l : List ℕ) (o : Out). Reads l (decOpen l .state) o ss) (sym (buf-is b ss q k)) (sym (opens b (r .short)))
-    (reads-view b ss q (k .sends) (k .allowed) (wroteAll b ss) (length b) (k .view) (k .old) (k .error) (omega (arith, k .len, r .short)))
+    (reads-view b ss q (k .sends) (wroteAll b ss) (length b) (k .view) (k .old) (k .error) (omega (arith, k .len, r .short)))
 
 -- an account that fits reads back
 pub fits-reads : (b : List ℕ) (ss : List Sym) (q : Out) → Bytes b → length b ≤ 1275 → Sends (after (encOpen b)) ss q

@@ -9,7 +9,7 @@ use lib.Dec.{leb, ltb}
 use lib.ListN.{length, take, drop}
 use lib.Seq.{drop-length}
 use Rattle.tests.specs.Choice.{by-lt}
-use Rattle.entcode.specs.Models.{Model, Sym, coded, lo, hi, all, rawN, rawV, Allowed}
+use Rattle.entcode.specs.Models.{Model, Sym, rawN, rawV, Allowed}
 use Rattle.entcode.specs.Cuts.{upper, lower}
 use Rattle.entcode.specs.CutLaws.{Proper, CutOk, cut-ok}
 use Rattle.entcode.specs.ModelLaws.{proper, raw-most, raw-small}
@@ -44,7 +44,7 @@ pub data Track (w : Writer) (a : Interval) (g : ℕ → ℕ) (n : ℕ) : Type 0 
 
 -- ---- opening
 
-pub open-view : (b : List ℕ) → View (openW b) openI (λ Z. Z) (length b)
+open-view : (b : List ℕ) → View (openW b) openI (λ Z. Z) (length b)
 open-view b =
     record {
       fine =

@@ -1,13 +1,13 @@
 -- A packet lies within an interval: the number of its first bits does. If it lies within the interval after a step of the writer, it lay within the one
 -- before: no powers of 256 are needed, one goes back step by step. Part 7 of the argument. Assumes nothing.
 use Prim.Native.Nat.{ℕ, suc, _+_, _-_, _*_, _/_, _%_, _^_, _≤_, _<_}
-use mathlib.Core.Path.{_≡_, refl}
+use mathlib.Core.Path.{_≡_}
 use mathlib.Core.Bool.{Bool, true, false, cond}
 use mathlib.Core.List.{List, [], _∷_}
 use native.Mathlib.Omega.{arith}
 use lib.Dec.{leb}
 use lib.ListN.{getD}
-use Rattle.entcode.specs.Models.{Sym, coded, lo, hi, all, Allowed}
+use Rattle.entcode.specs.Models.{Sym}
 use Rattle.entcode.specs.Cuts.{upper, lower}
 use Rattle.entcode.specs.CutLaws.{Proper, CutOk, cut-ok}
 use Rattle.entcode.specs.ModelLaws.{proper}
@@ -66,7 +66,7 @@ module _ (b : List ℕ) (bytes : Bytes b) where
       norm-back (leb (c .size) (2 ^ 23)) c (norm-back (leb (normI c .size) (2 ^ 23)) (normI c) i)
 
   -- and over it
-  pub code-back : (a : Interval) (fl fh ft : ℕ) → 2 ^ 23 < a .size → Proper fl fh ft → Within b (codeI a fl fh ft) → Within b a
+  code-back : (a : Interval) (fl fh ft : ℕ) → 2 ^ 23 < a .size → Proper fl fh ft → Within b (codeI a fl fh ft) → Within b a
   code-back a fl fh ft h p i =
       let c : CutOk (a .size) (upper (a .size) fl ft) (lower (a .size) fh ft) = cut-ok (a .size) fl fh ft h p in
       in-part b _ (a .low) _ (a .size) _ (omega arith) (omega (arith, c .some, c .inside)) (code-cut a fl fh ft i)
