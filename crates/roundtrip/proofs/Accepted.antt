@@ -12,8 +12,8 @@ use lib.ListN.{length}
 use lib.Signed.{leZ}
 use Rattle.tests.specs.Both.{range-in, both-and}
 use Rattle.tests.specs.Choice.{chosen}
-use Rattle.icdf.specs.RuleLaws.{symbol-accepted, icdf-accepts}
-use Rattle.refusals.specs.First.{firstOf, first-none}
+use Rattle.icdf.specs.RuleLaws.{symbol-accepted, symbol-accepts, icdf-accepts}
+use Rattle.refusals.specs.First.{firstOf, first-none, none-first}
 use Rattle.entcode.specs.Models.{Model, bit, raw, num, tab, Sym, Readable, Allowed}
 use Rattle.entcode.specs.Sound.{soundW, gateW}
 use Rattle.entcode.specs.Rules.{exponentOk, countOk, numberOk, askRule, sayRule}
@@ -78,6 +78,13 @@ say-open (num ft) v e =
     let g = rule-parts (numberOk ft) (ltb v ft) e in
     record { readable = ask-open (num ft) (ask-zero (numberOk ft) (g .0)); fitting = ltb-true v ft (g .1) }
 say-open (tab scale t) v e = let g = symbol-accepted scale t v e in record { readable = g .0; fitting = g .1 }
+
+-- and the other way round
+say-pass : (m : Model) (v : ℕ) → Allowed m v → sayRule m v ≡ 0
+say-pass (bit lp) v w = rw (range-in 1 15 lp (w .readable .0) (w .readable .1), le-leb v 1 (w .fitting))
+say-pass (raw n) v w = rw (range-in 1 25 n (w .readable .0) (w .readable .1), lt-ltb v (2 ^ n) (w .fitting))
+say-pass (num ft) v w = rw (le-leb 2 ft (w .readable .0), lt-ltb ft (2 ^ 32) (w .readable .1), lt-ltb v ft (w .fitting))
+say-pass (tab scale t) v w = symbol-accepts scale t v (w .readable) (w .fitting)
 
 -- a model that may be read with is not refused
 pub ask-pass : (m : Model) → Readable m → askRule m ≡ 0
@@ -164,6 +171,14 @@ took w s z =
       allowed = say-open (s .model) (s .value) (f .1);
       is = ap after (answered-ok _ o 0 (written o s) n) ∙ ap (λ (v : Writer). flat (writeSym v s)) (as-flat w);
     }
+
+-- an allowed symbol is accepted where the gate is open
+pub write-passes : (w : Writer) (s : Sym) → gateW (flat w .buf) (flat w .state) ≡ 0 → Allowed (s .model) (s .value)
+    → encSym (flat w) s .answer .refusal ≡ 0
+unfolding encSym
+write-passes w s g ok =
+    ap (λ (x : Sent). x .answer .refusal)
+    (answered-ok _ (flat w) 0 (written (flat w) s) (none-first _ _ g (say-pass (s .model) (s .value) ok)))
 
 pub done-accepted : (w : Writer) → encDone (flat w) .answer .refusal ≡ 0 → encDone (flat w) ≡ takes 0 (flat (finishW w))
 unfolding encDone finished

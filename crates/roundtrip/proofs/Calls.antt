@@ -1,7 +1,7 @@
 -- Lists of public calls: accepted writes are the definition's writes, and a reader that follows the definitions answers its calls. Part 18 of the
 -- argument. Assumes nothing.
 use Prim.Native.Nat.{ℕ, _≤_}
-use mathlib.Core.Path.{_≡_, refl, sym, ap₂, _∙_, subst, subst₂}
+use mathlib.Core.Path.{_≡_, refl, sym, ap₂, _∙_, subst, subst⁻¹, subst₂}
 use mathlib.Core.List.{List, [], _∷_}
 use native.Mathlib.Omega.{arith}
 use borrow.Author.Tests.{le-leb}
@@ -15,13 +15,14 @@ use Rattle.entcode.specs.Reader.{opened, readVal, readNext}
 use Rattle.entcode.specs.Reading.{gives, decSym, decOpen}
 use Rattle.entcode.specs.ReadingLaws.{Sound, gate-pass, answered-ok}
 use Rattle.entcode.specs.Writer.{Writer, writeSym, writeAll}
+use Rattle.entcode.specs.WriterLaws.{Firm, firm-write}
 use Rattle.entcode.specs.Flat.{Out, flat}
 use Rattle.entcode.specs.Writing.{encSym}
-use Rattle.roundtrip.specs.Statement.{after, Sends, Right, Reads, Questions, done, ask, Leads, Answers, InStep, CodedRight, CodedReads}
-use Rattle.roundtrip.proofs.Interval.{AllAllowed}
+use Rattle.roundtrip.specs.Statement.{AllAllowed, after, Sends, Right, Reads, Questions, done, ask, Leads, Answers, InStep, CodedRight, CodedReads}
 use Rattle.roundtrip.proofs.OneRead.{Level}
 use Rattle.roundtrip.proofs.ReadBack.{Step, Follows, Any, NoRaw}
-use Rattle.roundtrip.proofs.Accepted.{ask-pass, Took, took}
+use Rattle.roundtrip.proofs.Round.{firm-all}
+use Rattle.roundtrip.proofs.Accepted.{ask-pass, firm-passes, Took, took, write-passes}
 
 -- ---- writes
 
@@ -36,6 +37,19 @@ went (s ∷ ss) w q h =
     let t = took w s (h .0) in
     let r = went ss (writeSym w s) q (subst (λ (o : Out). Sends o ss q) (t .is) (h .1)) in
     record { end = r .end; allowed = (t .allowed, r .allowed) }
+
+-- and allowed writes from a firm writer on are accepted, as long as the total is low
+pub accepts-all : (ss : List Sym) (w : Writer) → AllAllowed ss → Firm 0 w → length (w .tail .room .buf) ≤ 1275
+    → writeAll w ss .total ≤ 1000000 → Sends (flat w) ss (flat (writeAll w ss))
+accepts-all [] w ok f short low = refl
+accepts-all (s ∷ ss) w ok f short low =
+    let n = firm-write 0 w s (ok .0) f in
+    let g = firm-passes w f short (omega (arith, low, n .least, firm-all ss (writeSym w s) (ok .1) (n .firm) .least)) in
+    let z = write-passes w s g (ok .0) in (
+      z,
+      subst⁻¹ (λ (o : Out). Sends o ss (flat (writeAll (writeSym w s) ss))) (took w s z .is)
+          (accepts-all ss (writeSym w s) (ok .1) (n .firm) (omega (arith, n .len, short)) low),
+    )
 
 -- ---- reads
 

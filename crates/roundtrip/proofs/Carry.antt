@@ -24,11 +24,11 @@ pub record Tame (f : Front) : Type 0 where
   pub byte : f .held ≤ 256
   pub room : 2 ^ 31 < f .val + f .rng → (1 ≤ f .held) × (f .held ≤ 255)
 
--- ---- a digit goes out
-
--- the held byte and the run, with the digit's carry
+-- what the digit c has stored: the held byte and the run, with its carry
 abbrev swept : ℕ → ℕ → ℕ → List ℕ
 swept h x c = stored h (c / 256) ++ replicate x ((255 + c / 256) % 256)
+
+-- ---- a digit goes out
 
 swept-plain : (P h x c : ℕ) → h ≤ 256 → c < 256 → number P (swept h x c) ≡ number P (unstored h x)
 swept-plain P zero x c hb cb = ap (λ (d : ℕ). number P (replicate x d)) (omega arith)

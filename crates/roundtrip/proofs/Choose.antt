@@ -16,13 +16,25 @@ use Rattle.roundtrip.proofs.Digits.{number, number-append, pow-split}
 use Rattle.roundtrip.proofs.Carry.{Tame, frontNumber, shift-number, tame-shift, carry-length}
 use Rattle.roundtrip.proofs.Within.{In, in-part, in-shift}
 
--- ---- the bits: l of them, for the range R and the value n
-
+-- l bits are enough, for the range R and the value n: the numbers that they leave free all lie in [n, n + R)
 pub record Chosen (R n l : ℕ) : Type 0 where
   pub most : l ≤ leadingZeros 32 R + 1
   pub nine : l ≤ 9
   pub low : n ≤ roundUp n (cell l)
   pub high : roundUp n (cell l) + cell l ≤ n + R
+
+-- the number E of all front bytes, those stored (P) and those of finishing: a multiple of what the spare bits hold, and every packet that begins with
+-- these bytes, but for the spare bits, lies within the front's interval
+pub record Ended (P : ℕ) (f : Front) (l E : ℕ) : Type 0 where
+  pub whole : ℕ
+  pub multiple : E ≡ whole * 2 ^ spareBits l
+  pub inside : (b : List ℕ) → Bytes b → (j : ℕ) → In b (emits l + j) (E * 2 ^ 31) (2 ^ spareBits l * 2 ^ 31) → In b j (frontNumber P f) (f .rng)
+
+-- the front that is carried out: the value e in place of the old one
+abbrev endAt : Front → ℕ → Front
+endAt f e = record { rng = 1; val = e; held = f .held; run = f .run }
+
+-- ---- the bits
 
 round-up : (n p : ℕ) → 1 ≤ p → (n ≤ roundUp n p) × (roundUp n p < n + p)
 round-up n p h =
@@ -59,17 +71,6 @@ bits-chosen R n h m =
 pub fin-length : (c : ℕ) (f : Front) → length (finOut c f) ≡ length (unstored (f .held) (f .run)) + c
 fin-length zero f = omega arith
 fin-length (suc c) f = length-append (shiftOut f) (finOut c (shift f)) ∙ omega (arith, carry-length f, fin-length c (shift f))
-
--- the number E of all front bytes, those stored (P) and those of finishing: a multiple of what the spare bits hold, and every packet that begins with
--- these bytes, but for the spare bits, lies within the front's interval
-pub record Ended (P : ℕ) (f : Front) (l E : ℕ) : Type 0 where
-  pub whole : ℕ
-  pub multiple : E ≡ whole * 2 ^ spareBits l
-  pub inside : (b : List ℕ) → Bytes b → (j : ℕ) → In b (emits l + j) (E * 2 ^ 31) (2 ^ spareBits l * 2 ^ 31) → In b j (frontNumber P f) (f .rng)
-
--- the front that is carried out: the value e in place of the old one
-abbrev endAt : Front → ℕ → Front
-endAt f e = record { rng = 1; val = e; held = f .held; run = f .run }
 
 tame-end : (f : Front) (e p : ℕ) → Tame f → 1 ≤ p → f .val ≤ e → e + p ≤ f .val + f .rng → Tame (endAt f e)
 tame-end f e p t h x y = record { some = omega arith; fits = omega (arith, t .fits); byte = t .byte; room = λ m. t .room (omega arith) }

@@ -28,6 +28,12 @@ pub record Closed (t : Tail) (j E : ℕ) (b : List ℕ) : Type 0 where
   pub back : prefix b (length b) ≡ tailNumber t above
   pub free : (i : ℕ) → t .room .offs ≤ i → i + t .room .end + (t .used + 7) / 8 < length (t .room .buf) → getD b i 0 ≡ 0
 
+-- a room with the old offsets and length
+pub record Placed (r q : Room) : Type 0 where
+  pub offs : q .offs ≡ r .offs
+  pub end : q .end ≡ r .end
+  pub len : length (q .buf) ≡ length (r .buf)
+
 -- ---- the middle cleared
 
 getD-middle : (x z y : List ℕ) (k : ℕ) → k < length z → getD (x ++ (z ++ y)) (length x + k) 0 ≡ getD z k 0
@@ -191,12 +197,6 @@ pub close-stays : (t : Tail) (j : ℕ) → t .room .err ≡ 1 → close t j .err
 close-stays t j e =
     let n : eqb (t .room .err) 0 ≡ false = ne-eqb (t .room .err) 0 (λ z. let q : _≡_ {A = ℕ} 1 0 = sym e ∙ z in omega arith) in
     rw n e
-
--- both offsets, and the length
-pub record Placed (r q : Room) : Type 0 where
-  pub offs : q .offs ≡ r .offs
-  pub end : q .end ≡ r .end
-  pub len : length (q .buf) ≡ length (r .buf)
 
 pub close-placed : (t : Tail) (j : ℕ) → t .room .offs + t .room .end ≤ length (t .room .buf) → Placed (t .room) (close t j)
 close-placed t j fit =

@@ -11,6 +11,7 @@ use Rattle.entcode.specs.Models.{Sym, coded, lo, hi, all, rawN, rawV, Allowed}
 use Rattle.entcode.specs.Cuts.{upper, lower}
 use Rattle.entcode.specs.CutLaws.{Proper, CutOk, cut-ok}
 use Rattle.entcode.specs.ModelLaws.{proper}
+use Rattle.roundtrip.specs.Statement.{AllAllowed}
 
 -- ---- an interval: the numbers from low on, size of them, of so many digits and 31 bits
 pub record Interval : Type 0 where
@@ -22,6 +23,7 @@ pub record Interval : Type 0 where
 abbrev pub shiftI : Interval → Interval
 shiftI a = record { digits = suc (a .digits); low = 256 * a .low; size = 256 * a .size }
 
+-- while there are at most 2^23 of them
 abbrev pub normI : Interval → Interval
 normI a = cond (leb (a .size) (2 ^ 23)) (shiftI a) a
 
@@ -33,6 +35,7 @@ cutI a t s = record { digits = a .digits; low = a .low + (a .size - t); size = t
 abbrev pub codeI : Interval → ℕ → ℕ → ℕ → Interval
 codeI a fl fh ft = normI (normI (cutI a (upper (a .size) fl ft) (lower (a .size) fh ft)))
 
+-- a symbol, and a list of them
 abbrev pub symI : Interval → Sym → Interval
 symI a s = codeI a (lo (s .model) (coded (s .model) (s .value))) (hi (s .model) (coded (s .model) (s .value))) (all (s .model))
 
@@ -48,11 +51,6 @@ openI = record { digits = 0; low = 0; size = 2 ^ 31 }
 abbrev pub rawNumber : List Sym → ℕ → ℕ
 rawNumber [] X = X
 rawNumber (s ∷ ss) X = rawV (s .model) (s .value) + 2 ^ rawN (s .model) * rawNumber ss X
-
--- ---- every symbol of a list may be written
-abbrev pub AllAllowed : List Sym → Type 0
-AllAllowed [] = Unit {0}
-AllAllowed (s ∷ ss) = Allowed (s .model) (s .value) × AllAllowed ss
 
 -- ---- an interval stays above 2^23
 

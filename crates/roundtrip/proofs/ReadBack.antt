@@ -11,8 +11,9 @@ use Rattle.entcode.specs.Reader.{settled, opened, readVal, readNext}
 use Rattle.entcode.specs.ReaderLaws.{Bytes, Core, core-read}
 use Rattle.entcode.specs.Writer.{Writer, openW, writeSym}
 use Rattle.entcode.specs.Finish.{emits, spareBits, finish}
+use Rattle.roundtrip.specs.Statement.{AllAllowed}
 use Rattle.roundtrip.proofs.Digits.{prefix, prefix-same}
-use Rattle.roundtrip.proofs.Interval.{Interval, symI, runI, openI, rawNumber, AllAllowed, sym-size, run-size}
+use Rattle.roundtrip.proofs.Interval.{Interval, symI, runI, openI, rawNumber, sym-size, run-size}
 use Rattle.roundtrip.proofs.Progress.{digitsOf, lowOf}
 use Rattle.roundtrip.proofs.Track.{View}
 use Rattle.roundtrip.proofs.Within.{In, in-four, Within, run-back}

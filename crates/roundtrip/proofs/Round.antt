@@ -11,7 +11,8 @@ use Rattle.entcode.specs.Cuts.{account}
 use Rattle.entcode.specs.Writer.{Writer, openW, writeSym, writeAll}
 use Rattle.entcode.specs.WriterLaws.{Firm, firm-write}
 use Rattle.entcode.specs.Finish.{finish}
-use Rattle.roundtrip.proofs.Interval.{Interval, runI, openI, rawNumber, AllAllowed, run-size}
+use Rattle.roundtrip.specs.Statement.{AllAllowed}
+use Rattle.roundtrip.proofs.Interval.{Interval, runI, openI, rawNumber, run-size}
 use Rattle.roundtrip.proofs.Progress.{Fine}
 use Rattle.roundtrip.proofs.Track.{View, Track, went, lost, track-open}
 use Rattle.roundtrip.proofs.Choose.{Chosen, bits-chosen}
@@ -47,7 +48,7 @@ written-view b ss ok z = view-by (writeAll (openW b) ss) (runI openI ss) (λ X. 
 
 -- ---- firm writers
 
-open-firm : (b : List ℕ) → Firm 0 (openW b)
+pub open-firm : (b : List ℕ) → Firm 0 (openW b)
 open-firm b =
     record {
       above = omega arith;
@@ -58,15 +59,15 @@ open-firm b =
       trim = record { fit = omega arith; err = omega arith; used = omega arith; slim = omega arith };
     }
 
-firm-all : (ss : List Sym) (w : Writer) → AllAllowed ss → Firm 0 w
-    → Firm 0 (writeAll w ss) × (length (writeAll w ss .tail .room .buf) ≡ length (w .tail .room .buf))
-firm-all [] w ok f = (f, refl)
+-- any allowed writes keep a writer firm, do not lower its total, and keep its buffer's length
+pub record FirmAll (w v : Writer) : Type 0 where
+  pub firm : Firm 0 v
+  pub least : w .total ≤ v .total
+  pub len : length (v .tail .room .buf) ≡ length (w .tail .room .buf)
+
+pub firm-all : (ss : List Sym) (w : Writer) → AllAllowed ss → Firm 0 w → FirmAll w (writeAll w ss)
+firm-all [] w ok f = record { firm = f; least = omega arith; len = refl }
 firm-all (s ∷ ss) w ok f =
     let n = firm-write 0 w s (ok .0) f in
     let r = firm-all ss (writeSym w s) (ok .1) (n .firm) in
-    (r .0, r .1 ∙ n .len)
-
--- a fresh writer stays firm, and its buffer keeps its length
-pub written-firm : (b : List ℕ) (ss : List Sym) → AllAllowed ss
-    → Firm 0 (writeAll (openW b) ss) × (length (writeAll (openW b) ss .tail .room .buf) ≡ length b)
-written-firm b ss ok = firm-all ss (openW b) ok (open-firm b)
+    record { firm = r .firm; least = omega (arith, n .least, r .least); len = r .len ∙ n .len }

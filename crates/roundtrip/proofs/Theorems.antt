@@ -1,7 +1,15 @@
--- What was written reads back: the theorems, over the public calls (`specs/Statement`). A reader starts here; the parts of the argument are numbered in
--- the headers of the other files. Assumes nothing.
+-- What was written reads back: the theorems, over the public calls (`specs/Statement`). A reader starts here.
+--
+-- The argument, by the parts that the other files name. The coded bytes are a number to the base 256 (1, Digits); a digit that goes out with a carry
+-- changes it as it should, because a carry always finds a held byte below 255 (2, Carry); raw bytes are the same number's low end (3, Back). Symbols
+-- narrow an interval of such numbers (4, Interval), and a writer that has not dropped a byte stands at that interval (5, Progress; 6, Track). A packet
+-- within the last interval lies within all before it (7, Within). Finishing fixes the fewest bits that stay within the interval (8, Choose), closes the
+-- buffer (9, Close; 10, Finished), and leaves bytes (11, Bytes). The reader stands at the interval too, so it finds the writer's part (12, Stands), and
+-- its window is the raw number (13, RawRead); so it reads one symbol (14, OneRead), and a list (15, ReadBack). Both halves over the definitions are in
+-- 16, Round; 17 to 19, Accepted, Calls and Public, lead from there to the calls.
+-- Assumes nothing.
 use Prim.Native.Nat.{ℕ, _+_, _*_, _/_, _%_, _≤_, _<_}
-use mathlib.Core.Path.{_≡_, refl, sym, ap, _∙_, subst, subst⁻¹, subst₂}
+use mathlib.Core.Path.{_≡_, sym, ap, _∙_, subst, subst⁻¹, subst₂}
 use mathlib.Core.List.{List}
 use native.Mathlib.Omega.{arith}
 use lib.IntN.{pos}
@@ -10,23 +18,33 @@ use Rattle.entcode.specs.declared.Dec.{Dec}
 use Rattle.entcode.specs.declared.Decoded.{Decoded}
 use Rattle.entcode.specs.Models.{Sym}
 use Rattle.entcode.specs.Cuts.{account}
-use Rattle.entcode.specs.Reader.{settled, opened}
+use Rattle.entcode.specs.Reader.{opened}
 use Rattle.entcode.specs.ReaderLaws.{Bytes}
 use Rattle.entcode.specs.Reading.{decOpen}
 use Rattle.entcode.specs.Writer.{Writer, openW}
 use Rattle.entcode.specs.Finish.{finish}
 use Rattle.entcode.specs.Flat.{errorOf, Out, flat}
 use Rattle.entcode.specs.Writing.{Sent, encOpen, encDone}
-use Rattle.roundtrip.specs.Statement.{after, Sends, Written, Reads, Questions, Leads, Answers, InStep, CodedReads}
+use Rattle.roundtrip.specs.Statement.{AllAllowed, after, Sends, Written, Reads, Questions, Leads, Answers, InStep, CodedReads}
 use Rattle.roundtrip.proofs.Interval.{runI, openI, rawNumber}
 use Rattle.roundtrip.proofs.Track.{View}
 use Rattle.roundtrip.proofs.ReadBack.{Follows, Any, view-follows, view-follows-coded}
-use Rattle.roundtrip.proofs.Round.{no-error}
+use Rattle.roundtrip.proofs.Round.{no-error, open-firm}
 use Rattle.roundtrip.proofs.Accepted.{opens, done-accepted}
-use Rattle.roundtrip.proofs.Calls.{went, opens-reader, reads-of, coded-of, in-step-of, answers-of}
-use Rattle.roundtrip.proofs.Public.{wroteAll, sent, done-fits, Known, known}
+use Rattle.roundtrip.proofs.Calls.{went, accepts-all, opens-reader, reads-of, coded-of, in-step-of, answers-of}
+use Rattle.roundtrip.proofs.Public.{wroteAll, sent, total-low, done-fits, known, buf-is, offs-is, opened-is, opened-error}
 
--- ---- an account of at most 8 bits a byte is finished: accepted, and without error
+-- ---- allowed symbols whose account is at most 8 bits a byte are written: no call is refused
+
+pub accepts : (b : List ℕ) (ss : List Sym) → length b ≤ 1275 → AllAllowed ss
+    → account (wroteAll b ss .total) (wroteAll b ss .front .rng) ≤ 8 * length b
+    → Sends (after (encOpen b)) ss (flat (wroteAll b ss))
+accepts b ss short ok l =
+    let w = wroteAll b ss in
+    subst⁻¹ (λ (o : Out). Sends o ss (flat w)) (opens b short)
+    (accepts-all ss (openW b) ok (open-firm b) short (total-low (length b) (w .total) (w .front .rng) short l))
+
+-- ---- what was written with such an account is finished: accepted, and without error
 
 pub fits : (b : List ℕ) (ss : List Sym) (q : Out) → length b ≤ 1275 → Sends (after (encOpen b)) ss q
     → account (q .state .total) (q .state .rng) ≤ 8 * length b
@@ -42,9 +60,6 @@ fits b ss q short h l =
 
 -- ---- the finished buffer holds bytes, has the old length, and opens
 
-buf-is : (b : List ℕ) (ss : List Sym) (q : Out) → Known b ss q → encDone q .buf ≡ finish (wroteAll b ss) .buf
-buf-is b ss q k = ap (λ (x : Sent). x .buf) (k .is)
-
 pub finished-bytes : (b : List ℕ) (ss : List Sym) (q : Out) → Written b ss q → Bytes (encDone q .buf)
 finished-bytes b ss q r = let k = known b ss q r in subst⁻¹ Bytes (buf-is b ss q k) (k .bytes)
 
@@ -58,13 +73,6 @@ finished-opens b ss q r =
 -- ---- and reads back
 
 -- the core: from any writer w that stands where the symbols lead, however it came there, and is finished without error
-open-error : (b : List ℕ) → opened b .error ≡ 0
-unfolding opened settled
-open-error b = refl
-
-opened-is : (b : List ℕ) → length b ≤ 1275 → decOpen b .state ≡ opened b
-opened-is b h = ap (λ (a : Decoded). a .state) (opens-reader b h)
-
 pub reads-view : (c : List ℕ) (ss : List Sym) (q : Out) → Sends (flat (openW c)) ss q
     → (w : Writer) (n : ℕ) → View w (runI openI ss) (λ X. rawNumber ss X) n → Bytes (w .tail .room .buf)
     → finish w .err ≡ 0 → length (finish w .buf) ≤ 1275
@@ -72,7 +80,7 @@ pub reads-view : (c : List ℕ) (ss : List Sym) (q : Out) → Sends (flat (openW
 reads-view c ss q h w n v y z short =
     let b = finish w .buf in
     subst⁻¹ (λ (d : Dec). Reads b d (flat (openW c)) ss) (opened-is b short)
-    (reads-of b ss (opened b) (openW c) q h (open-error b) (view-follows ss (went ss (openW c) q h .allowed) w n v z y short c))
+    (reads-of b ss (opened b) (openW c) q h (opened-error b) (view-follows ss (went ss (openW c) q h .allowed) w n v z y short c))
 
 pub reads-back : (b : List ℕ) (ss : List Sym) (q : Out) → Written b ss q
     → Reads (encDone q .buf) (decOpen (encDone q .buf) .state) (after (encOpen b)) ss
@@ -117,7 +125,7 @@ middle-zero b ss q r i x y =
     let k = known b ss q r in
     let f = k .finished in
     let w = wroteAll b ss in
-    let o : encDone q .answer .state .offs ≡ finish w .offs = ap (λ (a : Sent). a .answer .state .offs) (k .is) in
+    let o : encDone q .answer .state .offs ≡ finish w .offs = offs-is b ss q k in
     let e : encDone q .answer .state .endoffs ≡ finish w .end = ap (λ (a : Sent). a .answer .state .endoffs) (k .is) in
     let u : q .state .wbits ≡ w .tail .used = ap (λ (a : Out). a .state .wbits) (k .before) in
     ap (λ (l : List ℕ). getD l i 0) (buf-is b ss q k) ∙ f .free i (omega arith) (omega (arith, f .used, k .len))
@@ -131,7 +139,7 @@ pub front-decides : (b : List ℕ) (ss : List Sym) (q : Out) → Written b ss q 
 front-decides b ss q r c y short l e =
     let k = known b ss q r in
     let w = wroteAll b ss in
-    let o : encDone q .answer .state .offs ≡ finish w .offs = ap (λ (a : Sent). a .answer .state .offs) (k .is) in
+    let o : encDone q .answer .state .offs ≡ finish w .offs = offs-is b ss q k in
     let t : take (finish w .offs) c ≡ take (finish w .offs) (finish w .buf)
     = subst₂ (λ (n : ℕ) (x : List ℕ). take n c ≡ take n x) o (buf-is b ss q k) e in
     subst₂ (λ (d : Dec) (x : Out). CodedReads c d x ss) (sym (opened-is c short)) (sym (opens b (r .short)))

@@ -18,10 +18,11 @@ use Rattle.entcode.specs.RoomLaws.{puts-stays, puts-len}
 use Rattle.entcode.specs.Tail.{Tail, flush, append}
 use Rattle.entcode.specs.TailLaws.{flush-stays, flush-len, append-slim}
 use Rattle.entcode.specs.Writer.{Writer, openW, shiftW, normW, cutW, codeW, rawW, writeSym, writeAll}
+use Rattle.roundtrip.specs.Statement.{AllAllowed}
 use Rattle.roundtrip.proofs.Digits.{number}
 use Rattle.roundtrip.proofs.Carry.{frontNumber, tame-cut, cut-number}
 use Rattle.roundtrip.proofs.Back.{Flushed, flush-room, flush-full, tailNumber, backBytes, append-number}
-use Rattle.roundtrip.proofs.Interval.{Interval, shiftI, normI, cutI, codeI, symI, runI, openI, rawNumber, AllAllowed, sym-size}
+use Rattle.roundtrip.proofs.Interval.{Interval, shiftI, normI, cutI, codeI, symI, runI, openI, rawNumber, sym-size}
 use Rattle.roundtrip.proofs.Progress.{Fine, Over, Shifted, sizeOf, digitsOf, lowOf, storedNumber, shifted, shifted-fine, shift-over}
 
 -- nothing was lost: the writer w over n bytes stands at the interval a, and the buffer's low end is g Z, Z what still comes above
@@ -38,9 +39,14 @@ pub record Lost (w : Writer) (n : ℕ) : Type 0 where
   pub over : Over w
   pub len : sizeOf w ≡ n
 
+-- one or the other
 pub data Track (w : Writer) (a : Interval) (g : ℕ → ℕ) (n : ℕ) : Type 0 where
   went : View w a g n → Track w a g n
   lost : Lost w n → Track w a g n
+
+-- a writer with another tail, its total n more
+abbrev withTail : Writer → Tail → ℕ → Writer
+withTail w t n = record { front = w .front; tail = t; total = w .total + n }
 
 -- ---- opening
 
@@ -147,10 +153,6 @@ track-code w a g n fl fh ft (lost o) h p =
     track-norm _ _ g n (track-norm (cutW w t s) (cutI a (upper (a .size) fl ft) (lower (a .size) fh ft)) g n (lost (cut-lost w n t s o)))
 
 -- ---- a raw part: n bits of value v
-
--- a writer with another tail, its total n more
-abbrev withTail : Writer → Tail → ℕ → Writer
-withTail w t n = record { front = w .front; tail = t; total = w .total + n }
 
 -- the window has room for them once c bytes have left it
 append-went : (w : Writer) (a : Interval) (g : ℕ → ℕ) (len n v : ℕ) (t : Tail) (c : ℕ) → View w a g len → Flushed (w .tail) c t

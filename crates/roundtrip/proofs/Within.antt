@@ -12,8 +12,9 @@ use Rattle.entcode.specs.Cuts.{upper, lower}
 use Rattle.entcode.specs.CutLaws.{Proper, CutOk, cut-ok}
 use Rattle.entcode.specs.ModelLaws.{proper}
 use Rattle.entcode.specs.ReaderLaws.{Bytes}
+use Rattle.roundtrip.specs.Statement.{AllAllowed}
 use Rattle.roundtrip.proofs.Digits.{prefix, code, code-step}
-use Rattle.roundtrip.proofs.Interval.{Interval, shiftI, normI, cutI, codeI, symI, runI, AllAllowed, sym-size}
+use Rattle.roundtrip.proofs.Interval.{Interval, shiftI, normI, cutI, codeI, symI, runI, sym-size}
 
 -- the packet's first j + 1 bytes, but for their last bit, are a number from L on, one of R
 pub record In (b : List ℕ) (j L R : ℕ) : Type 0 where

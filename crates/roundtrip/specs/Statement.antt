@@ -7,7 +7,7 @@ use lib.IntN.{pos}
 use lib.ListN.{length}
 use Rattle.entcode.specs.declared.Dec.{Dec}
 use Rattle.entcode.specs.declared.Decoded.{Decoded}
-use Rattle.entcode.specs.Models.{Model, Sym, rawN}
+use Rattle.entcode.specs.Models.{Model, Sym, rawN, Allowed}
 use Rattle.entcode.specs.Cuts.{account}
 use Rattle.entcode.specs.Flat.{Out, out}
 use Rattle.entcode.specs.ReaderLaws.{Bytes}
@@ -15,6 +15,11 @@ use Rattle.entcode.specs.Reading.{decSym}
 use Rattle.entcode.specs.Writing.{Sent, encOpen, encSym, encDone}
 
 -- ---- writing
+
+-- every symbol of a list may be written: its model is in order, its value one of the model's
+abbrev pub AllAllowed : List Sym → Type 0
+AllAllowed [] = Unit {0}
+AllAllowed (s ∷ ss) = Allowed (s .model) (s .value) × AllAllowed ss
 
 -- the buffer and the state after a call
 abbrev pub after : Sent → Out
@@ -77,11 +82,12 @@ Answers b d o (ask m next) (s ∷ ss) =
 
 -- ---- range and total
 
+-- a reader and a writer have the same
 pub record SamePace (d : Dec) (o : Out) : Type 0 where
   pub rng : d .rng ≡ o .state .rng
   pub total : d .total ≡ o .state .total
 
--- reader and writer have the same range and total, before the first symbol of ss and after each
+-- they do before the first symbol of ss, and after each
 abbrev pub InStep : List ℕ → Dec → Out → List Sym → Type 0
 InStep b d o [] = SamePace d o
 InStep b d o (s ∷ ss) = SamePace d o × InStep b (decSym b d (s .model) .state) (after (encSym o s)) ss
@@ -94,6 +100,7 @@ pub record CodedRight (a : Decoded) (s : Sym) (o : Out) : Type 0 where
   pub account : SameAccount (a .state) o
   pub value : rawN (s .model) ≡ 0 → a .value ≡ s .value
 
+-- the calls that read with the models of ss answer so
 abbrev pub CodedReads : List ℕ → Dec → Out → List Sym → Type 0
 CodedReads b d o [] = Unit {0}
 CodedReads b d o (s ∷ ss) =
