@@ -117,7 +117,7 @@ in-step b ss q r =
     subst₂ (λ (l : List ℕ) (o : Out). InStep l (decOpen l .state) o ss) (sym (buf-is b ss q k)) (sym (opens b (r .short)))
     (subst⁻¹ (λ (d : Dec). InStep c d (flat (openW b)) ss) (opened-is c short) (in-step-of c ss (opened c) (openW b) q (k .sends) f))
 
--- ---- the bytes behind the coded ones and before the raw ones, left-over bits included, are 0
+-- ---- the bytes behind the coded ones and before the raw ones are 0; where raw bits are left over, one byte more is raw: (bits % 8 + 7) / 8
 
 pub middle-zero : (b : List ℕ) (ss : List Sym) (q : Out) → Written b ss q → (i : ℕ) → encDone q .answer .state .offs ≤ i
     → i + encDone q .answer .state .endoffs + (q .state .wbits % 8 + 7) / 8 < length b → getD (encDone q .buf) i 0 ≡ 0
