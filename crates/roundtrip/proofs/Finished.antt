@@ -30,7 +30,8 @@ pub record Finished (w : Writer) : Type 0 where
   pub ending : Ended (storedNumber w) (w .front) (bitsW w) E
   pub len : length (finish w .buf) ≡ sizeOf w
   pub offs : finish w .offs ≡ digitsOf w + emits (bitsW w)
-  pub room : finish w .offs ≤ length (finish w .buf)
+  pub end : finish w .end ≡ w .tail .room .end + w .tail .used / 8
+  pub room : finish w .offs + finish w .end ≤ length (finish w .buf)
   pub front : (E ≤ prefix (finish w .buf) (finish w .offs)) × (prefix (finish w .buf) (finish w .offs) < E + 2 ^ spareBits (bitsW w))
   pub above : ℕ
   pub back : prefix (finish w .buf) (length (finish w .buf)) ≡ tailNumber (w .tail) above
@@ -80,7 +81,8 @@ module _ (w : Writer) (F : Fine w) (h : 2 ^ 23 < w .front .rng)
         ending = en;
         len = cl .len ∙ f .len ∙ s .len;
         offs = p .offs ∙ fin-offs;
-        room = omega (arith, p .offs, p .len, fin-fit);
+        end = p .end ∙ f .end ∙ ap (λ (x : ℕ). x + w .tail .used / 8) (s .end);
+        room = omega (arith, p .offs, p .end, p .len, fin-fit);
         front = subst (λ (x : ℕ). (E ≤ prefix (finish w .buf) x) × (prefix (finish w .buf) x < E + 2 ^ j)) (sym (p .offs)) (cl .front);
         above = cl .above;
         back = cl .back ∙ f .number (cl .above) ∙ stored-number (w .tail) (finBytes (w .front)) _ s (cl .above);
@@ -105,6 +107,10 @@ finished w F h z =
         by-lt (length (finFront w .room .buf)) (finFront w .room .offs + finFront w .room .end + w .tail .used / 8)
         (λ l. absurd (bad (flush-full (w .tail .used / 8) (finFront w) l (omega arith) (omega (arith, s .offs, s .end, s .len, F .fit)))))
         (λ l. fin-closed w F h s (flush-room (w .tail .used / 8) (finFront w) l (omega arith)) l z)
+
+-- what was counted is there: the total is at most 8 bits a byte, and 40
+pub total-bytes : (w : Writer) → Fine w → Finished w → w .total ≤ 8 * sizeOf w + 40
+total-bytes w F f = omega (arith, F .count, f .offs, f .end, f .room, f .len)
 
 -- ---- and it fits: 8 digits + bits + raw bits are at most 8 bytes
 pub finish-fits : (w : Writer) → Fine w → 8 * digitsOf w + bitsW w + rawOf w ≤ 8 * sizeOf w → finish w .err ≡ 0

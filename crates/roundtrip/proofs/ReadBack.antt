@@ -146,7 +146,7 @@ front-within : (w : Writer) (a : Interval) (g : ℕ → ℕ) (n : ℕ) → View 
 front-within w a g n v f c bytes l e =
     let m : ℕ = finish w .offs in
     let k : ℕ = suc (suc (suc (digitsOf w))) in
-    let p : prefix c m ≡ prefix (finish w .buf) m = prefix-same c (finish w .buf) m l (f .room) e in
+    let p : prefix c m ≡ prefix (finish w .buf) m = prefix-same c (finish w .buf) m l (omega (arith, f .room)) e in
     let i : In c (suc (suc (suc m))) (f .E * 2 ^ 31) (2 ^ spareBits (bitsW w) * 2 ^ 31)
     = in-four c bytes m (f .E) (2 ^ spareBits (bitsW w)) (omega (arith, f .front .0)) (omega (arith, f .front .1)) in
     let je : suc (suc (suc m)) ≡ emits (bitsW w) + k = omega (arith, f .offs) in
@@ -170,7 +170,7 @@ module _ (ss : List Sym) (ok : AllAllowed ss) (w : Writer) (n : ℕ) (v : View w
       let f = view-finished in
       let q = view-bytes y in
       follows-whole b q ss (opened b) (openW c) openI (f .above) ok (ready-open b q c short)
-      (front-within w (runI openI ss) (λ X. rawNumber ss X) n v f b q (f .room) refl) (open-rest b ∙ f .back ∙ v .raw (f .above))
+      (front-within w (runI openI ss) (λ X. rawNumber ss X) n v f b q (omega (arith, f .room)) refl) (open-rest b ∙ f .back ∙ v .raw (f .above))
 
   -- a reader of any packet that begins with its coded bytes does so through the coded parts
   pub view-follows-coded : (b : List ℕ) → Bytes b → length b ≤ 1275 → finish w .offs ≤ length b

@@ -28,8 +28,10 @@ use Rattle.entcode.specs.Writing.{Sent, encOpen, encDone}
 use Rattle.roundtrip.specs.Statement.{AllAllowed, after, Sends, Written, Reads, Questions, Leads, Answers, InStep, CodedReads}
 use Rattle.roundtrip.proofs.Interval.{runI, openI, rawNumber}
 use Rattle.roundtrip.proofs.Track.{View}
-use Rattle.roundtrip.proofs.ReadBack.{Follows, Any, view-follows, view-follows-coded}
-use Rattle.roundtrip.proofs.Round.{no-error, open-firm}
+use Rattle.roundtrip.proofs.Finished.{total-bytes}
+use Rattle.roundtrip.proofs.Bytes.{bytes-writes}
+use Rattle.roundtrip.proofs.ReadBack.{Follows, Any, view-finished, view-follows, view-follows-coded}
+use Rattle.roundtrip.proofs.Round.{no-error, written-view, open-firm}
 use Rattle.roundtrip.proofs.Accepted.{opens, done-accepted}
 use Rattle.roundtrip.proofs.Calls.{went, accepts-all, opens-reader, reads-of, coded-of, in-step-of, answers-of}
 use Rattle.roundtrip.proofs.Public.{wroteAll, sent, total-low, done-fits, known, buf-is, offs-is, opened-is, opened-error}
@@ -58,7 +60,7 @@ fits b ss q short h l =
     subst⁻¹ (λ (x : Out). (encDone x .answer .refusal ≡ 0) × (encDone x .answer .state .error ≡ pos 0)) (g .end)
     (z, ap (λ (x : Sent). x .answer .state .error) (done-accepted w z) ∙ ap errorOf (no-error b ss (g .allowed) a))
 
--- ---- the finished buffer holds bytes, has the old length, and opens
+-- ---- the finished buffer holds bytes, has the old length, took no more bits than it has, but for 40, and opens
 
 pub finished-bytes : (b : List ℕ) (ss : List Sym) (q : Out) → Written b ss q → Bytes (encDone q .buf)
 finished-bytes b ss q r = let k = known b ss q r in subst⁻¹ Bytes (buf-is b ss q k) (k .bytes)
@@ -66,11 +68,27 @@ finished-bytes b ss q r = let k = known b ss q r in subst⁻¹ Bytes (buf-is b s
 pub finished-length : (b : List ℕ) (ss : List Sym) (q : Out) → Written b ss q → length (encDone q .buf) ≡ length b
 finished-length b ss q r = let k = known b ss q r in ap length (buf-is b ss q k) ∙ k .len
 
+pub finished-total : (b : List ℕ) (ss : List Sym) (q : Out) → Written b ss q → q .state .total ≤ 8 * length b + 40
+finished-total b ss q r =
+    let k = known b ss q r in
+    let e : q .state .total ≡ wroteAll b ss .total = ap (λ (x : Out). x .state .total) (k .before) in
+    omega (arith, total-bytes (wroteAll b ss) (k .view .fine) (k .finished), k .view .len)
+
 pub finished-opens : (b : List ℕ) (ss : List Sym) (q : Out) → Written b ss q → decOpen (encDone q .buf) .refusal ≡ 0
 finished-opens b ss q r =
     ap (λ (a : Decoded). a .refusal) (opens-reader (encDone q .buf) (omega (arith, finished-length b ss q r, r .short)))
 
--- ---- and reads back
+-- ---- over the definitions, for calls that write or read many symbols at once: a reader of the finished buffer follows the writer, symbol by symbol
+
+pub follows-back : (b : List ℕ) (ss : List Sym) → Bytes b → length b ≤ 1275 → AllAllowed ss → finish (wroteAll b ss) .err ≡ 0
+    → Follows Any (finish (wroteAll b ss) .buf) (opened (finish (wroteAll b ss) .buf)) (openW b) ss
+follows-back b ss y short ok z =
+    let w = wroteAll b ss in
+    let v = written-view b ss ok z in
+    let f = view-finished ss ok w (length b) v z in
+    view-follows ss ok w (length b) v z (bytes-writes ss (openW b) y) (omega (arith, f .len, v .len)) b
+
+-- ---- over the calls: it reads back
 
 -- the core: from any writer w that stands where the symbols lead, however it came there, and is finished without error
 pub reads-view : (c : List ℕ) (ss : List Sym) (q : Out) → Sends (flat (openW c)) ss q
@@ -113,7 +131,7 @@ in-step b ss q r =
     let w = wroteAll b ss in
     let c = finish w .buf in
     let short : length c ≤ 1275 = omega (arith, k .len, r .short) in
-    let f : Follows Any c (opened c) (openW b) ss = view-follows ss (k .allowed) w (length b) (k .view) (k .error) (k .old) short b in
+    let f : Follows Any c (opened c) (openW b) ss = follows-back b ss (r .bytes) (r .short) (k .allowed) (k .error) in
     subst₂ (λ (l : List ℕ) (o : Out). InStep l (decOpen l .state) o ss) (sym (buf-is b ss q k)) (sym (opens b (r .short)))
     (subst⁻¹ (λ (d : Dec). InStep c d (flat (openW b)) ss) (opened-is c short) (in-step-of c ss (opened c) (openW b) q (k .sends) f))
 
