@@ -1,5 +1,5 @@
--- Finishing chooses the fewest top bits that stay within the interval whatever follows, and carries them out in bytes. Part 8 of the argument.
--- Assumes nothing.
+-- Finishing fixes top bits, at most one more than the range has leading zeros, so that what follows cannot leave the interval, and carries them out in
+-- bytes. Part 8 of the argument. Assumes nothing.
 use Prim.Native.Nat.{ℕ, zero, suc, _+_, _-_, _*_, _/_, _%_, _^_, _≤_, _<_}
 use mathlib.Core.Path.{_≡_, refl, sym, ap, _∙_, subst}
 use mathlib.Core.List.{List, _++_}

@@ -3,7 +3,7 @@
 -- The argument, by the parts that the other files name. The coded bytes are a number to the base 256 (1, Digits); a digit that goes out with a carry
 -- changes it as it should, because a carry always finds a held byte below 255 (2, Carry); raw bytes are the same number's low end (3, Back). Symbols
 -- narrow an interval of such numbers (4, Interval), and a writer that has not dropped a byte stands at that interval (5, Progress; 6, Track). A packet
--- within the last interval lies within all before it (7, Within). Finishing fixes the fewest bits that stay within the interval (8, Choose), closes the
+-- within the last interval lies within all before it (7, Within). Finishing fixes bits so that what follows cannot leave the interval (8, Choose), closes the
 -- buffer (9, Close; 10, Finished), and leaves bytes (11, Bytes). The reader stands at the interval too, so it finds the writer's part (12, Stands), and
 -- its window is the raw number (13, RawRead); so it reads one symbol (14, OneRead), and a list (15, ReadBack). Both halves over the definitions are in
 -- 16, Round; 17 to 19, Accepted, Calls and Public, lead from there to the calls.
