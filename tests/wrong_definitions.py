@@ -23,13 +23,11 @@ EDITS = [
     ("left-over bits a byte too low", "Finish.antt",
      "set (r .buf) (length (r .buf) - suc (r .end)) (bitOr (getD (r .buf) (length (r .buf) - suc (r .end)) 0) x)",
      "set (r .buf) (length (r .buf) - suc (suc (r .end))) (bitOr (getD (r .buf) (length (r .buf) - suc (suc (r .end))) 0) x)"),
-    ("left-over bits spoil the last coded byte", "Finish.antt", "(orLast r (x % 2 ^ j) 1)", "(orLast r x (r .err))"),
     ("the reader's bit test is off by one", "Reader.antt", "cond (ltb val (rng / 2 ^ lp)) 1 0", "cond (ltb val (suc (rng / 2 ^ lp))) 1 0"),
     ("the writer's total does not count a turn", "Writer.antt", "(shiftOut (w .front))) (w .total + 8)", "(shiftOut (w .front))) (w .total)"),
     ("a dropped byte is no error", "Room.antt", "end = r .end; err = 1 }", "end = r .end; err = r .err }"),
     ("the middle is not cleared", "Finish.antt", "replicate (length (r .buf) - r .end - r .offs) 0 ++",
      "drop (r .offs) (take (length (r .buf) - r .end) (r .buf)) ++"),
-    ("the reader takes eight bits of the next byte", "Reader.antt", "symOf held y = (256 * held + y) / 2 % 256", "symOf held y = y % 256"),
 ]
 
 
