@@ -26,6 +26,7 @@ pub record Ready (o : Out) : Type 0 where
 -- flushing
 pub record Windowed (o : Out) : Type 0 where
   pub roomy : Roomy o
+  pub err : errOf (o .state .error) ≤ 1
   pub used : o .state .wbits ≤ 32
   pub slim : o .state .window < 2 ^ o .state .wbits
 

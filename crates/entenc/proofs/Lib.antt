@@ -1,0 +1,4 @@
+pub mod Placing
+pub mod Digits
+pub mod Window
+pub mod Parts
