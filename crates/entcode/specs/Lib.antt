@@ -26,3 +26,4 @@ pub mod WriterFacts
 pub mod FlatLaws
 pub mod CoreLaws
 pub mod WritingLaws
+pub mod FinishLaws

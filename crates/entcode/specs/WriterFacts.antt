@@ -48,8 +48,8 @@ pub record Core (o : Out) : Type 0 where
 -- flushing: q is the state d, with m more bits free
 pub record Spare (m : ℕ) (d q : Out) : Type 0 where
   pub is : q ≡ d
+  pub windowed : Windowed q
   pub free : q .state .wbits + m ≤ 32
-  pub slim : q .state .window < 2 ^ q .state .wbits
 
 -- a step from o: q is the state d, ready for the next step, and the total grew by at most n
 pub record Stepped (n : ℕ) (o d q : Out) : Type 0 where

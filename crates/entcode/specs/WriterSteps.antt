@@ -1,11 +1,11 @@
 -- The writer's steps on flat states, which the code's contracts cite: each is the flat form of a step of the definitions. Assumes nothing.
-use Prim.Native.Nat.{ℕ, zero, suc, _+_, _/_}
+use Prim.Native.Nat.{ℕ, zero, suc, _*_, _/_, _%_, _^_}
 use mathlib.Core.List.{List}
 use Rattle.entcode.specs.Front.{unstored, bytesOut, heldNext, runNext}
 use Rattle.entcode.specs.Room.{Room, puts, back}
 use Rattle.entcode.specs.Tail.{Tail, flush1, flush, spare}
 use Rattle.entcode.specs.Writer.{Writer, withFront, shiftW, normW, cutW, rawW}
-use Rattle.entcode.specs.Finish.{bitsOf, spareBits, heldAfter, finBytes, finFront, close}
+use Rattle.entcode.specs.Finish.{heldAfter, finBytes, finFront, leftOver, close}
 use Rattle.entcode.specs.Flat.{Out, asWriter, flat}
 
 -- ---- the front
@@ -69,7 +69,7 @@ appended o n v = flat (rawW (asWriter o) n v)
 
 -- ---- finishing
 
--- all that is not stored goes out; c digits, and then that
+-- all that is not stored goes out
 abbrev pub restW : Writer → Writer
 restW w =
     withFront w
@@ -77,15 +77,16 @@ restW w =
     (puts (w .tail .room) (unstored (w .front .held) (w .front .run)))
     (w .total)
 
-abbrev pub digitsW : ℕ → Writer → Writer
-digitsW zero w = restW w
-digitsW (suc c) w = digitsW c (shiftW w)
-
 unfoldable pub rested : Out → Out
 rested o = flat (restW (asWriter o))
 
-unfoldable pub digitsOut : Out → ℕ → Out
-digitsOut o c = flat (digitsW c (asWriter o))
+-- c digits of the end value v, and then all that is not stored
+abbrev pub digitsW : ℕ → ℕ → Writer → Writer
+digitsW zero v w = restW w
+digitsW (suc c) v w = digitsW c (256 * (v % 2 ^ 23)) (carryW w (v / 2 ^ 23))
+
+unfoldable pub digitsOut : Out → ℕ → ℕ → Out
+digitsOut o v c = flat (digitsW c v (asWriter o))
 
 -- the coded part is finished
 abbrev pub frontW : Writer → Writer
@@ -99,6 +100,10 @@ frontW w =
 unfoldable pub fronted : Out → Out
 fronted o = flat (frontW (asWriter o))
 
--- the middle cleared and the left-over bits stored, where j low bits of the last coded byte are spare
+-- the left-over bits go into the byte below the last raw byte, where j low bits of the last coded byte are spare
+unfoldable pub stowed : Out → ℕ → Out
+stowed o j = flat (withRoom (asWriter o) (leftOver (asWriter o .tail .room) (o .state .window) (o .state .wbits) j))
+
+-- the middle cleared, and that
 unfoldable pub closed : Out → ℕ → Out
 closed o j = flat (withRoom (asWriter o) (close (asWriter o .tail) j))

@@ -1,5 +1,5 @@
 -- Laws of the public calls on a writer: what an open gate and a kept rule give, and what a call's answer says. Assumes nothing.
-use Prim.Native.Nat.{ℕ, zero, suc, _+_, _*_, _^_, _≤_, _<_}
+use Prim.Native.Nat.{ℕ, zero, suc, _^_, _≤_}
 use mathlib.Core.Path.{_≡_, refl, sym, ap, _∙_}
 use mathlib.Core.Bool.{Bool, true, false, _&&_, cond}
 use mathlib.Core.List.{List}
@@ -12,18 +12,16 @@ use lib.Signed.{leZ}
 use Rattle.tests.specs.Both.{and-both, both-and, in-range, range-in}
 use Rattle.tests.specs.Choice.{chosen}
 use Rattle.icdf.specs.RuleLaws.{symbol-accepted}
-use Rattle.refusals.specs.First.{firstOf, first-none}
+use Rattle.refusals.specs.First.{first-none}
 use Rattle.entcode.specs.declared.Encoded.{Encoded}
 use Rattle.entcode.specs.Models.{Model, Sym, bit, raw, num, tab, Allowed}
 use Rattle.entcode.specs.Flat.{heldOf, remOf, errOf, errorOf, Out, asWriter, flat, Fair}
-use Rattle.entcode.specs.FlatLaws.{flat-fair, held-rem, err-error}
-use Rattle.entcode.specs.TailLaws.{Trim}
-use Rattle.entcode.specs.Writer.{Writer, writeSym}
-use Rattle.entcode.specs.WriterLaws.{Firm, FirmNext, firm-write}
+use Rattle.entcode.specs.Writer.{Writer}
+use Rattle.entcode.specs.WriterLaws.{Firm}
 use Rattle.entcode.specs.WriterFacts.{Core}
 use Rattle.entcode.specs.Sound.{windowOk, totalOk, rangeOkW, placesOkW, signsOkW, runOkW, soundW, gateW}
 use Rattle.entcode.specs.Rules.{exponentOk, countOk, numberOk, sayRule}
-use Rattle.entcode.specs.Writing.{Sent, sent, takes, refuses, answered, written, encSym, encDone}
+use Rattle.entcode.specs.Writing.{Sent, sent, takes, refuses, answered, written, encSym}
 
 -- ---- the signed fields
 

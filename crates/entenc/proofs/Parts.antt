@@ -10,7 +10,7 @@ use lib.ListN.{getD}
 use lib.Pow.{shl-exact, shr-mono, pow-mono, pow-pos}
 use Rattle.bitlen.specs.Length.{bitLength}
 use Rattle.bitlen.specs.LengthLaws.{length-most, length-pow}
-use Rattle.icdf.specs.Rule.{Icdf, Writable}
+use Rattle.icdf.specs.Rule.{Icdf}
 use Rattle.icdf.specs.RuleLaws.{entry-below}
 use Rattle.entcode.specs.Models.{bit, num, tab, rawBits, Allowed}
 use Rattle.entcode.specs.Cuts.{upper, lower}

@@ -1,5 +1,6 @@
 // The writer of the range coder (RFC 6716, section 5.1): a state by value beside the buffer. The calls here ask that the state is one that a write
 // may begin with, and check nothing; each hands on what the next one asks.
+ghost use mathlib.Core.Path.{_≡_};
 ghost use Prim.Native.Nat.{suc, _^_, _<_, _≤_};
 ghost use Rattle.icdf.specs.Rule.{Icdf, Writable};
 ghost use Rattle.entcode.specs.Models.{bit, raw, num, tab};
@@ -7,12 +8,19 @@ ghost use Rattle.entcode.specs.Cuts.{upper, lower};
 ghost use Rattle.entcode.specs.Flat.{out};
 ghost use Rattle.entcode.specs.WriterFacts.{Core, Stepped, Wrote};
 ghost use Rattle.entcode.specs.WriterSteps.{cut};
+ghost use Rattle.entcode.specs.Writing.{finished};
 use entcode::Enc;
 use crate::front::keep;
 use crate::tail::append;
+use crate::tail::flush_all;
+use crate::finish::end_bits;
+use crate::finish::round_up;
+use crate::finish::put_digits;
+use crate::finish::close;
 mod room; // room.rt: bytes to the buffer's two ends
 mod front; // front.rt: cuts of the range, and digits
 mod tail; // tail.rt: raw bits
+mod finish; // finish.rt: the end of the coded part and of the raw bits
 
 // A bit that is 1 with probability 1 / 2^lp.
 pub fn ec_enc_bit_logp_run(buf: &mut [u8], w: Enc, v: u32, lp: u32) -> Enc
@@ -92,4 +100,20 @@ pub fn ec_enc_uint_run(buf: &mut [u8], w: Enc, v: u32, ft: u32) -> Enc
     } else {
         keep_part(buf, w, v, ft)
     }
+}
+
+// Finishing: the coded part, the window's bytes, and the bits left over. The window stays in the state as it was.
+pub fn ec_enc_done_run(buf: &mut [u8], w: Enc) -> Enc
+    requires { ⌜ Core (out (now buf) w) ⌝ }
+    ensures { λ r. ⌜ out (now (buf .exit)) r ≡ finished (out (now (buf .entry)) w) ⌝ }
+{
+    let bits = end_bits(w.rng, w.val);
+    let end = round_up(w.val, 31 - bits);
+    let digits = (bits + 7) / 8;
+    let a = put_digits(buf, w, end, digits);
+    let b = flush_all(buf, a);
+    let mut q = close(buf, b, 8 * digits - bits);
+    q.window = w.window;
+    q.wbits = w.wbits;
+    q
 }

@@ -1,7 +1,7 @@
 -- `ec_enc_bit_logp_run` meets its contract: 1 has the top of the range. Assumes nothing.
 use borrow.Author.Needs.{needs}
 use Prim.Native.Nat.{ℕ, _≤_}
-use mathlib.Core.Path.{_≡_, sym, ap, _∙_}
+use mathlib.Core.Path.{sym, ap, _∙_}
 use native.Mathlib.Omega.{arith}
 use Rattle.entcode.specs.CoreLaws.{wrote}
 use Rattle.entcode.specs.Flat.{out}

@@ -1,11 +1,9 @@
 -- `keep_part` meets its contract: the ends that it computes are those of the part. Assumes nothing.
 use borrow.Author.Needs.{needs}
 use Prim.Native.Nat.{suc}
-use mathlib.Core.Path.{_≡_}
 use native.Mathlib.Omega.{arith}
 use Rattle.entcode.specs.CutLaws.{CutOk}
 use Rattle.entcode.specs.Cuts.{upper, lower}
-use Rattle.entcode.specs.Flat.{out}
 use Rattle.entenc.proofs.Parts.{part-lower, first-upper, later-upper, part-cut, ends-cut, ends-stepped}
 use Rattle.entenc.proofs.keep_part.Statement.{statement}
 use Rattle.entenc.proofs.keep_part.Tie as tie

@@ -4,7 +4,7 @@ use Prim.Native.Nat.{ℕ, _+_, _-_}
 use mathlib.Core.Path.{_≡_, ap, _∙_}
 use native.Mathlib.Omega.{arith}
 use Rattle.entcode.specs.CoreLaws.{cut-step}
-use Rattle.entcode.specs.Flat.{Out, out}
+use Rattle.entcode.specs.Flat.{out}
 use Rattle.entcode.specs.WriterFacts.{atTurn}
 use Rattle.entcode.specs.WriterSteps.{settled}
 use Rattle.entenc.proofs.Digits.{cut-is}

@@ -2,7 +2,6 @@
 use borrow.Author.Needs.{needs}
 use Prim.Native.Nat.{ℕ, _+_, _*_, _^_}
 use mathlib.Core.Path.{_≡_, ap, _∙_}
-use native.Mathlib.Omega.{arith}
 use Rattle.entcode.specs.CoreLaws.{append-step}
 use Rattle.entcode.specs.Flat.{Out, out}
 use Rattle.entcode.specs.FlatLaws.{append-is}
@@ -39,7 +38,7 @@ returns c =
     let f = c .before .before .before .before .before .spare-for in
     let a = f .result in
     let e : c .before .wrapping-add-u32 .result ≡ a .window + v * 2 ^ a .wbits
-    = c .before .wrapping-add-u32 .ensures ∙ window-sum (a .window) v (a .wbits) n (f .ensures .slim) (b .pre .1 .1 .2) (f .ensures .free) in
+    = c .before .wrapping-add-u32 .ensures ∙ window-sum (a .window) v (a .wbits) n (f .ensures .windowed .slim) (b .pre .1 .1 .2) (f .ensures .free) in
     append-step o _ n v (b .pre .0) (b .pre .1 .0) (b .pre .1 .1 .1) (b .pre .1 .1 .2)
     (ap (λ (x : ℕ). atWindow (out (f .last .0) a) x (a .wbits + n) (w .total + n)) e
     ∙ ap (λ (p : Out). atWindow p (p .state .window + v * 2 ^ p .state .wbits) (p .state .wbits + n) (w .total + n)) (f .ensures .is)

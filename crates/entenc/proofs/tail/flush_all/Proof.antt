@@ -51,7 +51,7 @@ returns c =
     record {
       is = sym (flushed-done (out (l .buf) (l .w)) (l .inv .1 .roomy .fair) (c .if1 .left)) ∙ l .inv .0;
       free = omega (arith, c .if1 .left);
-      slim = l .inv .1 .slim;
+      windowed = l .inv .1;
     }
 
 pub flush-all-spec : {M : Type 1} → statement M

@@ -24,14 +24,14 @@ returns c =
     record {
       is = f .is ∙ spared-full o (b .args .n) (c .before .before .before .before .if1 .taken);
       free = omega (arith, f .free, b .pre .1);
-      slim = f .slim;
+      windowed = f .windowed;
     }
 
 returns-2 : tie.Need-returns-2
 returns-2 c =
     let b = c .before .before .before in
     let o = out (b .args .buf .now) (b .args .w) in
-    record { is = spared-free o (b .args .n) (b .pre .0 .roomy .fair) (c .if1 .left); free = c .if1 .left; slim = b .pre .0 .slim }
+    record { is = spared-free o (b .args .n) (b .pre .0 .roomy .fair) (c .if1 .left); free = c .if1 .left; windowed = b .pre .0 }
 
 pub spare-for-spec : {M : Type 1} → statement M
 spare-for-spec = tie.close (tie.spec add-if1 flush-all-requires same-length returns returns-2)
