@@ -27,3 +27,7 @@ pub mod FlatLaws
 pub mod CoreLaws
 pub mod WritingLaws
 pub mod FinishLaws
+pub mod ErrorLaws
+pub mod SoundLaws
+pub mod StoredLaws
+pub mod Cases

@@ -12,16 +12,17 @@ use lib.Signed.{leZ}
 use Rattle.tests.specs.Both.{and-both, both-and, in-range, range-in}
 use Rattle.tests.specs.Choice.{chosen}
 use Rattle.icdf.specs.RuleLaws.{symbol-accepted}
-use Rattle.refusals.specs.First.{first-none}
+use Rattle.refusals.specs.First.{firstOf, first-none}
 use Rattle.entcode.specs.declared.Encoded.{Encoded}
 use Rattle.entcode.specs.Models.{Model, Sym, bit, raw, num, tab, Allowed}
+use Rattle.entcode.specs.Cuts.{account}
 use Rattle.entcode.specs.Flat.{heldOf, remOf, errOf, errorOf, Out, asWriter, flat, Fair}
 use Rattle.entcode.specs.Writer.{Writer}
 use Rattle.entcode.specs.WriterLaws.{Firm}
 use Rattle.entcode.specs.WriterFacts.{Core}
 use Rattle.entcode.specs.Sound.{windowOk, totalOk, rangeOkW, placesOkW, signsOkW, runOkW, soundW, gateW}
 use Rattle.entcode.specs.Rules.{exponentOk, countOk, numberOk, sayRule}
-use Rattle.entcode.specs.Writing.{Sent, sent, takes, refuses, answered, written, encSym}
+use Rattle.entcode.specs.Writing.{Sent, sent, takes, refuses, answered, written, finished, encSym, encDone, encTell}
 
 -- ---- the signed fields
 
@@ -207,3 +208,44 @@ unfolding encSym
 write-accepted o s e =
     let n = first-none (gateW (o .buf) (o .state)) (sayRule (s .model) (s .value)) (answered-none _ o 0 (written o s) e) in
     record { entry = gate-open o (n .0); allowed = say-open (s .model) (s .value) (n .1) }
+
+-- ---- the number n that a call computed first decides: it runs, or it is refused
+
+module _ (o : Out) (s : Sym) (n : ℕ) (e : n ≡ firstOf (gateW (o .buf) (o .state)) (sayRule (s .model) (s .value))) where
+  pub call-runs : n ≡ 0 → Accepted o s
+  call-runs z =
+      let p = first-none (gateW (o .buf) (o .state)) (sayRule (s .model) (s .value)) (sym e ∙ z) in
+      record { entry = gate-open o (p .0); allowed = say-open (s .model) (s .value) (p .1) }
+
+  pub call-takes : (q : Out) → n ≡ 0 → q ≡ written o s → takes 0 q ≡ encSym o s
+  unfolding encSym
+  call-takes q z k = ap (takes 0) k ∙ answered-ok _ o 0 (written o s) (sym e ∙ z)
+
+  pub call-refuses : (n ≡ 0 → ⊥) → refuses n o ≡ encSym o s
+  unfolding encSym
+  call-refuses h = ap (λ (m : ℕ). refuses m o) e ∙ answered-no _ o 0 (written o s) (λ z. h (e ∙ z))
+
+-- finishing and the account have the gate alone
+module _ (o : Out) (n : ℕ) (e : n ≡ gateW (o .buf) (o .state)) where
+  pub gate-runs : n ≡ 0 → Open o
+  gate-runs z = gate-open o (sym e ∙ z)
+
+  pub done-takes : (q : Out) → n ≡ 0 → q ≡ finished o → takes 0 q ≡ encDone o
+  unfolding encDone
+  done-takes q z k = ap (takes 0) k ∙ answered-ok _ o 0 (finished o) (sym e ∙ z)
+
+  pub done-refuses : (n ≡ 0 → ⊥) → refuses n o ≡ encDone o
+  unfolding encDone
+  done-refuses h = ap (λ (m : ℕ). refuses m o) e ∙ answered-no _ o 0 (finished o) (λ z. h (e ∙ z))
+
+  pub tell-takes : (v : ℕ) → n ≡ 0 → v ≡ account (o .state .total) (o .state .rng) → takes v o ≡ encTell o
+  unfolding encTell
+  tell-takes v z k = ap (λ (x : ℕ). takes x o) k ∙ answered-ok _ o _ o (sym e ∙ z)
+
+  pub tell-refuses : (n ≡ 0 → ⊥) → refuses n o ≡ encTell o
+  unfolding encTell
+  tell-refuses h = ap (λ (m : ℕ). refuses m o) e ∙ answered-no _ o _ o (λ z. h (e ∙ z))
+
+pub done-accepted : (o : Out) → encDone o .answer .refusal ≡ 0 → Open o
+unfolding encDone
+done-accepted o e = gate-open o (answered-none _ o 0 (finished o) e)
