@@ -1,6 +1,6 @@
 -- `gate` meets its contract: each return has the tests that led to it. Assumes nothing.
 use borrow.Author.Needs.{needs}
-use mathlib.Core.Path.{_≡_, _∙_, sym}
+use mathlib.Core.Path.{_∙_, sym}
 use borrow.Author.Tests.{le-leb, lt-leb}
 use Rattle.entcode.specs.Sound.{gateW}
 use Rattle.enccalls.proofs.gate.gate.Statement.{statement}

@@ -1,6 +1,6 @@
 -- `window_ok` meets its contract: 1 << wbits is 2^wbits. Assumes nothing.
 use borrow.Author.Needs.{needs}
-use Prim.Native.Nat.{ℕ, _+_, _*_, _%_, _^_, _≤_}
+use Prim.Native.Nat.{_*_, _%_, _^_, _≤_}
 use mathlib.Core.Path.{_≡_, _∙_}
 use native.Mathlib.Omega.{arith}
 use native.Mathlib.Nat.{one-mul}
@@ -9,12 +9,6 @@ use lib.Dec.{lit<}
 use lib.Pow.{shl-exact}
 use Rattle.enccalls.proofs.gate.window_ok.Statement.{statement}
 use Rattle.enccalls.proofs.gate.window_ok.Tie as tie
-
-cast-result : tie.Need-cast-result
-cast-result c = search needs
-
-cast-result-2 : tie.Need-cast-result-2
-cast-result-2 c = search needs
 
 shl-result : tie.Need-shl-result
 shl-result c = search needs
@@ -30,4 +24,4 @@ returns-2 : tie.Need-returns-2
 returns-2 c = rw (lt-leb _ _ (c .if1 .left))
 
 pub window-ok-spec : {M : Type 1} → statement M
-window-ok-spec = tie.close (tie.spec cast-result cast-result-2 shl-result returns returns-2)
+window-ok-spec = tie.close (tie.spec shl-result returns returns-2)
