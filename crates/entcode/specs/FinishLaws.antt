@@ -35,7 +35,7 @@ pub zeros : (R : ℕ) → 2 ^ 23 < R → R ≤ 2 ^ 31 → Zeros R (leadingZeros 
 zeros R h m = go (leading-top 32 R (omega arith) (omega arith))
   where
     go : (j : ℕ) × (leadingZeros 32 R + suc j ≡ 32) × (2 ^ j ≤ R) × (R < 2 ^ suc j) → Zeros R (leadingZeros 32 R)
-    go (j , e , a , b) =
+    go (j, e, a, b) =
         let q : 31 - leadingZeros 32 R ≡ j = omega arith in
         let c : cell (leadingZeros 32 R) ≡ 2 ^ j = ap (λ (k : ℕ). 2 ^ k) q in
         let few : 23 ≤ j = by-lt j 23

@@ -30,4 +30,4 @@ pub mod FinishLaws
 pub mod ErrorLaws
 pub mod SoundLaws
 pub mod StoredLaws
-pub mod Cases
+pub mod WriterCases

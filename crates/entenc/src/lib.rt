@@ -1,119 +1,185 @@
-// The writer of the range coder (RFC 6716, section 5.1): a state by value beside the buffer. The calls here ask that the state is one that a write
-// may begin with, and check nothing; each hands on what the next one asks.
+// The public calls on a writer (document 01): each checks the state, then its own numbers, and runs only if nothing is refused. A refused call
+// answers its number and value 0, hands the state back as it was, and touches no byte of the buffer. Names as in the crate's entenc.rs.
 ghost use mathlib.Core.Path.{_≡_};
-ghost use Prim.Native.Nat.{suc, _^_, _<_, _≤_};
-ghost use Rattle.icdf.specs.Rule.{Icdf, Writable};
 ghost use Rattle.entcode.specs.Models.{bit, raw, num, tab};
-ghost use Rattle.entcode.specs.Cuts.{upper, lower};
 ghost use Rattle.entcode.specs.Flat.{out};
-ghost use Rattle.entcode.specs.WriterFacts.{Core, Stepped, Wrote};
-ghost use Rattle.entcode.specs.WriterSteps.{cut};
-ghost use Rattle.entcode.specs.Writing.{finished};
+ghost use Rattle.entcode.specs.Writing.{sent, encOpen, encTell, encSym, encDone};
+use crate::gate::gate;
+use crate::rules::bit_rule;
+use crate::rules::bits_rule;
+use crate::rules::uint_rule;
 use entcode::Enc;
-use crate::front::keep;
-use crate::tail::append;
-use crate::tail::flush_all;
-use crate::finish::end_bits;
-use crate::finish::round_up;
-use crate::finish::put_digits;
-use crate::finish::close;
-mod room; // room.rt: bytes to the buffer's two ends
-mod front; // front.rt: cuts of the range, and digits
-mod tail; // tail.rt: raw bits
-mod finish; // finish.rt: the end of the coded part and of the raw bits
+use entcode::Encoded;
+
+pub mod gate; // gate.rt: refusals 1 to 3
+mod rules; // rules.rt: refusals 4 and 8
+
+// A fresh writer; a refused opening hands back the all-zero state.
+pub fn ec_enc_init(buf: &[u8]) -> Encoded
+    ensures { λ a. ⌜ sent (now (buf .entry)) a ≡ encOpen (now (buf .entry)) ⌝ }
+{
+    if buf.len() <= 1275 {
+        let n = buf.len() as u32;
+        Encoded {
+            refusal: 0,
+            value: 0,
+            state: Enc {
+                storage: n,
+                endoffs: 0,
+                window: 0,
+                wbits: 0,
+                total: 33,
+                offs: 0,
+                rng: 0x8000_0000,
+                val: 0,
+                ext: 0,
+                rem: -1,
+                error: 0,
+            },
+        }
+    } else {
+        Encoded {
+            refusal: 1,
+            value: 0,
+            state: Enc {
+                storage: 0,
+                endoffs: 0,
+                window: 0,
+                wbits: 0,
+                total: 0,
+                offs: 0,
+                rng: 0,
+                val: 0,
+                ext: 0,
+                rem: 0,
+                error: 0,
+            },
+        }
+    }
+}
+
+// The account: bits taken in all, less the bit length of the range.
+pub fn ec_tell(buf: &[u8], w: Enc) -> Encoded
+    ensures { λ a. ⌜ sent (now (buf .entry)) a ≡ encTell (out (now (buf .entry)) w) ⌝ }
+{
+    let n = gate(buf, w);
+    if n == 0 {
+        let used = w.total - bitlen::ec_ilog(w.rng);
+        Encoded {
+            refusal: 0,
+            value: used,
+            state: w,
+        }
+    } else {
+        Encoded {
+            refusal: n,
+            value: 0,
+            state: w,
+        }
+    }
+}
 
 // A bit that is 1 with probability 1 / 2^lp.
-pub fn ec_enc_bit_logp_run(buf: &mut [u8], w: Enc, v: u32, lp: u32) -> Enc
-    requires { ⌜ Core (out (now buf) w) ⌝ }
-    requires { ⌜ w .total ≤ 2 ^ 30 ⌝ }
-    requires { ⌜ (1 ≤ lp) × (lp ≤ 15) × (v ≤ 1) ⌝ }
-    ensures { λ r. ⌜ Wrote (out (now (buf .entry)) w) (record { model = bit lp; value = v }) (out (now (buf .exit)) r) ⌝ }
+pub fn ec_enc_bit_logp(buf: &mut [u8], w: Enc, v: u32, lp: u32) -> Encoded
+    ensures { λ a. ⌜ sent (now (buf .exit)) a ≡ encSym (out (now (buf .entry)) w) (record { model = bit lp; value = v }) ⌝ }
 {
-    let part = w.rng >> lp;
-    if v == 0 {
-        keep(buf, w, w.rng, part)
+    let n = refusals::first_refusal(gate(buf, w), bit_rule(v, lp));
+    if n == 0 {
+        let q = entenc_run::ec_enc_bit_logp_run(buf, w, v, lp);
+        Encoded {
+            refusal: 0,
+            value: 0,
+            state: q,
+        }
     } else {
-        keep(buf, w, part, 0)
+        Encoded {
+            refusal: n,
+            value: 0,
+            state: w,
+        }
     }
 }
 
 // Symbol k of an inverse table.
-pub fn ec_enc_icdf_run(buf: &mut [u8], w: Enc, k: u32, table: &[u8], scale: u32) -> Enc
-    requires { ⌜ Core (out (now buf) w) ⌝ }
-    requires { ⌜ w .total ≤ 2 ^ 30 ⌝ }
-    requires { ⌜ Icdf scale (now table) × Writable scale (now table) k ⌝ }
-    ensures { λ r. ⌜ Wrote (out (now (buf .entry)) w) (record { model = tab scale (now (table .entry)); value = k }) (out (now (buf .exit)) r) ⌝ }
+pub fn ec_enc_icdf(buf: &mut [u8], w: Enc, k: u32, table: &[u8], scale: u32) -> Encoded
+    ensures { λ a. ⌜ sent (now (buf .exit)) a ≡ encSym (out (now (buf .entry)) w) (record { model = tab scale (now (table .entry)); value = k }) ⌝ }
 {
-    let unit = w.rng >> scale;
-    let i = k as usize;
-    let low = unit * (table[i] as u32);
-    if k == 0 {
-        keep(buf, w, w.rng, low)
+    let n = refusals::first_refusal(gate(buf, w), icdf::symbol_rule(table, scale, k));
+    if n == 0 {
+        let q = entenc_run::ec_enc_icdf_run(buf, w, k, table, scale);
+        Encoded {
+            refusal: 0,
+            value: 0,
+            state: q,
+        }
     } else {
-        let j = i - 1;
-        let top = unit * (table[j] as u32);
-        keep(buf, w, top, low)
+        Encoded {
+            refusal: n,
+            value: 0,
+            state: w,
+        }
     }
 }
 
-// n raw bits.
-pub fn ec_enc_bits_run(buf: &mut [u8], w: Enc, v: u32, n: u32) -> Enc
-    requires { ⌜ Core (out (now buf) w) ⌝ }
-    requires { ⌜ w .total ≤ 2 ^ 30 ⌝ }
-    requires { ⌜ (1 ≤ n) × (n ≤ 25) × (v < 2 ^ n) ⌝ }
-    ensures { λ r. ⌜ Wrote (out (now (buf .entry)) w) (record { model = raw n; value = v }) (out (now (buf .exit)) r) ⌝ }
+// A number below ft.
+pub fn ec_enc_uint(buf: &mut [u8], w: Enc, v: u32, ft: u32) -> Encoded
+    ensures { λ a. ⌜ sent (now (buf .exit)) a ≡ encSym (out (now (buf .entry)) w) (record { model = num ft; value = v }) ⌝ }
 {
-    append(buf, w, v, n)
-}
-
-// Part c of ft equal parts of the range, counted from its bottom.
-fn keep_part(buf: &mut [u8], w: Enc, c: u32, ft: u32) -> Enc
-    requires { ⌜ Core (out (now buf) w) ⌝ }
-    requires { ⌜ w .total ≤ 2 ^ 30 ⌝ }
-    requires { ⌜ (c < ft) × (ft ≤ 256) ⌝ }
-    ensures { λ r. ⌜ Stepped 16 (out (now (buf .entry)) w) (cut (out (now (buf .entry)) w) (upper (w .rng) c ft) (lower (w .rng) (suc c) ft)) (out (now (buf .exit)) r) ⌝ }
-{
-    let unit = w.rng / ft;
-    let rest = ft - c;
-    let low = unit * (rest - 1);
-    if c == 0 {
-        keep(buf, w, w.rng, low)
+    let n = refusals::first_refusal(gate(buf, w), uint_rule(v, ft));
+    if n == 0 {
+        let q = entenc_run::ec_enc_uint_run(buf, w, v, ft);
+        Encoded {
+            refusal: 0,
+            value: 0,
+            state: q,
+        }
     } else {
-        keep(buf, w, unit * rest, low)
+        Encoded {
+            refusal: n,
+            value: 0,
+            state: w,
+        }
     }
 }
 
-// A number below ft: one of at most 256 equal parts, and the bits below the first eight raw.
-pub fn ec_enc_uint_run(buf: &mut [u8], w: Enc, v: u32, ft: u32) -> Enc
-    requires { ⌜ Core (out (now buf) w) ⌝ }
-    requires { ⌜ w .total ≤ 2 ^ 30 ⌝ }
-    requires { ⌜ (2 ≤ ft) × (v < ft) ⌝ }
-    ensures { λ r. ⌜ Wrote (out (now (buf .entry)) w) (record { model = num ft; value = v }) (out (now (buf .exit)) r) ⌝ }
+// The bits of v, raw, at the buffer's end.
+pub fn ec_enc_bits(buf: &mut [u8], w: Enc, v: u32, bits: u32) -> Encoded
+    ensures { λ a. ⌜ sent (now (buf .exit)) a ≡ encSym (out (now (buf .entry)) w) (record { model = raw bits; value = v }) ⌝ }
 {
-    let last = ft - 1;
-    let digits = bitlen::ec_ilog(last);
-    if 8 < digits {
-        let n = digits - 8;
-        let parts = (last >> n) + 1;
-        let q = keep_part(buf, w, v >> n, parts);
-        append(buf, q, v % (1u32 << n), n)
+    let n = refusals::first_refusal(gate(buf, w), bits_rule(v, bits));
+    if n == 0 {
+        let q = entenc_run::ec_enc_bits_run(buf, w, v, bits);
+        Encoded {
+            refusal: 0,
+            value: 0,
+            state: q,
+        }
     } else {
-        keep_part(buf, w, v, ft)
+        Encoded {
+            refusal: n,
+            value: 0,
+            state: w,
+        }
     }
 }
 
-// Finishing: the coded part, the window's bytes, and the bits left over. The window stays in the state as it was.
-pub fn ec_enc_done_run(buf: &mut [u8], w: Enc) -> Enc
-    requires { ⌜ Core (out (now buf) w) ⌝ }
-    ensures { λ r. ⌜ out (now (buf .exit)) r ≡ finished (out (now (buf .entry)) w) ⌝ }
+// Finishing.
+pub fn ec_enc_done(buf: &mut [u8], w: Enc) -> Encoded
+    ensures { λ a. ⌜ sent (now (buf .exit)) a ≡ encDone (out (now (buf .entry)) w) ⌝ }
 {
-    let bits = end_bits(w.rng, w.val);
-    let end = round_up(w.val, 31 - bits);
-    let digits = (bits + 7) / 8;
-    let a = put_digits(buf, w, end, digits);
-    let b = flush_all(buf, a);
-    let mut q = close(buf, b, 8 * digits - bits);
-    q.window = w.window;
-    q.wbits = w.wbits;
-    q
+    let n = gate(buf, w);
+    if n == 0 {
+        let q = entenc_run::ec_enc_done_run(buf, w);
+        Encoded {
+            refusal: 0,
+            value: 0,
+            state: q,
+        }
+    } else {
+        Encoded {
+            refusal: n,
+            value: 0,
+            state: w,
+        }
+    }
 }
