@@ -1,17 +1,10 @@
 -- `bits_rule` meets its contract: each return has the tests that led to it. Assumes nothing.
-use Prim.Native.Nat.{ℕ, _*_, _%_, _^_, _≤_}
-use mathlib.Core.Path.{_≡_, _∙_}
 use native.Mathlib.Omega.{arith}
-use native.Mathlib.Nat.{one-mul}
-use lib.Dec.{lit<}
-use lib.Pow.{shl-exact}
 use borrow.Author.Tests.{lt-ltb, le-ltb}
 use Rattle.tests.specs.Both.{in-range}
+use Rattle.entenc_run.proofs.Parts.{one-shl}
 use Rattle.entenc.proofs.rules.bits_rule.Statement.{statement}
 use Rattle.entenc.proofs.rules.bits_rule.Tie as tie
-
-one-shl : (n : ℕ) → n ≤ 25 → 1 * 2 ^ n % 2 ^ 32 ≡ 2 ^ n
-one-shl n h = shl-exact 1 n 32 (lit< tt) (omega arith) ∙ one-mul (2 ^ n)
 
 shl-if2 : tie.Need-shl-if2
 shl-if2 c = omega (arith, in-range 1 25 (c .before .args .n) (c .if1 .taken) .1)
@@ -19,13 +12,13 @@ shl-if2 c = omega (arith, in-range 1 25 (c .before .args .n) (c .if1 .taken) .1)
 returns : tie.Need-returns
 returns c =
     let n = c .before .before .args .n in
-    let e = one-shl n (in-range 1 25 n (c .before .if1 .taken) .1) in
+    let e = one-shl n (omega (arith, in-range 1 25 n (c .before .if1 .taken) .1)) in
     rw (c .before .if1 .taken, lt-ltb _ _ (rw e at (c .if2 .taken)))
 
 returns-2 : tie.Need-returns-2
 returns-2 c =
     let n = c .before .before .args .n in
-    let e = one-shl n (in-range 1 25 n (c .before .if1 .taken) .1) in
+    let e = one-shl n (omega (arith, in-range 1 25 n (c .before .if1 .taken) .1)) in
     rw (c .before .if1 .taken, le-ltb _ _ (rw e at (c .if2 .left)))
 
 returns-3 : tie.Need-returns-3

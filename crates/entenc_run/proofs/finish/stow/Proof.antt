@@ -21,6 +21,10 @@ mask c = one-shl (c .args .j) (omega (arith, c .pre .1 .1))
 few : (c : tie.Start) → 2 ^ c .args .j ≤ 2 ^ 7
 few c = pow-mono {i = c .args .j} {j = 7} (c .pre .1 .1)
 
+-- a small number above 0 is above 0 in 32 bits
+some-left : (x : ℕ) → 1 ≤ x → x ≤ 256 → 0 < x % 2 ^ 32
+some-left x a b = omega arith
+
 -- fewer than eight bits wait
 waiting : (c : tie.Start) → c .args .w .window < 2 ^ 7
 waiting c =
@@ -46,7 +50,7 @@ shl-x : tie.Need-shl-x
 shl-x c = search needs
 
 rem-x : tie.Need-rem-x
-rem-x c = let b = c .before .before .before .before .before .before .before .before .before .before in omega (arith, few b, pow-pos (b .args .j))
+rem-x c = let b = c .before .before .before .before .before .before .before .before .before .before in some-left _ (omega (arith, pow-pos (b .args .j))) (omega (arith, few b))
 
 cast-buf : tie.Need-cast-buf
 cast-buf c = record { fits = lt-of-le-of-lt (mod-le _ _) (omega (arith, waiting (c .before .before .before .before .before .before .before .before .before .before))) }
