@@ -52,13 +52,15 @@ pub trait Sink<K: Kind> {
         state: K::State,
         ask: K::Ask<'_>,
     ) -> Result<Answer<K::State>, String>;
+
+    fn counters(&self) -> &Counters<K>;
 }
 
 /// Two sides, and what was counted of the calls on which they agree.
 pub struct Pair<K: Kind> {
-    pub ours: Side<K>,
-    pub theirs: Side<K>,
-    pub counters: Counters<K>,
+    ours: Side<K>,
+    theirs: Side<K>,
+    counters: Counters<K>,
     // One byte more than any packet that is accepted.
     our_bytes: [u8; LONGEST + 1],
     their_bytes: [u8; LONGEST + 1],
@@ -98,5 +100,9 @@ impl<K: Kind> Sink<K> for Pair<K> {
         bytes.copy_from_slice(our_bytes);
         self.counters.count(bytes.len(), &state, ask, &ours);
         Ok(ours)
+    }
+
+    fn counters(&self) -> &Counters<K> {
+        &self.counters
     }
 }

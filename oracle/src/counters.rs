@@ -43,10 +43,6 @@ impl<K: Kind> Counters<K> {
         self.answers.iter().flatten().sum()
     }
 
-    pub fn accepted(&self) -> u64 {
-        self.answers.iter().map(|answers| answers[0]).sum()
-    }
-
     /// One line for each call and one for the ways.
     pub fn lines(&self) -> Vec<String> {
         let calls = K::CALLS.iter().zip(&self.answers);

@@ -15,23 +15,14 @@ pub const SOUND_TOTALS: std::ops::RangeInclusive<u32> = 33..=1_100_000;
 
 /// The number that refuses a call on a reader, or 0.
 pub fn reader_refusal(packet: &[u8], reader: &Reader, ask: Ask) -> u32 {
+    let length = packet.len();
     match ask {
-        Ask::Open => first(&[(1, packet.len() > LONGEST)]),
-        Ask::Account => gate(
-            packet.len(),
-            sound_reader(packet.len(), reader),
-            reader.nbits_total,
-        ),
-        Ask::Read(model) => {
-            match gate(
-                packet.len(),
-                sound_reader(packet.len(), reader),
-                reader.nbits_total,
-            ) {
-                0 => model_refusal(model),
-                refusal => refusal,
-            }
-        }
+        Ask::Open => first(&[(1, length > LONGEST)]),
+        Ask::Account => gate(length, sound_reader(length, reader), reader.nbits_total),
+        Ask::Read(model) => match gate(length, sound_reader(length, reader), reader.nbits_total) {
+            0 => model_refusal(model),
+            refusal => refusal,
+        },
     }
 }
 

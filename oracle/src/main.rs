@@ -1,20 +1,22 @@
 //! Holds our calls and tables to the crate's and to libopus's: a line for each comparison that came
 //! out equal, or the first difference and status 1.
 //!
-//! ORACLE_SEED picks the calls at random. `overflow`, built with overflow checks, holds that no
-//! accepted call overflows in the crate.
+//! ORACLE_SEED picks the calls at random. `record FOLDER` writes the recorded answers anew;
+//! `overflow`, built with overflow checks, holds that no accepted call overflows in the crate.
 
-use oracle::reader::hold;
+use oracle::reader::{hold, record};
 use oracle::tables;
-use std::env;
+use std::path::Path;
 use std::process::ExitCode;
+use std::{env, fs};
 
 fn main() -> ExitCode {
     let words: Vec<String> = env::args().skip(1).collect();
     let outcome = match words.iter().map(String::as_str).collect::<Vec<_>>()[..] {
         [] => compare(),
         ["overflow"] => overflow(),
-        _ => Err("usage: oracle [overflow]".to_string()),
+        ["record", folder] => write_record(Path::new(folder)),
+        _ => Err("usage: oracle [overflow | record FOLDER]".to_string()),
     };
     match outcome {
         Ok(()) => ExitCode::SUCCESS,
@@ -29,13 +31,14 @@ fn compare() -> Result<(), String> {
     let seed = seed()?;
     tables::hold_all().map_err(|e| format!("tables: {e}"))?;
     println!("reader: seed {seed}");
-    hold::to_the_crate(seed, 1).map_err(|e| format!("reader: {e}"))?;
-    to_libopus(seed).map_err(|e| format!("reader, libopus: {e}"))
+    hold::to_the_crate(seed).map_err(|e| format!("reader: {e}"))?;
+    to_libopus(seed).map_err(|e| format!("reader, libopus: {e}"))?;
+    read_record().map_err(|e| format!("record: {e}"))
 }
 
 #[cfg(libopus)]
 fn to_libopus(seed: u64) -> Result<(), String> {
-    hold::to_libopus(seed, 4)
+    hold::to_libopus(seed)
 }
 
 #[cfg(not(libopus))]
@@ -58,4 +61,36 @@ fn seed() -> Result<u64, String> {
         Ok(seed) => seed.parse().map_err(|e| format!("ORACLE_SEED: {e}")),
         Err(_) => Ok(1),
     }
+}
+
+// ---- the recorded answers
+
+fn write_record(folder: &Path) -> Result<(), String> {
+    let files = record::files()?;
+    let write = |name, bytes: &[u8]| {
+        fs::write(folder.join(name), bytes).map_err(|e| format!("record: {name}: {e}"))
+    };
+    write("stdin", &files.stdin)?;
+    write("stdout", files.stdout.as_bytes())
+}
+
+/// That the files in the tree are what the crate answers today.
+fn read_record() -> Result<(), String> {
+    let folder = Path::new(env!("CARGO_MANIFEST_DIR")).join("../crates/reader_cases");
+    let files = record::files()?;
+    let same = |name: &str, bytes: &[u8]| match fs::read(folder.join(name)) {
+        Ok(found) if found == bytes => Ok(()),
+        Ok(found) => {
+            let place = found.iter().zip(bytes).take_while(|(a, b)| a == b).count();
+            Err(format!(
+                "{name} DIFFERS from what is recorded today, from byte {place} on"
+            ))
+        }
+        Err(e) => Err(format!("{name}: {e}")),
+    };
+    same("stdin", &files.stdin)?;
+    same("stdout", files.stdout.as_bytes())?;
+    let all = files.stdout.lines().last().unwrap_or_default();
+    println!("record: crates/reader_cases has the crate's answers of today: {all}");
+    Ok(())
 }

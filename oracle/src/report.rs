@@ -21,7 +21,8 @@ pub fn difference<K: Kind>(
         format!("{} bytes: {}", bytes.len(), hex(bytes)),
     ];
     if bytes.len() > SHOWN {
-        for place in K::places(&state).map(|place| place.min(bytes.len())) {
+        let places = K::places(&state).into_iter();
+        for place in places.filter(|&place| place < bytes.len()) {
             lines.push(format!("from place {place}: {}", hex(&bytes[place..])));
         }
     }

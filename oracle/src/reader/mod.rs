@@ -4,6 +4,7 @@ pub mod hold;
 #[cfg(libopus)]
 pub mod libopus;
 pub mod plans;
+pub mod record;
 pub mod sides;
 mod states;
 
