@@ -4,9 +4,17 @@
 
 include!(concat!(env!("OUT_DIR"), "/unopus.rs"));
 
+pub mod compare;
+pub mod counters;
+pub mod domain;
 #[cfg(libopus)]
 pub mod libopus;
+pub mod models;
 pub mod ours;
+pub mod reader;
+pub mod report;
+pub mod rng;
 pub mod row;
 pub mod shim;
+pub mod tables;
 pub mod unopus;
