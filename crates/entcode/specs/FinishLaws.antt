@@ -52,8 +52,9 @@ cell-half l h =
 
 -- ---- enough
 
--- l bits hold: whatever the bits below them are, the number stays in [n, n + R)
+-- l bits hold: whatever the bits below them are, the number stays in [n, n + R); and they are at most one more than the range has leading zeros
 pub record Enough (R n l : ℕ) : Type 0 where
+  pub most : l ≤ leadingZeros 32 R + 1
   pub few : l ≤ 9
   pub low : n ≤ roundUp n (cell l)
   pub high : roundUp n (cell l) + cell l ≤ n + R
@@ -65,8 +66,8 @@ bits-enough R n h m =
     chosen-lt (Enough R n) (n + R) (roundUp n (cell l) + cell l)
     (λ t. let e : cell l ≡ 2 * cell (suc l) = cell-half l (omega (arith, z .few)) in
     let r = round-up n (cell (suc l)) (pow-pos (31 - suc l)) in
-    record { few = omega (arith, z .few); low = r .0; high = omega (arith, z .inside, r .1) })
-    (λ t. record { few = omega (arith, z .few); low = round-up n (cell l) (z .some) .0; high = t })
+    record { most = omega arith; few = omega (arith, z .few); low = r .0; high = omega (arith, z .inside, r .1) })
+    (λ t. record { most = omega arith; few = omega (arith, z .few); low = round-up n (cell l) (z .some) .0; high = t })
 
 -- the end value with any low bits x
 pub end-inside : (R n x : ℕ) → 2 ^ 23 < R → R ≤ 2 ^ 31 → x < cell (bitsOf R n) → (n ≤ endOf R n + x) × (endOf R n + x < n + R)

@@ -11,17 +11,11 @@ use lib.Pow.{pow-add, pow-pos, pow-mono}
 use Rattle.tests.specs.Choice.{by-lt, chosen-lt}
 use Rattle.entcode.specs.Front.{Front, unstored, shift, shiftOut}
 use Rattle.entcode.specs.Finish.{cell, roundUp, bitsOf, emits, spareBits, finOut, finBytes}
+use Rattle.entcode.specs.FinishLaws.{Enough, bits-enough}
 use Rattle.entcode.specs.ReaderLaws.{Bytes}
 use Rattle.roundtrip.proofs.Digits.{number, number-append, pow-split}
 use Rattle.roundtrip.proofs.Carry.{Tame, frontNumber, shift-number, tame-shift, carry-length}
 use Rattle.roundtrip.proofs.Within.{In, in-part, in-shift}
-
--- l bits are enough, for the range R and the value n: the numbers that they leave free all lie in [n, n + R)
-pub record Chosen (R n l : ℕ) : Type 0 where
-  pub most : l ≤ leadingZeros 32 R + 1
-  pub nine : l ≤ 9
-  pub low : n ≤ roundUp n (cell l)
-  pub high : roundUp n (cell l) + cell l ≤ n + R
 
 -- the number E of all front bytes, those stored (P) and those of finishing: a multiple of what the spare bits hold, and every packet that begins with
 -- these bytes, but for the spare bits, lies within the front's interval
@@ -33,38 +27,6 @@ pub record Ended (P : ℕ) (f : Front) (l E : ℕ) : Type 0 where
 -- the front that is carried out: the value e in place of the old one
 abbrev endAt : Front → ℕ → Front
 endAt f e = record { rng = 1; val = e; held = f .held; run = f .run }
-
--- ---- the bits
-
-round-up : (n p : ℕ) → 1 ≤ p → (n ≤ roundUp n p) × (roundUp n p < n + p)
-round-up n p h =
-    let d : (n + (p - 1)) / p * p + (n + (p - 1)) % p ≡ n + (p - 1) = div-add-mod' (n + (p - 1)) p in
-    let l : (n + (p - 1)) % p < p = mod-lt (n + (p - 1)) h in
-    (omega arith, omega arith)
-
--- a number above 2^23 has a top bit from 23 on
-top-bit : (R j : ℕ) → 2 ^ 23 < R → R < 2 ^ suc j → 23 ≤ j
-top-bit R j h l =
-    by-lt j 23 (λ k. let p : 2 ^ suc j ≤ 2 ^ 23 = pow-mono {i = suc j} {j = 23} (omega arith) in absurd (omega arith)) (λ k. k)
-
--- one more bit than the leading zeros is always enough: its cell is half of what the range has at the least
-more-chosen : (R n l j : ℕ) → leadingZeros 32 R ≡ l → l + suc j ≡ 32 → 23 ≤ j → 2 ^ j ≤ R → Chosen R n (suc l)
-more-chosen R n l j z s b g =
-    let c : 31 - l ≡ suc (30 - l) = omega arith in
-    let d : 31 - suc l ≡ 30 - l = omega arith in
-    let q : j ≡ suc (30 - l) = omega arith in
-    let r : (n ≤ roundUp n (cell (suc l))) × (roundUp n (cell (suc l)) < n + cell (suc l)) = round-up n (cell (suc l)) (pow-pos (31 - suc l)) in
-    let two : 2 ^ j ≡ 2 * cell (suc l) = rw (q, d) (omega arith) in
-    record { most = omega arith; nine = omega arith; low = r .0; high = omega arith }
-
-pub bits-chosen : (R n : ℕ) → 2 ^ 23 < R → R ≤ 2 ^ 31 → Chosen R n (bitsOf R n)
-bits-chosen R n h m =
-    let z = leadingZeros 32 R in
-    let t : (j : ℕ) × (z + suc j ≡ 32) × (2 ^ j ≤ R) × (R < 2 ^ suc j) = leading-top 32 R (omega arith) (omega arith) in
-    let b : 23 ≤ t .0 = top-bit R (t .0) h (t .3) in
-    chosen-lt (Chosen R n) (n + R) (roundUp n (cell z) + cell z)
-    (λ l. more-chosen R n z (t .0) refl (t .1) b (t .2))
-    (λ l. record { most = omega arith; nine = omega (arith, t .1); low = round-up n (cell z) (pow-pos (31 - z)) .0; high = l })
 
 -- ---- the bytes
 
@@ -167,7 +129,7 @@ ended-two P f t g a c =
           (in-shift b bytes j _ _ (in-shift b bytes (suc j) _ _ i2));
     }
 
-ended-at : (P : ℕ) (f : Front) (l : ℕ) → Tame f → Chosen (f .rng) (f .val) l
+ended-at : (P : ℕ) (f : Front) (l : ℕ) → Tame f → Enough (f .rng) (f .val) l
     → Ended P f l (number P (finOut (emits l) (endAt f (roundUp (f .val) (cell l)))))
 ended-at P f zero t c = ended-zero P f t ((f .val + (2 ^ 31 - 1)) / 2 ^ 31) (c .low) (c .high)
 ended-at P f (suc m) t c =
@@ -175,10 +137,10 @@ ended-at P f (suc m) t c =
     (λ h. let e : emits (suc m) ≡ 1 = omega arith in
     subst (λ (x : ℕ). Ended P f (suc m) (number P (finOut x (endAt f (roundUp (f .val) (cell (suc m))))))) (sym e)
     (ended-one P f t (suc m) ((f .val + (cell (suc m) - 1)) / cell (suc m)) (omega arith) (omega arith) (c .low) (c .high)))
-    (λ h. let e : 9 ≡ suc m = omega (arith, c .nine) in
-    let c9 : Chosen (f .rng) (f .val) 9 = subst (λ (x : ℕ). Chosen (f .rng) (f .val) x) (sym e) c in
+    (λ h. let e : 9 ≡ suc m = omega (arith, c .few) in
+    let c9 : Enough (f .rng) (f .val) 9 = subst (λ (x : ℕ). Enough (f .rng) (f .val) x) (sym e) c in
     subst (λ (x : ℕ). Ended P f x (number P (finOut (emits x) (endAt f (roundUp (f .val) (cell x)))))) e
     (ended-two P f t ((f .val + (2 ^ 22 - 1)) / 2 ^ 22) (c9 .low) (c9 .high)))
 
 pub ended : (P : ℕ) (f : Front) → Tame f → 2 ^ 23 < f .rng → f .rng ≤ 2 ^ 31 → Ended P f (bitsOf (f .rng) (f .val)) (number P (finBytes f))
-ended P f t h m = ended-at P f (bitsOf (f .rng) (f .val)) t (bits-chosen (f .rng) (f .val) h m)
+ended P f t h m = ended-at P f (bitsOf (f .rng) (f .val)) t (bits-enough (f .rng) (f .val) h m)

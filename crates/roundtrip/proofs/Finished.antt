@@ -14,10 +14,11 @@ use Rattle.entcode.specs.Tail.{Tail}
 use Rattle.entcode.specs.TailLaws.{flush-stays}
 use Rattle.entcode.specs.Writer.{Writer}
 use Rattle.entcode.specs.Finish.{bitsOf, emits, spareBits, ending, finBytes, finFront, finTail, finish}
+use Rattle.entcode.specs.FinishLaws.{Enough, bits-enough}
 use Rattle.roundtrip.proofs.Digits.{number, number-append, prefix}
 use Rattle.roundtrip.proofs.Back.{Flushed, flush-room, flush-full, tailNumber}
 use Rattle.roundtrip.proofs.Progress.{Fine, sizeOf, digitsOf, storedNumber, rawOf}
-use Rattle.roundtrip.proofs.Choose.{Chosen, bits-chosen, fin-length, Ended, ended}
+use Rattle.roundtrip.proofs.Choose.{fin-length, Ended, ended}
 use Rattle.roundtrip.proofs.Close.{Closed, closed, close-stays, Placed, close-placed, close-fits}
 
 -- how many top bits finishing fixes
@@ -71,7 +72,7 @@ module _ (w : Writer) (F : Fine w) (h : 2 ^ 23 < w .front .rng)
   fin-closed z =
       let E : ℕ = number (storedNumber w) (finBytes (w .front)) in
       let j : ℕ = spareBits (bitsW w) in
-      let c : Chosen (w .front .rng) (w .front .val) (bitsW w) = bits-chosen (w .front .rng) (w .front .val) h (F .most) in
+      let c : Enough (w .front .rng) (w .front .val) (bitsW w) = bits-enough (w .front .rng) (w .front .val) h (F .most) in
       let en : Ended (storedNumber w) (w .front) (bitsW w) E = ended (storedNumber w) (w .front) (F .tame) h (F .most) in
       let p : Placed (finTail w .room) (finish w) = close-placed (finTail w) j fin-fit in
       let cl : Closed (finTail w) j E (finish w .buf)

@@ -11,11 +11,11 @@ use Rattle.entcode.specs.Cuts.{account}
 use Rattle.entcode.specs.Writer.{Writer, openW, writeSym, writeAll}
 use Rattle.entcode.specs.WriterLaws.{Firm, firm-write}
 use Rattle.entcode.specs.Finish.{finish}
+use Rattle.entcode.specs.FinishLaws.{Enough, bits-enough}
 use Rattle.roundtrip.specs.Statement.{AllAllowed}
 use Rattle.roundtrip.proofs.Interval.{Interval, runI, openI, rawNumber, run-size}
 use Rattle.roundtrip.proofs.Progress.{Fine}
 use Rattle.roundtrip.proofs.Track.{View, Track, went, lost, track-open}
-use Rattle.roundtrip.proofs.Choose.{Chosen, bits-chosen}
 use Rattle.roundtrip.proofs.Finished.{bitsW, error-stays, finish-fits}
 
 -- ---- the first half
@@ -26,7 +26,7 @@ account-fits : (w : Writer) (a : Interval) (g : ℕ → ℕ) (n : ℕ) → Track
 unfolding account
 account-fits w a g n (went v) h l =
     let F : Fine w = v .fine in
-    let c : Chosen (w .front .rng) (w .front .val) (bitsW w) = bits-chosen (w .front .rng) (w .front .val) (omega (arith, v .size)) (F .most) in
+    let c : Enough (w .front .rng) (w .front .val) (bitsW w) = bits-enough (w .front .rng) (w .front .val) (omega (arith, v .size)) (F .most) in
     finish-fits w F (omega (arith, F .count, v .len, c .most, leading-zeros-length (w .front .rng)))
 account-fits w a g n (lost o) h l = absurd (omega (arith, o .over .much, o .len, leading-zeros-length (w .front .rng)))
 
