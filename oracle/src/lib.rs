@@ -11,6 +11,7 @@ pub mod domain;
 pub mod libopus;
 pub mod models;
 pub mod ours;
+pub mod packets;
 pub mod reader;
 pub mod report;
 pub mod rng;

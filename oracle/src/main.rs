@@ -2,7 +2,7 @@
 //! out equal, or the first difference and status 1.
 //!
 //! ORACLE_SEED picks the calls at random. `record FOLDER` writes the recorded answers anew;
-//! `overflow`, built with overflow checks, holds that no accepted call overflows in the crate.
+//! `overflow`, built for debugging, holds that no accepted call overflows in the crate.
 
 use oracle::reader::{hold, record};
 use oracle::tables;

@@ -1,10 +1,10 @@
 //! Holds our reader to the crate's and to libopus's.
 
-use super::states::FILLS;
 use super::{plans, sides, Reading};
 use crate::compare::{Pair, Sink};
 use crate::domain::LONGEST;
 use crate::models;
+use crate::packets::FILLS;
 use crate::rng::Rng;
 
 pub fn to_the_crate(seed: u64) -> Result<(), String> {

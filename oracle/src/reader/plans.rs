@@ -1,10 +1,11 @@
 //! Which calls are compared. A plan puts its calls to a sink, which compares or records them.
 
-use super::states::{at_cut, fill, sound, Fill, Packet, BREAKS, FILLS};
+use super::states::{at_cut, sound, BREAKS};
 use super::{Ask, Reader, Reading};
 use crate::compare::Sink;
 use crate::domain::{LAST_TOTAL, LONGEST, SOUND_TOTALS};
 use crate::models::{self, Entries, Model};
+use crate::packets::{fill, Fill, Packet, FILLS};
 use crate::rng::Rng;
 use crate::unopus;
 

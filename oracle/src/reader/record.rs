@@ -1,12 +1,12 @@
 //! The fixed list of calls with the crate's answers that crates/reader_cases replays, in the layout
 //! of docs/RECORDED.md.
 
-use super::states::Fill;
 use super::{plans, sides, Ask, Reader, Reading};
 use crate::compare::{Answer, Kind, Sink};
 use crate::counters::Counters;
 use crate::domain::LONGEST;
 use crate::models::{self, Model};
+use crate::packets::Fill;
 use crate::rng::Rng;
 
 /// What crates/reader_cases reads, and what it prints where every call agrees.

@@ -1,29 +1,9 @@
-//! Packets, sound readers beside them, and readers that break one rule of document 01.
+//! Sound readers beside a packet, and readers that break one rule of document 01.
 
 use super::Reader;
-use crate::domain::{LAST_TOTAL, LONGEST, SOUND_TOTALS};
+use crate::domain::{LAST_TOTAL, SOUND_TOTALS};
 use crate::models::Model;
 use crate::rng::Rng;
-
-/// Room for a packet, one byte longer than document 01 allows.
-pub type Packet = [u8; LONGEST + 1];
-
-#[derive(Clone, Copy)]
-pub enum Fill {
-    Zeros,
-    Ones,
-    Random,
-}
-
-pub const FILLS: [Fill; 3] = [Fill::Zeros, Fill::Ones, Fill::Random];
-
-pub fn fill(rng: &mut Rng, packet: &mut [u8], fill: Fill) {
-    match fill {
-        Fill::Zeros => packet.fill(0),
-        Fill::Ones => packet.fill(0xFF),
-        Fill::Random => rng.fill(packet),
-    }
-}
 
 /// Each field at random in its range or at one of its ends.
 pub fn sound(rng: &mut Rng, length: usize) -> Reader {
