@@ -1,0 +1,9 @@
+pub mod Extremes
+pub mod Kept
+pub mod Results
+pub mod SameStores
+pub mod MoveBounds
+pub mod Sorting
+pub mod FirstSmallest
+pub mod WholeMoves
+pub mod ResidualBounds
