@@ -12,7 +12,6 @@ use lib.Signed.{leZ}
 use lib.ListN.{length}
 use Rattle.ints.specs.Order.{leZ-false}
 use Rattle.ints.specs.Parts.{up, down}
-use Rattle.icdf.specs.Rule.{before}
 use Rattle.spectrum.proofs.Extremes.{min-left, min-right}
 use Rattle.spectrum.proofs.Kept.{run-still}
 use Rattle.spectrum.proofs.MoveBounds.{first-most}

@@ -5,7 +5,6 @@ use mathlib.Core.Path.{_≡_, refl}
 use mathlib.Core.List.{List, [], _∷_, map}
 use lib.IntN.{ℤ, pos, negsuc}
 use Rattle.ints.specs.Wrap.{wrap16}
-use Rattle.icdf.proofs.Entries.{left}
 use Rattle.spectrum.specs.Calls.{Called, called, answered, stabiliseRefusal, stabiliseCall}
 use Rattle.spectrum.specs.Distances.{diffs, least, firstLeast, keeps, place, lower, upper, centre, newLow, newHigh, move}
 use Rattle.spectrum.specs.Fallback.{insert, sorted, climb, raised, lowered, fallback}
