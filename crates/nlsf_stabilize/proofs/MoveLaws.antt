@@ -18,9 +18,12 @@ use Rattle.ints.specs.Parts.{up, down}
 use Rattle.ints.specs.Sums.{up-diff, down-diff}
 use Rattle.ints.specs.Widths.{parts-fit}
 use Rattle.ints.specs.Wrap.{wrap16}
+use Rattle.spectrum.proofs.CallLaws.{lengths-are, stabilise-accepted}
 use Rattle.spectrum.proofs.FirstSmallest.{after, keeps-at, turn-stop, turn-move, turn-end}
 use Rattle.spectrum.proofs.MoveBounds.{good-at, cut, fits-nat, low-is}
+use Rattle.spectrum.proofs.Results.{ruled}
 use Rattle.spectrum.proofs.SameStores.{kept16-keeps}
+use Rattle.spectrum.specs.Calls.{stabiliseRefusal}
 use Rattle.spectrum.specs.Distances.{diffs, keeps, place, lower, upper, centre, newLow, newHigh, move}
 use Rattle.spectrum.specs.Fallback.{fallback}
 use Rattle.spectrum.specs.Gaps.{Good}
@@ -120,3 +123,11 @@ pub run-out : (g v w : List ℤ) (m : ℕ) (s : Stable) → m ≡ 20 → w ≡ f
 run-out g v w m s h f e =
     let z : 20 - m ≡ 0 = omega arith in
     ap (λ (l : List ℤ). record { vector = l; moves = m }) f ∙ sym (turn-end kept16 m g v) ∙ ap (λ (n : ℕ). after m (run kept16 n g v)) (sym z) ∙ e
+
+-- an accepted call's vector and gaps are what the loop of moves asks
+pub move-ok : (v g : List ℤ) → stabiliseRefusal v g ≡ 0 → MoveOk g v 0
+move-ok v g e =
+    let p = stabilise-accepted v g e in
+    let l = lengths-are v g (p .0) in
+    let h : length g ≡ suc (length v) = omega (arith, l .one-more) in
+    record { rule = ruled (length v) g h (p .1); long = h; some = omega (arith, l .least); few = l .most; place = omega arith }

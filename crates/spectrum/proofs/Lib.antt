@@ -7,3 +7,4 @@ pub mod Sorting
 pub mod FirstSmallest
 pub mod WholeMoves
 pub mod ResidualBounds
+pub mod CallLaws

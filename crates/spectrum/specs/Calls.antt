@@ -31,7 +31,7 @@ answered n v s = cond (eqb n 0) (called (s .vector) 0 (s .moves)) (called v n 0)
 -- ---- the stabiliser
 
 -- 6: 2 to 16 values and one gap more
-abbrev pub lengthsOk : List ℤ → List ℤ → Bool
+unfoldable pub lengthsOk : List ℤ → List ℤ → Bool
 lengthsOk v g = (leb 2 (length v) && leb (length v) 16) && eqb (length g) (length v + 1)
 
 -- 6 before 7, the gap set's rule

@@ -5,7 +5,7 @@ use mathlib.Core.Path.{_≡_, refl}
 use mathlib.Core.List.{List, [], _∷_, map}
 use lib.IntN.{ℤ, pos, negsuc}
 use Rattle.ints.specs.Wrap.{wrap16}
-use Rattle.spectrum.specs.Calls.{Called, called, answered, stabiliseRefusal, stabiliseCall}
+use Rattle.spectrum.specs.Calls.{Called, called, answered, lengthsOk, stabiliseRefusal, stabiliseCall}
 use Rattle.spectrum.specs.Distances.{diffs, least, firstLeast, keeps, place, lower, upper, centre, newLow, newHigh, move}
 use Rattle.spectrum.specs.Fallback.{insert, sorted, climb, raised, lowered, fallback}
 use Rattle.spectrum.specs.Gaps.{goodGaps}
@@ -54,5 +54,5 @@ cases =
     []
 
 pub cases-hold : map (λ c. stabiliseCall (c .vector) (c .gaps)) cases ≡ map (λ c. c .left) cases
-unfolding cases stabiliseCall answered stabiliseRefusal goodGaps stabilise run fallback lowered raised climb sorted insert move newHigh newLow centre upper lower place keeps firstLeast least diffs total held minZ maxZ wrap16
+unfolding cases stabiliseCall answered stabiliseRefusal lengthsOk goodGaps stabilise run fallback lowered raised climb sorted insert move newHigh newLow centre upper lower place keeps firstLeast least diffs total held minZ maxZ wrap16
 cases-hold = refl

@@ -1,20 +1,19 @@
+-- `lengths_ok` meets its contract. Assumes nothing.
 use borrow.Author.Needs.{needs}
+use Rattle.spectrum.specs.Calls.{lengthsOk}
 use Rattle.nlsf_stabilize.proofs.lengths_ok.Statement.{statement}
 use Rattle.nlsf_stabilize.proofs.lengths_ok.Tie as tie
-use Rattle.nlsf_stabilize.proofs.lengths_ok.Reads as reads
-use Rattle.nlsf_stabilize.proofs.lengths_ok.Lts as lts
 
--- src/lib.rt:48:23
 add-result : tie.Need-add-result
 add-result c = search needs
 
--- src/lib.rt:43:1
 returns : tie.Need-returns
-returns c = ?
+unfolding lengthsOk
+returns c = rw (c .if1 .taken)
 
--- src/lib.rt:43:1
 returns-2 : tie.Need-returns-2
-returns-2 c = ?
+unfolding lengthsOk
+returns-2 c = rw (c .if1 .left)
 
 pub lengths-ok-spec : {M : Type 1} → statement M
 lengths-ok-spec = tie.close (tie.spec add-result returns returns-2)

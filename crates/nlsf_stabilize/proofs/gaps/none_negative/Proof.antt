@@ -1,41 +1,61 @@
+-- `none_negative` meets its contract. The invariant: the test holds of the gaps from k on. Assumes nothing.
+use Prim.Native.Nat.{ℕ, suc, _-_, _≤_, _<_}
+use mathlib.Core.Path.{_≡_, sym, ap, _∙_}
+use mathlib.Core.Bool.{Bool, _&&_}
+use native.Mathlib.Omega.{arith}
+use borrow.Author.Needs.{needs, sfits-of}
+use lib.IntN.{pos}
+use lib.Signed.{leZ}
+use lib.ListN.{length, drop}
+use lib.Seq.{drop-cons, drop-length}
+use mir.Syntax.{w16}
+use mir.Val.{SFits}
+use mir.Facts.{toZ-ofZ}
+use Rattle.lists.specs.Every.{every}
+use Rattle.spectrum.specs.Values.{at}
 use Rattle.nlsf_stabilize.proofs.gaps.none_negative.Statement.{statement}
 use Rattle.nlsf_stabilize.proofs.gaps.none_negative.Tie as tie
-use Rattle.nlsf_stabilize.proofs.gaps.none_negative.Reads as reads
-use Rattle.nlsf_stabilize.proofs.gaps.none_negative.Lts as lts
 
 abbrev Inv-loop : tie.InvT-loop
-Inv-loop g ok₀ k₀ ok k = ?
+Inv-loop g ok₀ k₀ ok k = (k ≤ length g) × (ok ≡ every (leZ (pos 0)) (drop k g))
 
 abbrev μ-loop : tie.MeasureT-loop
-μ-loop g ok₀ k₀ ok k = ?
+μ-loop g ok₀ k₀ ok k = k
 
--- src/gaps.rt:31:5
 loop-holds : tie.Need-loop-holds Inv-loop μ-loop
-loop-holds c = ?
+loop-holds c = (omega arith, sym (ap (every (leZ (pos 0))) (drop-length (c .args .g .now))))
 
--- src/gaps.rt:32:17
 sub-j : tie.Need-sub-j Inv-loop μ-loop
-sub-j c = ?
+sub-j c = search needs
 
--- src/gaps.rt:33:20
 mul-ok : tie.Need-mul-ok Inv-loop μ-loop
-mul-ok c = ?
+mul-ok c = search needs
 
--- src/gaps.rt:33:20
 shared-slice-copy-out-ok : tie.Need-shared-slice-copy-out-ok Inv-loop μ-loop
-shared-slice-copy-out-ok c = ?
+shared-slice-copy-out-ok c = search needs
 
--- src/gaps.rt:31:5
 loop-less : tie.Need-loop-less Inv-loop μ-loop
-loop-less c = ?
+loop-less c = search needs
 
--- src/gaps.rt:31:5
 loop-again : tie.Need-loop-again Inv-loop μ-loop
-loop-again c = ?
+loop-again c =
+    let b = c .before .before in
+    let g = b .before .args .g .now in
+    let j = b .loop .k - 1 in
+    let f : SFits w16 (at g j) = sfits-of (c .ok .given) in
+    let e : b .loop .k ≡ suc j = omega arith in
+    let h : j < length g = omega arith in (
+      omega arith,
+      rw (toZ-ofZ f)
+          (ap (λ (t : Bool). leZ (pos 0) (at g j) && t) (b .loop .inv .1 ∙ ap (λ (n : ℕ). every (leZ (pos 0)) (drop n g)) e)
+          ∙ sym (ap (every (leZ (pos 0))) (drop-cons g j (pos 0) h))),
+    )
 
--- src/gaps.rt:26:1
 returns : tie.Need-returns Inv-loop μ-loop
-returns c = ?
+returns c =
+    let b = c .before in
+    let e : b .loop .k ≡ 0 = omega arith in
+    b .loop .inv .1 ∙ ap (λ (n : ℕ). every (leZ (pos 0)) (drop n (b .before .args .g .now))) e
 
 pub none-negative-spec : {M : Type 1} → statement M
 none-negative-spec =
