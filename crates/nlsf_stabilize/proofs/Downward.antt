@@ -1,15 +1,13 @@
 -- The downward pass, place by place. Assumes nothing.
 use Prim.Native.Nat.{ℕ, zero, suc, _≤_, _<_}
-use mathlib.Core.Path.{_≡_, refl, sym, ap, subst, _∙_}
+use mathlib.Core.Path.{_≡_, refl, ap, _∙_}
 use mathlib.Core.Bool.{Bool, true, false, cond}
 use mathlib.Core.List.{List, [], _∷_}
-use mathlib.Core.Logic.{_≢_, ⊎-elim}
 use native.Mathlib.Omega.{arith}
-use native.Mathlib.Nat.{suc-inj, not-suc-le-zero, le-of-suc-le-suc, eq-or-lt-of-le}
-use lib.IntN.{ℤ, pos, _-ℤ_}
+use native.Mathlib.Nat.{suc-inj, not-suc-le-zero, le-of-suc-le-suc}
+use lib.IntN.{ℤ, _-ℤ_}
 use lib.Signed.{leZ}
-use lib.ListN.{length, set, drop, length-set}
-use lib.Seq.{ext-getD, getD-set-same, getD-set-other}
+use lib.ListN.{length, drop}
 use Rattle.ints.specs.Order.{parts-alone}
 use Rattle.ints.specs.Parts.{up, down}
 use Rattle.spectrum.proofs.Extremes.{min-right}
@@ -58,38 +56,6 @@ behind-most (x ∷ l) (suc k) w = behind-most l k (w .1)
 pub at-drop : (g : List ℤ) (k : ℕ) → at (drop 1 g) k ≡ at g (suc k)
 at-drop [] k = refl
 at-drop (x ∷ g) k = refl
-
--- the pass has come down to place k: below it the old values, from it on those of the result
-pub record Down (f v₀ v : List ℤ) (k : ℕ) : Type 0 where
-  pub long : length v ≡ length v₀
-  pub old : (j : ℕ) → j < k → at v j ≡ at v₀ j
-  pub new : (j : ℕ) → k ≤ j → j < length v₀ → at v j ≡ at f j
-
-pub down-start : (f v₀ : List ℤ) → Down f v₀ v₀ (length v₀)
-down-start f v₀ = record { long = refl; old = λ j h. refl; new = λ j h l. absurd (never j h l) }
-  where
-    never : (j : ℕ) → length v₀ ≤ j → j < length v₀ → ⊥
-    never j h l = omega arith
-
-pub down-step : (f v₀ v : List ℤ) (k j : ℕ) (z : ℤ) → suc j ≡ k → k ≤ length v₀ → z ≡ at f j → Down f v₀ v k → Down f v₀ (set v j z) j
-down-step f v₀ v k j z e h q d =
-    record {
-      long = length-set v j z ∙ d .long;
-      old = λ i l. getD-set-other v j i z (pos 0) (less i l) ∙ d .old i (omega arith);
-      new = λ i l m. ⊎-elim
-          (λ (p : j ≡ i). subst (λ (n : ℕ). at (set v j z) n ≡ at f n) p (getD-set-same v j z (pos 0) (omega (arith, d .long)) ∙ q))
-          (λ (p : j < i). getD-set-other v j i z (pos 0) (more i p) ∙ d .new i (omega arith) m)
-          (eq-or-lt-of-le l);
-    }
-  where
-    less : (i : ℕ) → i < j → i ≢ j
-    less i l p = omega arith
-
-    more : (i : ℕ) → j < i → i ≢ j
-    more i l p = omega arith
-
-pub down-end : (f v₀ v : List ℤ) → length f ≡ length v₀ → Down f v₀ v 0 → v ≡ f
-down-end f v₀ v l d = ext-getD (pos 0) v f (d .long ∙ sym l) (λ i h. d .new i (omega arith) (omega (arith, d .long)))
 
 length-tail : (g : List ℤ) (n : ℕ) → length g ≡ suc n → length (drop 1 g) ≡ n
 length-tail [] n l = absurd (omega arith)

@@ -1,10 +1,8 @@
--- The clamp by its tests, and the numbers of a move of two values. Assumes nothing.
+-- The numbers of a move of two values. Assumes nothing.
 use Prim.Native.Nat.{_+_, _≤_}
-use mathlib.Core.Path.{_≡_, sym, ap, _∙_}
-use mathlib.Core.Bool.{Bool, true, false, cond}
+use mathlib.Core.Path.{_≡_}
 use native.Mathlib.Omega.{arith}
 use lib.IntN.{ℤ, _+ℤ_, _-ℤ_}
-use lib.Signed.{ltZ}
 use mir.Syntax.{w32}
 use mir.Val.{SFits}
 use Rattle.ints.specs.Order.{parts-alone}
@@ -16,18 +14,6 @@ use Rattle.spectrum.proofs.Extremes.{held-least, held-most, half-nat}
 use Rattle.spectrum.specs.Values.{top, _≼_, held, half}
 use Rattle.nlsf_stabilize.proofs.Downward.{behind}
 use Rattle.nlsf_stabilize.specs.Asked.{PairOk}
-
-pub held-hi : (lo hi z : ℤ) → ltZ hi z ≡ true → hi ≡ held lo hi z
-unfolding held
-held-hi lo hi z e = sym (ap (λ (t : Bool). cond t hi (cond (ltZ z lo) lo z)) e)
-
-pub held-lo : (lo hi z : ℤ) → ltZ hi z ≡ false → ltZ z lo ≡ true → lo ≡ held lo hi z
-unfolding held
-held-lo lo hi z e f = sym (ap (λ (t : Bool). cond t hi (cond (ltZ z lo) lo z)) e ∙ ap (λ (t : Bool). cond t lo z) f)
-
-pub held-own : (lo hi z : ℤ) → ltZ hi z ≡ false → ltZ z lo ≡ false → z ≡ held lo hi z
-unfolding held
-held-own lo hi z e f = sym (ap (λ (t : Bool). cond t hi (cond (ltZ z lo) lo z)) e ∙ ap (λ (t : Bool). cond t lo z) f)
 
 module _ (gap before behind : ℤ) (o : PairOk gap before behind) where
   h : ℤ

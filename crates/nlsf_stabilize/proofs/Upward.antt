@@ -1,15 +1,13 @@
 -- The upward pass, place by place. Assumes nothing.
-use Prim.Native.Nat.{ℕ, zero, suc, _+_, _≤_, _<_}
-use mathlib.Core.Path.{_≡_, refl, sym, ap, subst, _∙_}
+use Prim.Native.Nat.{ℕ, zero, suc, _≤_, _<_}
+use mathlib.Core.Path.{_≡_, refl, sym, ap, _∙_}
 use mathlib.Core.Bool.{Bool, true, false, cond}
 use mathlib.Core.List.{List, [], _∷_}
-use mathlib.Core.Logic.{_≢_, ⊎-elim}
 use native.Mathlib.Omega.{arith}
-use native.Mathlib.Nat.{suc-inj, not-suc-le-zero, le-of-suc-le-suc, eq-or-lt-of-le}
+use native.Mathlib.Nat.{suc-inj, not-suc-le-zero, le-of-suc-le-suc}
 use lib.IntN.{ℤ, pos, negsuc, _+ℤ_}
 use lib.Signed.{ltZ, leZ}
-use lib.ListN.{length, set, length-set}
-use lib.Seq.{ext-getD, getD-set-same, getD-set-other}
+use lib.ListN.{length}
 use Rattle.ints.specs.Order.{parts-same}
 use Rattle.ints.specs.Parts.{up, down}
 use Rattle.ints.specs.Sums.{sum-parts}
@@ -60,35 +58,6 @@ unfolding raised
 raised-next g [] k h l = absurd (not-suc-le-zero h)
 raised-next [] (x ∷ v) k h l = absurd (omega arith)
 raised-next (a ∷ g) (x ∷ v) k h l = climb-at (maxZ x a) v g k (let e : length g ≡ suc (length v) = suc-inj l in omega arith) (le-of-suc-le-suc h)
-
--- the pass has come up to place i
-pub record Up (f v₀ v : List ℤ) (i : ℕ) : Type 0 where
-  pub long : length v ≡ length v₀
-  pub new : (j : ℕ) → j < i → at v j ≡ at f j
-  pub old : (j : ℕ) → i ≤ j → at v j ≡ at v₀ j
-
-pub up-start : (f v₀ : List ℤ) → Up f v₀ v₀ 0
-up-start f v₀ = record { long = refl; new = λ j h. absurd (not-suc-le-zero h); old = λ j h. refl }
-
-pub up-step : (f v₀ v : List ℤ) (i : ℕ) (z : ℤ) → i < length v₀ → z ≡ at f i → Up f v₀ v i → Up f v₀ (set v i z) (i + 1)
-up-step f v₀ v i z h q u =
-    record {
-      long = length-set v i z ∙ u .long;
-      new = λ j l. ⊎-elim
-          (λ (p : j ≡ i). subst (λ (n : ℕ). at (set v i z) n ≡ at f n) (sym p) (getD-set-same v i z (pos 0) (omega (arith, u .long)) ∙ q))
-          (λ (p : j < i). getD-set-other v i j z (pos 0) (less j p) ∙ u .new j p)
-          (eq-or-lt-of-le (omega arith));
-      old = λ j l. getD-set-other v i j z (pos 0) (more j l) ∙ u .old j (omega arith);
-    }
-  where
-    less : (j : ℕ) → j < i → j ≢ i
-    less j l p = omega arith
-
-    more : (j : ℕ) → i + 1 ≤ j → j ≢ i
-    more j l p = omega arith
-
-pub up-end : (f v₀ v : List ℤ) (i : ℕ) → length v₀ ≤ i → length f ≡ length v₀ → Up f v₀ v i → v ≡ f
-up-end f v₀ v i h l u = ext-getD (pos 0) v f (u .long ∙ sym l) (λ j k. u .new j (omega (arith, u .long)))
 
 -- what stands before place i of the result: 0, or the value before
 pub raised-at : (g v : List ℤ) (i : ℕ) → i < length v → length g ≡ suc (length v) → down (at g 0) ≡ 0 → up (at g 0) ≤ 32767

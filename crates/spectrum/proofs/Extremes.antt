@@ -1,6 +1,6 @@
 -- Laws of the larger, the smaller and the held number, put so that `omega` can use them. Assumes nothing.
 use Prim.Native.Nat.{_+_, _*_, _≤_, _<_}
-use mathlib.Core.Path.{_≡_, refl}
+use mathlib.Core.Path.{_≡_, refl, sym, ap, _∙_}
 use mathlib.Core.Bool.{Bool, true, false, cond}
 use native.Mathlib.Omega.{arith}
 use native.Mathlib.Nat.{not-le-of-lt}
@@ -74,6 +74,19 @@ pub held-above : (lo hi z c : ℤ) → c ≼ hi → c ≼ z → c ≼ held lo hi
 unfolding held
 held-above lo hi z c p q =
     chosen-ltZ (λ (x : ℤ). c ≼ x) hi z (λ h. p) (λ h. chosen-ltZ (λ (x : ℤ). c ≼ x) z lo (λ k. omega arith) (λ k. q))
+
+-- held, by its tests
+pub held-hi : (lo hi z : ℤ) → ltZ hi z ≡ true → hi ≡ held lo hi z
+unfolding held
+held-hi lo hi z e = sym (ap (λ (t : Bool). cond t hi (cond (ltZ z lo) lo z)) e)
+
+pub held-lo : (lo hi z : ℤ) → ltZ hi z ≡ false → ltZ z lo ≡ true → lo ≡ held lo hi z
+unfolding held
+held-lo lo hi z e f = sym (ap (λ (t : Bool). cond t hi (cond (ltZ z lo) lo z)) e ∙ ap (λ (t : Bool). cond t lo z) f)
+
+pub held-own : (lo hi z : ℤ) → ltZ hi z ≡ false → ltZ z lo ≡ false → z ≡ held lo hi z
+unfolding held
+held-own lo hi z e f = sym (ap (λ (t : Bool). cond t hi (cond (ltZ z lo) lo z)) e ∙ ap (λ (t : Bool). cond t lo z) f)
 
 -- half of a number that is not negative
 pub half-nat : (z : ℤ) → down z ≡ 0 → (down (half z) ≡ 0) × ((up (half z) * 2 ≤ up z) × (up z ≤ up (half z) * 2 + 1))

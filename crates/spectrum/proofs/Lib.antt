@@ -8,3 +8,5 @@ pub mod FirstSmallest
 pub mod WholeMoves
 pub mod ResidualBounds
 pub mod CallLaws
+pub mod PlaceLaws
+pub mod Passes

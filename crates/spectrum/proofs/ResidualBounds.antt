@@ -15,10 +15,7 @@ use Rattle.ints.specs.Sums.{up-sum, down-sum, up-diff, down-diff, up-times, dow
 use Rattle.spectrum.proofs.Extremes.{chosen-ltZ, held-least, held-most}
 use Rattle.spectrum.specs.Places.{placed}
 use Rattle.spectrum.specs.Residuals.{nudged, scaled, predicted, leading, residuals}
-use Rattle.spectrum.specs.Values.{held, Within}
-
-abbrev pub Mag : ℕ → ℤ → Type 0
-Mag n z = (up z ≤ n) × (down z ≤ n)
+use Rattle.spectrum.specs.Values.{held, Mag, Within}
 
 pub nudged-within : (x : ℤ) → Mag 10 x → Mag 10138 (nudged x)
 unfolding nudged

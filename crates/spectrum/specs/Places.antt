@@ -6,7 +6,7 @@ use lib.Signed.{quotZ}
 use lib.ListN.{getD}
 use Rattle.sheet.specs.Books.{Book}
 use Rattle.sheet.specs.Weights.{weight}
-use Rattle.spectrum.specs.Residuals.{residuals, predictorAt}
+use Rattle.spectrum.specs.Residuals.{residuals, predictorIn}
 use Rattle.spectrum.specs.Values.{held}
 
 -- book value x 128 plus residual x 16,384 divided by its weight, toward zero, held between 0 and 32,767
@@ -21,4 +21,6 @@ placedAll (b ∷ bs) (w ∷ ws) (r ∷ rs) = placed b w r ∷ placedAll bs ws rs
 
 -- vector v of a book, moved by the indices of its places
 unfoldable pub places : Book → ℕ → List ℤ → List ℤ
-places b v xs = placedAll (getD (b .vectors) v []) (getD (b .weights) v []) (residuals (b .step) (predictorAt b v) 0 xs)
+places b v xs =
+    placedAll (getD (b .vectors) v []) (getD (b .weights) v [])
+    (residuals (b .step) (predictorIn (getD (b .selectors) v []) (b .predictors)) 0 xs)

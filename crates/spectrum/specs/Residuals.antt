@@ -6,7 +6,6 @@ use lib.Dec.{eqb}
 use lib.IntN.{ℤ, pos, _+ℤ_, _-ℤ_, _*ℤ_}
 use lib.Signed.{ltZ, shrZ}
 use lib.ListN.{getD}
-use Rattle.sheet.specs.Books.{Book}
 
 -- an index x 1024, moved 102 toward zero
 unfoldable pub nudged : ℤ → ℤ
@@ -39,6 +38,6 @@ residuals step predictor k (x ∷ y ∷ xs) =
 abbrev pub listOf : ℕ → ℕ → ℕ
 listOf e i = cond (eqb (i % 2) 0) (e % 2) (e / 16 % 2)
 
--- the predictor of place i under vector v
-unfoldable pub predictorAt : Book → ℕ → ℕ → ℕ
-predictorAt b v i = getD (getD (b .predictors) (listOf (getD (getD (b .selectors) v []) (i / 2) 0) i) []) i 0
+-- the predictor of place i, by the selectors of a vector and the lists of predictors
+unfoldable pub predictorIn : List ℕ → List (List ℕ) → ℕ → ℕ
+predictorIn selectors lists i = getD (getD lists (listOf (getD selectors (i / 2) 0) i) []) i 0

@@ -38,6 +38,10 @@ unfoldable pub total : List ℤ → ℤ
 total [] = pos 0
 total (x ∷ xs) = x +ℤ total xs
 
+-- z lies in -n .. n
+abbrev pub Mag : ℕ → ℤ → Type 0
+Mag n z = (up z ≤ n) × (down z ≤ n)
+
 -- each value lies in -lo .. hi
 unfoldable pub Within : ℕ → ℕ → List ℤ → Type 0
 Within lo hi [] = Unit {0}

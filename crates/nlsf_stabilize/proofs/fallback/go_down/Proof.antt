@@ -10,9 +10,10 @@ use mir.Syntax.{w16, w32}
 use mir.Val.{SFits, toZ}
 use mir.Facts.{toZ-ofZ, sfits-widen}
 use Rattle.spectrum.proofs.Kept.{length-lowered}
+use Rattle.spectrum.proofs.Passes.{Down, down-start, down-step, down-end}
 use Rattle.spectrum.specs.Fallback.{lowered}
 use Rattle.spectrum.specs.Values.{at, top, minZ}
-use Rattle.nlsf_stabilize.proofs.Downward.{behind, behind-at, behind-end, behind-most, Down, down-start, down-step, down-end, down-turn}
+use Rattle.nlsf_stabilize.proofs.Downward.{behind, behind-at, behind-end, behind-most, down-turn}
 use Rattle.nlsf_stabilize.proofs.fallback.go_down.Statement.{statement}
 use Rattle.nlsf_stabilize.proofs.fallback.go_down.Tie as tie
 

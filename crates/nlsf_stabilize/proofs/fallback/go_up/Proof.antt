@@ -12,9 +12,10 @@ use mir.Syntax.{w16}
 use mir.Val.{SFits, toZ}
 use mir.Facts.{toZ-ofZ}
 use Rattle.spectrum.proofs.Kept.{length-raised}
+use Rattle.spectrum.proofs.Passes.{Up, up-start, up-step, up-end}
 use Rattle.spectrum.specs.Fallback.{sat16, raised}
 use Rattle.spectrum.specs.Values.{at, maxZ}
-use Rattle.nlsf_stabilize.proofs.Upward.{Up, up-start, up-step, up-end, raised-at}
+use Rattle.nlsf_stabilize.proofs.Upward.{raised-at}
 use Rattle.nlsf_stabilize.proofs.fallback.go_up.Statement.{statement}
 use Rattle.nlsf_stabilize.proofs.fallback.go_up.Tie as tie
 

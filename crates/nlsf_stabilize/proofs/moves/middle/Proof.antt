@@ -7,8 +7,8 @@ use mir.Val.{SFits, toZ, ofZ}
 use mir.Facts.{toZ-ofZ, sfits-widen}
 use Rattle.ints.specs.Sums.{up-sum, down-sum}
 use Rattle.ints.specs.Widths.{fits-up, fits-down, parts-fit, shr-fits}
+use Rattle.spectrum.proofs.Extremes.{held-hi, held-lo, held-own}
 use Rattle.spectrum.specs.Values.{half}
-use Rattle.nlsf_stabilize.proofs.PairLaws.{held-hi, held-lo, held-own}
 use Rattle.nlsf_stabilize.proofs.moves.middle.Statement.{statement}
 use Rattle.nlsf_stabilize.proofs.moves.middle.Tie as tie
 
