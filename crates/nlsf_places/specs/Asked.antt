@@ -8,23 +8,37 @@ use Rattle.spectrum.specs.Places.{placedAll}
 use Rattle.spectrum.specs.Residuals.{residuals, predictorIn}
 use Rattle.spectrum.specs.Values.{Within}
 
--- the residuals of the indices under a vector's rows
-abbrev pub residualsBy : List ℤ → ℕ → List ℕ → List ℕ → List ℕ → List ℤ
-residualsBy xs step selectors p q = residuals step (predictorIn selectors (p ∷ q ∷ [])) 0 xs
+-- a book's step, and what it has for one vector: selectors, both lists of predictors, values and weights
+pub record Rows : Type 0 where
+  pub step : ℕ
+  pub selectors : List ℕ
+  pub first : List ℕ
+  pub second : List ℕ
+  pub values : List ℕ
+  pub weights : List ℕ
 
--- and the places
-abbrev pub placedBy : List ℤ → ℕ → List ℕ → List ℕ → List ℕ → List ℕ → List ℕ → List ℤ
-placedBy xs step selectors p q values weights = placedAll values weights (residualsBy xs step selectors p q)
+abbrev pub rows : ℕ → List ℕ → List ℕ → List ℕ → List ℕ → List ℕ → Rows
+rows s e p q b w = record { step = s; selectors = e; first = p; second = q; values = b; weights = w }
+
+abbrev pub predictorBy : Rows → ℕ → ℕ
+predictorBy t = predictorIn (t .selectors) (t .first ∷ t .second ∷ [])
+
+-- the residuals of indices under these rows, and the places
+abbrev pub residualsBy : Rows → List ℤ → List ℤ
+residualsBy t xs = residuals (t .step) (predictorBy t) 0 xs
+
+abbrev pub placesBy : Rows → List ℤ → List ℤ
+placesBy t xs = placedAll (t .values) (t .weights) (residualsBy t xs)
 
 -- at most 16 values, rows as long, indices from -10 to 10, weights above 0, a selector for each two places, predictors that are bytes
-pub record PlacesOk (v xs : List ℤ) (step : ℕ) (selectors p q values weights : List ℕ) : Type 0 where
+pub record PlacesOk (t : Rows) (v xs : List ℤ) : Type 0 where
   pub few : length v ≤ 16
   pub indices : length xs ≡ length v
   pub tens : Within 10 10 xs
-  pub small : step ≤ 11796
-  pub pairs : length v ≤ 2 * length selectors
-  pub lists : length p ≡ length q
-  pub bytes : (i : ℕ) → predictorIn selectors (p ∷ q ∷ []) i ≤ 256
-  pub book : length values ≡ length v
-  pub weighed : length weights ≡ length v
-  pub heavy : (i : ℕ) → i < length v → 1 ≤ getD weights i 0
+  pub small : t .step ≤ 11796
+  pub pairs : length v ≤ 2 * length (t .selectors)
+  pub lists : length (t .first) ≡ length (t .second)
+  pub bytes : (i : ℕ) → predictorBy t i ≤ 256
+  pub book : length (t .values) ≡ length v
+  pub weighed : length (t .weights) ≡ length v
+  pub heavy : (i : ℕ) → i < length v → 1 ≤ getD (t .weights) i 0

@@ -9,7 +9,7 @@ ghost use lib.Signed.{quotZ};
 ghost use Rattle.spectrum.specs.Values.{Mag};
 ghost use Rattle.spectrum.specs.Residuals.{nudged, scaled, predicted, listOf, predictorIn};
 ghost use Rattle.spectrum.specs.Places.{placed};
-ghost use Rattle.nlsf_places.specs.Asked.{PlacesOk, placedBy};
+ghost use Rattle.nlsf_places.specs.Asked.{rows, placesBy, PlacesOk};
 
 // ---- predictors
 
@@ -112,8 +112,8 @@ pub fn places_run(
     values: &[u8],
     weights: &[u16],
 )
-    requires { ⌜ PlacesOk (now vector) (now xs) step (now selectors) (now first) (now second) (now values) (now weights) ⌝ }
-    ensures { λ _. ⌜ now (vector .exit) ≡ placedBy (now (xs .entry)) step (now (selectors .entry)) (now (first .entry)) (now (second .entry)) (now (values .entry)) (now (weights .entry)) ⌝ }
+    requires { ⌜ PlacesOk (rows step (now selectors) (now first) (now second) (now values) (now weights)) (now vector) (now xs) ⌝ }
+    ensures { λ _. ⌜ now (vector .exit) ≡ placesBy (rows step (now (selectors .entry)) (now (first .entry)) (now (second .entry)) (now (values .entry)) (now (weights .entry))) (now (xs .entry)) ⌝ }
 {
     let mut r: i32 = 0;
     let mut k: usize = vector.len();

@@ -1,37 +1,60 @@
+-- `predictor` meets its contract. Assumes nothing.
+use Prim.Native.Nat.{ℕ, zero, suc, _/_, _%_, _≤_, _<_}
+use mathlib.Core.Path.{_≡_, refl, sym, ap, _∙_}
+use mathlib.Core.List.{List, [], _∷_}
+use native.Mathlib.Omega.{arith}
 use borrow.Author.Needs.{needs}
+use lib.Dec.{eqb}
+use lib.ListN.{length, getD, List·getD-eq-default}
+use Rattle.tests.specs.Choice.{chosen}
+use Rattle.spectrum.specs.Residuals.{listOf, predictorIn}
 use Rattle.nlsf_places.proofs.predictor.Statement.{statement}
 use Rattle.nlsf_places.proofs.predictor.Tie as tie
-use Rattle.nlsf_places.proofs.predictor.Reads as reads
-use Rattle.nlsf_places.proofs.predictor.Lts as lts
-use Rattle.nlsf_places.proofs.list_of.Reads as list-of-reads
 
--- src/lib.rt:29:9
+list-below : (e i : ℕ) → listOf e i < 2
+list-below e i = chosen (λ (n : ℕ). n < 2) (eqb (i % 2) 0) (λ t. omega arith) (λ t. omega arith)
+
+-- past both lists, whichever is named
+past : (p q : List ℕ) (n i : ℕ) → length p ≤ i → length q ≤ i → getD (getD (p ∷ q ∷ []) n []) i 0 ≡ 0
+past p q zero i a b = List·getD-eq-default p 0 a
+past p q (suc zero) i a b = List·getD-eq-default q 0 b
+past p q (suc (suc n)) i a b = refl
+
 returns : tie.Need-returns
-returns c = ?
+unfolding predictorIn
+returns c =
+    let b = c .before .before .before .before in
+    let a = b .args in
+    let h : length (a .first .now) ≤ a .i = c .if1 .taken in
+    sym (past (a .first .now) (a .second .now) (listOf (getD (a .selectors .now) (a .i / 2) 0) (a .i)) (a .i) h (omega (arith, b .pre .1)))
 
--- src/lib.rt:31:13
 shared-slice-read-e : tie.Need-shared-slice-read-e
 shared-slice-read-e c = search needs
 
--- src/lib.rt:32:8
 list-of-requires : tie.Need-list-of-requires
 list-of-requires c κs = search needs
 
--- src/lib.rt:33:16
 shared-slice-read-result : tie.Need-shared-slice-read-result
 shared-slice-read-result c = search needs
 
--- src/lib.rt:33:9
 returns-2 : tie.Need-returns-2
-returns-2 c = ?
+unfolding predictorIn
+returns-2 c =
+    let a = c .before .before .before .before .before .before .before .before .args in
+    let e : listOf (getD (a .selectors .now) (a .i / 2) 0) (a .i) ≡ 0 = sym (c .before .before .list-of .ensures) ∙ c .before .if2 .taken in
+    sym (ap (λ (n : ℕ). getD (getD (a .first .now ∷ a .second .now ∷ []) n []) (a .i) 0) e)
 
--- src/lib.rt:35:5
 shared-slice-read-result-2 : tie.Need-shared-slice-read-result-2
 shared-slice-read-result-2 c = search needs
 
--- src/lib.rt:24:1
 returns-3 : tie.Need-returns-3
-returns-3 c = ?
+unfolding predictorIn
+returns-3 c =
+    let a = c .before .before .before .before .before .before .before .before .args in
+    let n = listOf (getD (a .selectors .now) (a .i / 2) 0) (a .i) in
+    let l : n < 2 = list-below (getD (a .selectors .now) (a .i / 2) 0) (a .i) in
+    let e : n ≡ 1 = omega (arith, l, c .before .before .list-of .ensures, c .before .if2 .left) in
+    sym (ap (λ (m : ℕ). getD (getD (a .first .now ∷ a .second .now ∷ []) m []) (a .i) 0) e)
 
 pub predictor-spec : {M : Type 1} → statement M
 predictor-spec =
