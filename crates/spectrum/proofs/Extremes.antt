@@ -4,8 +4,9 @@ use mathlib.Core.Path.{_≡_, refl, sym, ap, _∙_}
 use mathlib.Core.Bool.{Bool, true, false, cond}
 use native.Mathlib.Omega.{arith}
 use native.Mathlib.Nat.{not-le-of-lt}
+use lib.Dec.{T}
 use lib.IntN.{ℤ, pos, negsuc}
-use lib.Signed.{ltZ, leZ}
+use lib.Signed.{ltZ, leZ, _≤ℤ_}
 use Rattle.ints.specs.Order.{leZ-true, leZ-false, ltZ-true, ltZ-false}
 use Rattle.ints.specs.Parts.{up, down}
 use Rattle.tests.specs.Choice.{chosen}
@@ -32,6 +33,13 @@ lt-leZ a b h = go (leZ a b) refl
     go : (t : Bool) → leZ a b ≡ t → t ≡ false
     go true e = absurd (not-le-of-lt h (leZ-true a b e))
     go false e = refl
+
+pub le-parts : {a b : ℤ} → a ≤ℤ b → a ≼ b
+le-parts {a} {b} h = go (leZ a b) refl (h .le)
+  where
+    go : (t : Bool) → leZ a b ≡ t → T t → a ≼ b
+    go true e p = leZ-true a b e
+    go false e p = absurd p
 
 -- ---- the larger, the smaller, and a number held between two
 

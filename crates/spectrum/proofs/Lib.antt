@@ -10,3 +10,5 @@ pub mod ResidualBounds
 pub mod CallLaws
 pub mod PlaceLaws
 pub mod Passes
+pub mod BookLaws
+pub mod Promises

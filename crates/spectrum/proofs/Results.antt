@@ -1,7 +1,7 @@
 -- The laws of stabilising as document 01 and RFC 6716, section 4.2.7.5.4, put them: over the test of the gap set, place by place.
 -- Assumes nothing.
-use Prim.Native.Nat.{ℕ, zero, suc, _≤_, _<_}
-use mathlib.Core.Path.{_≡_, sym, ap, _∙_}
+use Prim.Native.Nat.{ℕ, zero, suc, _≤_, _<_, suc-le-suc}
+use mathlib.Core.Path.{_≡_, refl, sym, ap, _∙_}
 use mathlib.Core.Bool.{true, _&&_}
 use mathlib.Core.List.{List, [], _∷_}
 use native.Mathlib.Omega.{arith}
@@ -16,7 +16,8 @@ use Rattle.ints.specs.Sums.{sum-parts}
 use Rattle.ints.specs.Widths.{parts-fit}
 use Rattle.tests.specs.Both.{and-both}
 use Rattle.lists.specs.Every.{every}
-use Rattle.spectrum.proofs.Kept.{Kept, good-total, kept-keeps, length-run, run-kept, moves-most, run-still, run-moved}
+use Rattle.spectrum.proofs.Extremes.{le-parts}
+use Rattle.spectrum.proofs.Kept.{Kept, good-total, kept-keeps, keeps-kept, length-run, run-kept, moves-most, run-still, run-moved}
 use Rattle.spectrum.specs.Distances.{keeps}
 use Rattle.spectrum.specs.Gaps.{goodGaps, Good, Ruled, EveryGap}
 use Rattle.spectrum.specs.Stabilising.{stabilise}
@@ -78,6 +79,23 @@ kept-every (x ∷ v) (a ∷ g) h k =
       last = λ i l. parts-le (at (x ∷ v) i +ℤ at (a ∷ g) (suc i)) top (kept-last (pos 0) (x ∷ v) (a ∷ g) k i l);
     }
 
+-- and back: each value lies a gap above the one before it, and the last a gap below 32,768
+kept-by : (p : ℤ) (v g : List ℤ) → length g ≡ suc (length v) → ((i : ℕ) → i < length v → (at (p ∷ v) i +ℤ at g i) ≼ at v i)
+    → (at (p ∷ v) (length v) +ℤ at g (length v)) ≼ top → Kept p v g
+unfolding Kept
+kept-by p [] [] l f e = absurd (omega arith)
+kept-by p [] (g ∷ gs) l f e = e
+kept-by p (x ∷ v) [] l f e = absurd (omega arith)
+kept-by p (x ∷ v) (g ∷ gs) l f e = (f 0 (omega arith), kept-by x v gs (suc-inj l) (λ i h. f (suc i) (suc-le-suc h)) e)
+
+pub every-kept : (v g : List ℤ) → length g ≡ suc (length v) → 0 < length v → EveryGap g v → Kept (pos 0) v g
+every-kept [] g l h e = absurd (not-suc-le-zero h)
+every-kept (x ∷ v) g l h e = kept-by (pos 0) (x ∷ v) g l each (le-parts (e .last (length v) refl))
+  where
+    each : (i : ℕ) → i < length (x ∷ v) → (at (pos 0 ∷ (x ∷ v)) i +ℤ at g i) ≼ at (x ∷ v) i
+    each zero k = let f : at g 0 ≼ x = le-parts (e .first) in omega (arith, sum-parts (pos 0) (at g 0))
+    each (suc i) k = le-parts (e .between i k)
+
 -- ---- each value of a vector that keeps its gaps lies in 0 .. 32,767
 
 -- what stands before values that keep their gaps lies below 32,768, since the last gap is 1 or more
@@ -108,17 +126,17 @@ within-fits [] h i = parts-fit (pos 0) (omega arith) (omega arith)
 within-fits (x ∷ v) h zero = parts-fit x (omega (arith, h .0 .1)) (omega (arith, h .0 .0))
 within-fits (x ∷ v) h (suc i) = within-fits v (h .1) i
 
+-- at most 20 moves, whatever the gaps
+pub few-moves : (store : ℤ → ℤ) (g v : List ℤ) → stabilise store g v .moves ≤ 20
+unfolding stabilise
+few-moves store g v = moves-most store 20 g v
+
 -- ---- the laws, over the test of the gap set
 
 module _ (store : ℤ → ℤ) (g v : List ℤ) (l : length g ≡ suc (length v)) (e : goodGaps (length v) g ≡ true) where
   kept : Kept (pos 0) (stabilise store g v .vector) g
   unfolding stabilise
   kept = run-kept store 20 g v l (ruled (length v) g l e .good) (ruled (length v) g l e .most)
-
-  -- moves, at most 20
-  pub few-moves : stabilise store g v .moves ≤ 20
-  unfolding stabilise
-  few-moves = moves-most store 20 g v
 
   -- a vector that keeps its gaps is returned unchanged, with 0 moves; no other is
   pub unmoved : keeps g v ≡ true → stabilise store g v ≡ record { vector = v; moves = 0 }
@@ -128,6 +146,13 @@ module _ (store : ℤ → ℤ) (g v : List ℤ) (l : length g ≡ suc (length v)
   pub moved : stabilise store g v .moves ≡ 0 → keeps g v ≡ true
   unfolding stabilise
   moved h = run-moved store 19 g v h
+
+  -- the same in every gap's words
+  pub still : 0 < length v → EveryGap g v → stabilise store g v ≡ record { vector = v; moves = 0 }
+  still h k = unmoved (kept-keeps v g (every-kept v g l h k))
+
+  pub moved-not : 0 < length v → stabilise store g v .moves ≡ 0 → EveryGap g v
+  moved-not h k = kept-every v g h (keeps-kept v g l (moved k))
 
   pub as-long : length (stabilise store g v .vector) ≡ length v
   unfolding stabilise
