@@ -33,7 +33,8 @@ fn all_small(xs: &[i8]) -> bool
     let mut k: usize = xs.len();
     while k > 0 {
         let j = k - 1;
-        ok = ((-10 <= xs[j]) & (xs[j] <= 10)) & ok;
+        let x = xs[j];
+        ok = ((-10 <= x) & (x <= 10)) & ok;
         k = j;
     }
     ok
@@ -45,8 +46,9 @@ fn numbers_ok(index: [i8; 17], khz: u32) -> bool
     let n = order_of(khz);
     let e = n + 1;
     let small = all_small(&index[1..e]);
+    let first = index[0];
     let rate = (khz == 8) | ((khz == 12) | (khz == 16));
-    rate & (((0 <= index[0]) & (index[0] <= 31)) & small)
+    rate & (((0 <= first) & (first <= 31)) & small)
 }
 
 // Refusals 4 and 6, or 0.

@@ -40,6 +40,14 @@ fn selectors(v: usize) -> [u8; 5]
     t[v]
 }
 
+fn predictors(l: usize) -> [u8; 9]
+    requires { ⌜ l < 2 ⌝ }
+    ensures { λ r. ⌜ r ≡ getD (narrowBook .predictors) l [] ⌝ }
+{
+    let t = narrow_predictors();
+    t[l]
+}
+
 // The spectrum of vector v and the indices of its places, stabilised, with the number of moves.
 pub fn narrow_run(vector: &mut [i16], v: usize, xs: &[i8]) -> u32
     requires { ⌜ Indexed 10 (now vector) v (now xs) ⌝ }
@@ -48,9 +56,8 @@ pub fn narrow_run(vector: &mut [i16], v: usize, xs: &[i8]) -> u32
     let value = values(v);
     let weight = weights(v);
     let selector = selectors(v);
-    let lists = narrow_predictors();
-    let first = lists[0];
-    let second = lists[1];
+    let first = predictors(0);
+    let second = predictors(1);
     places_run(vector, xs, 11796, &selector, &first, &second, &value, &weight);
     let gaps = narrow_gaps();
     stabilise_run(vector, &gaps)

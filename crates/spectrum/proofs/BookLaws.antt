@@ -1,18 +1,23 @@
 -- What decoding leans on of the two books, each by one computation over the whole book. Assumes nothing.
-use Prim.Native.Nat.{ℕ, zero, suc, _/_, _≤_, _<_}
-use mathlib.Core.Path.{_≡_, refl}
+use Prim.Native.Nat.{ℕ, zero, suc, _+_, _*_, _/_, _≤_, _<_}
+use mathlib.Core.Path.{_≡_, refl, sym, subst⁻¹, _∙_}
 use mathlib.Core.Bool.{Bool, true, _&&_}
 use mathlib.Core.List.{List, [], _∷_, map}
+use native.Mathlib.Omega.{arith}
 use borrow.Author.Tests.{leb-true}
-use lib.Dec.{leb}
-use lib.IntN.{pos}
-use lib.ListN.{length, getD}
+use lib.Dec.{eqb, leb}
+use lib.IntN.{ℤ, pos}
+use lib.ListN.{length, getD, length-map}
 use Rattle.ints.specs.Parts.{up}
 use Rattle.tests.specs.Both.{and-both}
+use Rattle.tests.specs.Choice.{chosen}
 use Rattle.lists.specs.Every.{every, every-at}
-use Rattle.sheet.specs.Books.{Book, narrowBook, wideBook}
+use Rattle.sheet.specs.Books.{Book, narrowBook, wideBook, Shaped, narrow-shaped, wide-shaped}
+use Rattle.spectrum.proofs.PlaceLaws.{length-residuals, length-placed}
+use Rattle.spectrum.specs.Calls.{bookOf}
 use Rattle.spectrum.specs.Gaps.{goodGaps}
-use Rattle.spectrum.specs.Residuals.{listOf, predictorIn}
+use Rattle.spectrum.specs.Places.{places}
+use Rattle.spectrum.specs.Residuals.{residuals, listOf, predictorIn}
 use Rattle.spectrum.specs.Values.{at, total}
 
 -- a test at every element, and at the default: at any place
@@ -66,3 +71,44 @@ narrow-sized = sized narrowBook refl
 pub wide-sized : Sized wideBook
 unfolding wideBook goodGaps total
 wide-sized = sized wideBook refl
+
+-- ---- what holds of either book
+
+pub record Usable (b : Book) : Type 0 where
+  pub shaped : Shaped (b .order) b
+  pub sized : Sized b
+  pub some : 2 ≤ b .order
+  pub few : b .order ≤ 16
+  pub even : b .order ≤ 2 * (b .order / 2)
+
+usable : (n : ℕ) (b : Book) → Shaped n b → Sized b → 2 ≤ n → n ≤ 16 → n ≤ 2 * (n / 2) → Usable b
+usable n b s z h k t =
+    record {
+      shaped = subst⁻¹ (λ (m : ℕ). Shaped m b) (s .order) s;
+      sized = z;
+      some = omega (arith, s .order);
+      few = omega (arith, s .order);
+      even = omega (arith, s .order);
+    }
+
+pub narrow-usable : Usable narrowBook
+narrow-usable = usable 10 narrowBook narrow-shaped narrow-sized (omega arith) (omega arith) (omega arith)
+
+pub wide-usable : Usable wideBook
+wide-usable = usable 16 wideBook wide-shaped wide-sized (omega arith) (omega arith) (omega arith)
+
+pub book-usable : (khz : ℕ) → Usable (bookOf khz)
+unfolding bookOf
+book-usable khz = chosen Usable (eqb khz 16) (λ e. wide-usable) (λ e. narrow-usable)
+
+pub places-long : (b : Book) → Usable b → (v : ℕ) (xs : List ℤ) → v < 32 → length xs ≡ b .order → length (places b v xs) ≡ b .order
+unfolding places
+places-long b u v xs h l =
+    let f = predictorIn (getD (b .selectors) v []) (b .predictors) in
+    let r = length-residuals (b .step) f 0 xs in
+    length-placed (getD (b .vectors) v []) (getD (b .weights) v []) (residuals (b .step) f 0 xs)
+    (u .shaped .vectors .width v h ∙ sym (r ∙ l)) (u .shaped .weights .width v h ∙ sym (r ∙ l))
+    ∙ r ∙ l
+
+pub gaps-long : (b : Book) → Usable b → length (map pos (b .gaps)) ≡ suc (b .order)
+gaps-long b u = length-map (b .gaps) pos ∙ u .shaped .gaps ∙ (let e : b .order + 1 ≡ suc (b .order) = omega arith in e)

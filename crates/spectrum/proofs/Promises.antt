@@ -1,25 +1,22 @@
 -- What the two calls promise besides their definitions: how many moves, which gaps are kept, and when a vector stays. Assumes nothing.
-use Prim.Native.Nat.{ℕ, suc, _+_, _≤_, _<_}
+use Prim.Native.Nat.{ℕ, suc, _≤_, _<_}
 use mathlib.Core.Path.{_≡_, refl, sym, ap, subst, subst⁻¹, _∙_}
 use mathlib.Core.Bool.{true}
-use mathlib.Core.List.{List, [], map}
+use mathlib.Core.List.{List, map}
 use native.Mathlib.Omega.{arith}
 use lib.Dec.{eqb}
 use lib.IntN.{ℤ, pos}
-use lib.ListN.{length, getD, drop, length-drop, length-map}
+use lib.ListN.{length, drop, length-drop}
 use lib.Seq.{length-take-le}
 use Rattle.ints.specs.Parts.{up}
 use Rattle.tests.specs.Choice.{chosen}
-use Rattle.sheet.specs.Books.{Book, narrowBook, wideBook, Shaped, narrow-shaped, wide-shaped}
-use Rattle.spectrum.proofs.BookLaws.{Sized, narrow-sized, wide-sized}
+use Rattle.spectrum.proofs.BookLaws.{book-usable, places-long, gaps-long}
 use Rattle.spectrum.proofs.CallLaws.{Lengths, lengths-are, stabilise-accepted, stabilise-answers, Accepted, decode-accepted, decode-answers}
 use Rattle.spectrum.proofs.MoveBounds.{same-two}
-use Rattle.spectrum.proofs.PlaceLaws.{length-residuals, length-placed}
 use Rattle.spectrum.proofs.Results.{ruled, few-moves, still, moved-not, every-gap}
 use Rattle.spectrum.specs.Calls.{Called, called, answered, stabiliseRefusal, stabiliseCall, bookOf, placeIndices, decodeRefusal, decoded, decodeCall}
 use Rattle.spectrum.specs.Gaps.{goodGaps, EveryGap}
 use Rattle.spectrum.specs.Places.{places}
-use Rattle.spectrum.specs.Residuals.{residuals, predictorIn}
 use Rattle.spectrum.specs.Stabilising.{Stable, stabilise, kept16, whole}
 use Rattle.spectrum.specs.Values.{at}
 use Rattle.spectrum.specs.declared.Spectrum.{Spectrum}
@@ -71,40 +68,6 @@ module _ (v g : List ℤ) (e : stabiliseRefusal v g ≡ 0) where
   stabilise-stayed k = moved-not kept16 g v long (stabilise-accepted v g e .1) some (sym (ap (λ (c : Called). c .answer .moves) answers) ∙ k)
 
 -- ---- accepted decoding
-
--- either book
-pub record Usable (b : Book) : Type 0 where
-  pub shaped : Shaped (b .order) b
-  pub sized : Sized b
-  pub some : 2 ≤ b .order
-  pub few : b .order ≤ 16
-
-usable : (n : ℕ) (b : Book) → Shaped n b → Sized b → 2 ≤ n → n ≤ 16 → Usable b
-usable n b s z h k =
-    record {
-      shaped = subst⁻¹ (λ (m : ℕ). Shaped m b) (s .order) s;
-      sized = z;
-      some = omega (arith, s .order);
-      few = omega (arith, s .order);
-    }
-
-pub book-usable : (khz : ℕ) → Usable (bookOf khz)
-unfolding bookOf
-book-usable khz =
-    chosen Usable (eqb khz 16) (λ e. usable 16 wideBook wide-shaped wide-sized (omega arith) (omega arith))
-    (λ e. usable 10 narrowBook narrow-shaped narrow-sized (omega arith) (omega arith))
-
-pub places-long : (b : Book) → Usable b → (v : ℕ) (xs : List ℤ) → v < 32 → length xs ≡ b .order → length (places b v xs) ≡ b .order
-unfolding places
-places-long b u v xs h l =
-    let f = predictorIn (getD (b .selectors) v []) (b .predictors) in
-    let r = length-residuals (b .step) f 0 xs in
-    length-placed (getD (b .vectors) v []) (getD (b .weights) v []) (residuals (b .step) f 0 xs)
-    (u .shaped .vectors .width v h ∙ sym (r ∙ l)) (u .shaped .weights .width v h ∙ sym (r ∙ l))
-    ∙ r ∙ l
-
-pub gaps-long : (b : Book) → Usable b → length (map pos (b .gaps)) ≡ suc (b .order)
-gaps-long b u = length-map (b .gaps) pos ∙ u .shaped .gaps ∙ (let e : b .order + 1 ≡ suc (b .order) = omega arith in e)
 
 indices-long : (n : ℕ) (index : List ℤ) → length index ≡ 17 → n ≤ 16 → length (placeIndices n index) ≡ n
 indices-long n index l h =

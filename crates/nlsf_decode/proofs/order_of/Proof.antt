@@ -1,15 +1,18 @@
+-- `order_of` meets its contract. Assumes nothing.
+use mathlib.Core.Path.{sym}
+use borrow.Author.Tests.{eq-eqb, ne-eqb}
+use Rattle.sheet.specs.Books.{narrow-shaped, wide-shaped}
+use Rattle.spectrum.specs.Calls.{bookOf}
 use Rattle.nlsf_decode.proofs.order_of.Statement.{statement}
 use Rattle.nlsf_decode.proofs.order_of.Tie as tie
-use Rattle.nlsf_decode.proofs.order_of.Reads as reads
-use Rattle.nlsf_decode.proofs.order_of.Lts as lts
 
--- src/lib.rt:22:1
 returns : tie.Need-returns
-returns c = ?
+unfolding bookOf
+returns c = rw (eq-eqb _ _ (c .if1 .taken)) (sym (wide-shaped .order))
 
--- src/lib.rt:22:1
 returns-2 : tie.Need-returns-2
-returns-2 c = ?
+unfolding bookOf
+returns-2 c = rw (ne-eqb _ _ (c .if1 .left)) (sym (narrow-shaped .order))
 
 pub order-of-spec : {M : Type 1} → statement M
 order-of-spec = tie.close (tie.spec returns returns-2)

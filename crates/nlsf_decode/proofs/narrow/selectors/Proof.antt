@@ -1,25 +1,23 @@
+-- `selectors` meets its contract. Assumes nothing.
+use Prim.Native.Nat.{ℕ}
+use mathlib.Core.Path.{ap}
+use mathlib.Core.List.{List, []}
 use borrow.Author.Needs.{needs}
+use lib.ListN.{getD}
 use Rattle.nlsf_decode.proofs.narrow.selectors.Statement.{statement}
 use Rattle.nlsf_decode.proofs.narrow.selectors.Tie as tie
-use Rattle.nlsf_decode.proofs.narrow.selectors.Reads as reads
-use Rattle.nlsf_decode.proofs.narrow.selectors.Lts as lts
-use Rattle.tables.proofs.books.narrow_selectors.Reads as narrow-selectors-reads
 
--- src/narrow.rt:39:13
 narrow-selectors-requires : tie.Need-narrow-selectors-requires
 narrow-selectors-requires c κs = search needs
 
--- src/narrow.rt:40:5
 mul-result : tie.Need-mul-result
 mul-result c = search needs
 
--- src/narrow.rt:40:5
 array-copy-out-result : tie.Need-array-copy-out-result
 array-copy-out-result c = search needs
 
--- src/narrow.rt:35:1
 returns : tie.Need-returns
-returns c = ?
+returns c = ap (λ (t : List (List ℕ)). getD t (c .before .before .args .v) []) (c .before .narrow-selectors .ensures)
 
 pub selectors-spec : {M : Type 1} → statement M
 selectors-spec =

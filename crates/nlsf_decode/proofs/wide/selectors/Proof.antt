@@ -1,25 +1,23 @@
+-- `selectors` meets its contract. Assumes nothing.
+use Prim.Native.Nat.{ℕ}
+use mathlib.Core.Path.{ap}
+use mathlib.Core.List.{List, []}
 use borrow.Author.Needs.{needs}
+use lib.ListN.{getD}
 use Rattle.nlsf_decode.proofs.wide.selectors.Statement.{statement}
 use Rattle.nlsf_decode.proofs.wide.selectors.Tie as tie
-use Rattle.nlsf_decode.proofs.wide.selectors.Reads as reads
-use Rattle.nlsf_decode.proofs.wide.selectors.Lts as lts
-use Rattle.tables.proofs.books.wide_selectors.Reads as wide-selectors-reads
 
--- src/wide.rt:39:13
 wide-selectors-requires : tie.Need-wide-selectors-requires
 wide-selectors-requires c κs = search needs
 
--- src/wide.rt:40:5
 mul-result : tie.Need-mul-result
 mul-result c = search needs
 
--- src/wide.rt:40:5
 array-copy-out-result : tie.Need-array-copy-out-result
 array-copy-out-result c = search needs
 
--- src/wide.rt:35:1
 returns : tie.Need-returns
-returns c = ?
+returns c = ap (λ (t : List (List ℕ)). getD t (c .before .before .args .v) []) (c .before .wide-selectors .ensures)
 
 pub selectors-spec : {M : Type 1} → statement M
 selectors-spec =

@@ -1,83 +1,99 @@
+-- `wide_run` meets its contract. Assumes nothing.
+use Prim.Native.Nat.{ℕ}
+use mathlib.Core.Path.{refl, sym, ap₂, subst⁻¹, _∙_}
+use mathlib.Core.List.{List, [], _∷_}
 use borrow.Author.Needs.{needs}
+use lib.IntN.{ℤ}
+use Rattle.sheet.specs.Books.{wideBook, wide-shaped}
+use Rattle.spectrum.proofs.BookLaws.{wide-usable}
+use Rattle.nlsf_stabilize.specs.Asked.{MoveOk}
+use Rattle.nlsf_places.specs.Asked.{Rows, rows}
+use Rattle.nlsf_decode.proofs.RowLaws.{RowsOf, both-lists, stabilised-by, places-ok, book-moves}
+use Rattle.nlsf_decode.specs.Asked.{Indexed}
 use Rattle.nlsf_decode.proofs.wide.wide_run.Statement.{statement}
 use Rattle.nlsf_decode.proofs.wide.wide_run.Tie as tie
-use Rattle.nlsf_decode.proofs.wide.wide_run.Reads as reads
-use Rattle.nlsf_decode.proofs.wide.wide_run.Lts as lts
-use Rattle.nlsf_decode.proofs.wide.selectors.Reads as selectors-reads
-use Rattle.nlsf_decode.proofs.wide.values.Reads as values-reads
-use Rattle.nlsf_decode.proofs.wide.weights.Reads as weights-reads
-use Rattle.nlsf_places.proofs.places_run.Reads as places-run-reads
-use Rattle.nlsf_stabilize.proofs.stabilise_run.Reads as stabilise-run-reads
-use Rattle.tables.proofs.books.wide_gaps.Reads as wide-gaps-reads
-use Rattle.tables.proofs.books.wide_predictors.Reads as wide-predictors-reads
 
--- src/wide.rt:48:17
+-- the rows that are lent, and that they are the book's
+abbrev lent : tie.After-predictors2 → Rows
+lent d =
+    rows 9830 (d .before .before .selectors .result) (d .before .predictors .result) (d .predictors2 .result)
+    (d .before .before .before .before .values .result) (d .before .before .before .weights .result)
+
+lent-are : (d : tie.After-predictors2) → RowsOf wideBook (d .before .before .before .before .before .args .v) (lent d)
+unfolding wideBook
+lent-are d =
+    record {
+      step = refl;
+      selectors = d .before .before .selectors .ensures;
+      predictors =
+          ap₂ (λ (p q : List ℕ). p ∷ q ∷ []) (d .before .predictors .ensures) (d .predictors2 .ensures)
+          ∙ both-lists (wideBook .predictors) (wide-shaped .predictors .count);
+      values = d .before .before .before .before .values .ensures;
+      weights = d .before .before .before .weights .ensures;
+    }
+
 values-requires : tie.Need-values-requires
 values-requires c κs = search needs
 
--- src/wide.rt:49:18
 weights-requires : tie.Need-weights-requires
 weights-requires c κs = search needs
 
--- src/wide.rt:50:20
 selectors-requires : tie.Need-selectors-requires
 selectors-requires c κs = search needs
 
--- src/wide.rt:51:17
-wide-predictors-requires : tie.Need-wide-predictors-requires
-wide-predictors-requires c κs = search needs
+predictors-requires : tie.Need-predictors-requires
+predictors-requires c κs = search needs
 
--- src/wide.rt:52:17
-array-copy-out-first : tie.Need-array-copy-out-first
-array-copy-out-first c = search needs
+predictors-requires-2 : tie.Need-predictors-requires-2
+predictors-requires-2 c κs = search needs
 
--- src/wide.rt:53:18
-array-copy-out-second : tie.Need-array-copy-out-second
-array-copy-out-second c = search needs
-
--- src/wide.rt:54:34
 slice-aggregate-places-run : tie.Need-slice-aggregate-places-run
 slice-aggregate-places-run c = search needs
 
--- src/wide.rt:54:45
 slice-aggregate-places-run-2 : tie.Need-slice-aggregate-places-run-2
-slice-aggregate-places-run-2 c = ?
+slice-aggregate-places-run-2 c = search needs
 
--- src/wide.rt:54:53
 slice-aggregate-places-run-3 : tie.Need-slice-aggregate-places-run-3
-slice-aggregate-places-run-3 c = ?
+slice-aggregate-places-run-3 c = search needs
 
--- src/wide.rt:54:62
 slice-aggregate-places-run-4 : tie.Need-slice-aggregate-places-run-4
 slice-aggregate-places-run-4 c = search needs
 
--- src/wide.rt:54:70
 slice-aggregate-places-run-5 : tie.Need-slice-aggregate-places-run-5
 slice-aggregate-places-run-5 c = search needs
 
--- src/wide.rt:54:5
 places-run-requires : tie.Need-places-run-requires
-places-run-requires c κs = ?
+places-run-requires c κs =
+    let d = c .before .before .before .before .before .before in
+    let s = d .before .before .before .before .before in
+    places-ok wideBook (s .args .v) (lent d) (lent-are d) wide-usable (s .args .vector .now) (s .args .xs .now)
+    (subst⁻¹ (λ (n : ℕ). Indexed n (s .args .vector .now) (s .args .v) (s .args .xs .now)) (wide-shaped .order) (s .pre))
 
--- src/wide.rt:55:16
 wide-gaps-requires : tie.Need-wide-gaps-requires
 wide-gaps-requires c κs = search needs
 
--- src/wide.rt:56:27
 slice-aggregate-stabilise-run : tie.Need-slice-aggregate-stabilise-run
 slice-aggregate-stabilise-run c = search needs
 
--- src/wide.rt:56:5
 stabilise-run-requires : tie.Need-stabilise-run-requires
-stabilise-run-requires c κs = ?
+stabilise-run-requires c κs =
+    let p = c .before .before .before .before in
+    let s = p .before .before .before .before .before .before .before .before .before .before .before .before in
+    let u = p .places-run .last .0 in
+    subst⁻¹ (λ (g : List ℤ). MoveOk g u 0) (c .before .before .wide-gaps .ensures)
+    (book-moves wideBook wide-usable u (p .places-run .kept .0 ∙ s .pre .long ∙ sym (wide-shaped .order)))
 
--- src/wide.rt:44:1
 same-length : tie.Need-same-length
 same-length c = search needs
 
--- src/wide.rt:44:1
 returns : tie.Need-returns
-returns c = ?
+returns c =
+    let p = c .before .before .before .before .before .before in
+    let d = p .before .before .before .before .before .before .before in
+    let s = d .before .before .before .before .before in
+    stabilised-by wideBook (s .args .v) (lent d) (lent-are d) (c .before .stabilise-run .ensures)
+    (c .before .before .before .before .wide-gaps .ensures)
+    (p .places-run .ensures)
 
 pub wide-run-spec : {M : Type 1} → statement M
 wide-run-spec =
@@ -86,9 +102,8 @@ wide-run-spec =
     values-requires
     weights-requires
     selectors-requires
-    wide-predictors-requires
-    array-copy-out-first
-    array-copy-out-second
+    predictors-requires
+    predictors-requires-2
     slice-aggregate-places-run
     slice-aggregate-places-run-2
     slice-aggregate-places-run-3
