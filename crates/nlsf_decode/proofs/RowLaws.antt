@@ -44,9 +44,9 @@ module _ (b : Book) (v : ℕ) (t : Rows) (r : RowsOf b v t) where
       ∙ ap₂ (λ (e : List ℕ) (l : List (List ℕ)). placedAll (getD (b .vectors) v []) (getD (b .weights) v []) (residuals (b .step) (predictorIn e l) 0 xs)) (r .selectors) (r .predictors)
 
   -- what the stabiliser leaves of the places by these rows, under the book's gaps
-  pub stabilised-by : {s : Stable} {g w : List ℤ} {xs : List ℤ} → s ≡ stabilise kept16 g w → g ≡ map pos (b .gaps) → w ≡ placesBy t xs
+  pub stabilised-by : (xs : List ℤ) {s : Stable} {g w : List ℤ} → s ≡ stabilise kept16 g w → g ≡ map pos (b .gaps) → w ≡ placesBy t xs
       → s ≡ stabilise kept16 (map pos (b .gaps)) (places b v xs)
-  stabilised-by {s} {g} {w} {xs} e f h = e ∙ ap₂ (stabilise kept16) f (h ∙ places-by xs)
+  stabilised-by xs e f h = e ∙ ap₂ (stabilise kept16) f (h ∙ places-by xs)
 
   pub places-ok : Usable b → (w xs : List ℤ) → Indexed (b .order) w v xs → PlacesOk t w xs
   places-ok u w xs i =

@@ -91,7 +91,7 @@ returns c =
     let p = c .before .before .before .before .before .before in
     let d = p .before .before .before .before .before .before .before in
     let s = d .before .before .before .before .before in
-    stabilised-by narrowBook (s .args .v) (lent d) (lent-are d) (c .before .stabilise-run .ensures)
+    stabilised-by narrowBook (s .args .v) (lent d) (lent-are d) (s .args .xs .now) (c .before .stabilise-run .ensures)
     (c .before .before .before .before .narrow-gaps .ensures)
     (p .places-run .ensures)
 
