@@ -36,7 +36,7 @@ both-lists (p ∷ q ∷ []) h = refl
 both-lists (p ∷ q ∷ r ∷ l) h = absurd (omega arith)
 
 module _ (b : Book) (v : ℕ) (t : Rows) (r : RowsOf b v t) where
-  pub places-by : (xs : List ℤ) → placesBy t xs ≡ places b v xs
+  places-by : (xs : List ℤ) → placesBy t xs ≡ places b v xs
   unfolding places
   places-by xs =
       ap₂ (λ (l : List ℕ) (m : List ℕ). placedAll l m (residualsBy t xs)) (r .values) (r .weights)

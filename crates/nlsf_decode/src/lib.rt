@@ -1,12 +1,8 @@
 // Decoding of a line spectrum (RFC 6716, section 4.2.7.5): a book's vector moved by residuals, then stabilised. Names as in the crate's
 // NLSF_decode.rs.
 ghost use mathlib.Core.Path.{_≡_};
-ghost use mathlib.Core.Bool.{_||_};
-ghost use lib.Dec.{eqb};
 ghost use lib.IntN.{pos, negsuc};
-ghost use lib.ListN.{length};
 ghost use Rattle.lists.specs.Every.{every};
-ghost use Rattle.sheet.specs.Books.{Book};
 ghost use Rattle.spectrum.specs.Stabilising.{kept16};
 ghost use Rattle.spectrum.specs.Calls.{inRange, bookOf, numbersOk, decodeRefusal, decoded, decodeCall};
 use narrow::narrow_run;

@@ -58,7 +58,16 @@ pub fn wide_run(vector: &mut [i16], v: usize, xs: &[i8]) -> u32
     let selector = selectors(v);
     let first = predictors(0);
     let second = predictors(1);
-    places_run(vector, xs, 9830, &selector, &first, &second, &value, &weight);
+    places_run(
+        vector,
+        xs,
+        9830,
+        &selector,
+        &first,
+        &second,
+        &value,
+        &weight,
+    );
     let gaps = wide_gaps();
     stabilise_run(vector, &gaps)
 }

@@ -4,7 +4,7 @@ ghost use mathlib.Core.Path.{_≡_};
 ghost use Prim.Native.Nat.{_*_, _/_, _≤_, _<_};
 ghost use mathlib.Core.List.{[], _∷_};
 ghost use lib.ListN.{length};
-ghost use lib.IntN.{ℤ, pos, _+ℤ_, _*ℤ_};
+ghost use lib.IntN.{pos, _+ℤ_, _*ℤ_};
 ghost use lib.Signed.{quotZ};
 ghost use Rattle.spectrum.specs.Values.{Mag};
 ghost use Rattle.spectrum.specs.Residuals.{nudged, scaled, predicted, listOf, predictorIn};

@@ -3,9 +3,9 @@ use Prim.Native.Nat.{ℕ, zero, suc, _+_, _-_, _<_}
 use mathlib.Core.Path.{_≡_, sym, ap, subst, _∙_}
 use mathlib.Core.Bool.{true, false}
 use mathlib.Core.List.{List, [], _∷_}
-use mathlib.Core.Logic.{⊎-elim}
 use native.Mathlib.Omega.{arith}
-use native.Mathlib.Nat.{not-suc-le-zero, eq-or-lt-of-le}
+use native.Mathlib.Nat.{not-suc-le-zero}
+use borrow.Author.Count.{below-more}
 use lib.IntN.{ℤ, pos, _+ℤ_, _-ℤ_}
 use lib.Signed.{ltZ}
 use lib.ListN.{length}
@@ -30,9 +30,6 @@ at-last v g (suc j) z h l = let e : suc j - 1 ≡ j = omega arith in rw e (diff-
 
 -- ---- the first smallest of the numbers passed
 
-below : (P : ℕ → Type 0) (i : ℕ) → ((k : ℕ) → k < i → P k) → P i → (k : ℕ) → k < i + 1 → P k
-below P i f p k h = ⊎-elim (λ (e : k ≡ i). subst P (sym e) p) (λ (l : k < i). f k l) (eq-or-lt-of-le (omega arith))
-
 pub first-one : (l : List ℤ) → First l 1 0
 first-one l =
     record {
@@ -47,7 +44,7 @@ module _ (l : List ℤ) (i a : ℕ) (f : First l i a) where
       let d = ltZ-true (at l i) (at l a) t in
       record {
         within = omega arith;
-        least = below (λ k. at l i ≼ at l k) i (λ k h. omega (arith, f .least k h)) (omega arith);
+        least = below-more (λ k. at l i ≼ at l k) i (λ k h. omega (arith, f .least k h)) (omega arith);
         before = λ k h. omega (arith, f .least k h);
       }
 
@@ -55,7 +52,7 @@ module _ (l : List ℤ) (i a : ℕ) (f : First l i a) where
   first-older t =
       record {
         within = omega (arith, f .within);
-        least = below (λ k. at l a ≼ at l k) i (f .least) (ltZ-false (at l i) (at l a) t);
+        least = below-more (λ k. at l a ≼ at l k) i (f .least) (ltZ-false (at l i) (at l a) t);
         before = f .before;
       }
 

@@ -4,3 +4,4 @@ pub mod Sinking
 pub mod Upward
 pub mod PairLaws
 pub mod MoveLaws
+pub mod Widened

@@ -40,7 +40,7 @@ sat-top z e = ap (λ (t : Bool). cond t (pos 32767) (cond (ltZ z (negsuc 32767))
 pub zero-plus : (z : ℤ) → pos 0 +ℤ z ≡ z
 zero-plus z = parts-same (pos 0 +ℤ z) z (omega (arith, sum-parts (pos 0) z))
 
-pub raised-first : (g v : List ℤ) → 0 < length v → length g ≡ suc (length v) → at (raised g v) 0 ≡ maxZ (at v 0) (at g 0)
+raised-first : (g v : List ℤ) → 0 < length v → length g ≡ suc (length v) → at (raised g v) 0 ≡ maxZ (at v 0) (at g 0)
 unfolding raised
 raised-first g [] h l = absurd (not-suc-le-zero h)
 raised-first [] (x ∷ v) h l = absurd (omega arith)
@@ -53,7 +53,7 @@ climb-at p (x ∷ v) [] k l h = absurd (not-suc-le-zero l)
 climb-at p (x ∷ v) (a ∷ g) zero l h = refl
 climb-at p (x ∷ v) (a ∷ g) (suc k) l h = climb-at (maxZ x (sat16 (p +ℤ a))) v g k (le-of-suc-le-suc l) (le-of-suc-le-suc h)
 
-pub raised-next : (g v : List ℤ) (k : ℕ) → suc k < length v → length g ≡ suc (length v) → at (raised g v) (suc k) ≡ maxZ (at v (suc k)) (sat16 (at (raised g v) k +ℤ at g (suc k)))
+raised-next : (g v : List ℤ) (k : ℕ) → suc k < length v → length g ≡ suc (length v) → at (raised g v) (suc k) ≡ maxZ (at v (suc k)) (sat16 (at (raised g v) k +ℤ at g (suc k)))
 unfolding raised
 raised-next g [] k h l = absurd (not-suc-le-zero h)
 raised-next [] (x ∷ v) k h l = absurd (omega arith)

@@ -1,8 +1,5 @@
 // The stabiliser of line spectra (RFC 6716, section 4.2.7.5.4): at most 20 moves, then the fallback. Names as in the crate's NLSF_stabilize.rs.
 ghost use mathlib.Core.Path.{_≡_};
-ghost use Prim.Native.Nat.{suc, _≤_};
-ghost use lib.ListN.{length};
-ghost use Rattle.spectrum.specs.Gaps.{goodGaps};
 ghost use Rattle.spectrum.specs.Stabilising.{kept16, stabilise};
 ghost use Rattle.spectrum.specs.Calls.{lengthsOk, stabiliseRefusal, stabiliseCall};
 ghost use Rattle.nlsf_stabilize.specs.Asked.{MoveOk};
@@ -56,7 +53,11 @@ fn refusal(vector: &[i16], gaps: &[i16]) -> u32
     ensures { λ n. ⌜ n ≡ stabiliseRefusal (now (vector .entry)) (now (gaps .entry)) ⌝ }
 {
     if lengths_ok(vector, gaps) {
-        if gaps_ok_run(gaps, vector.len()) { 0 } else { 7 }
+        if gaps_ok_run(gaps, vector.len()) {
+            0
+        } else {
+            7
+        }
     } else {
         6
     }

@@ -43,17 +43,9 @@ le-parts {a} {b} h = go (leZ a b) refl (h .le)
 
 -- ---- the larger, the smaller, and a number held between two
 
-pub max-left : (a b : ℤ) → a ≼ maxZ a b
-unfolding maxZ
-max-left a b = chosen-leZ (λ (z : ℤ). a ≼ z) a b (λ h. h) (λ h. omega arith)
-
 pub max-right : (a b : ℤ) → b ≼ maxZ a b
 unfolding maxZ
 max-right a b = chosen-leZ (λ (z : ℤ). b ≼ z) a b (λ h. omega arith) (λ h. h)
-
-pub max-most : (a b c : ℤ) → a ≼ c → b ≼ c → maxZ a b ≼ c
-unfolding maxZ
-max-most a b c p q = chosen-leZ (λ (z : ℤ). z ≼ c) a b (λ h. q) (λ h. p)
 
 pub min-left : (a b : ℤ) → minZ a b ≼ a
 unfolding minZ

@@ -129,7 +129,7 @@ climb-above s p g (h ∷ gs) (v ∷ vs) l r k b =
 
 -- ---- lengths
 
-pub length-insert : (x : ℤ) (r : List ℤ) → length (insert x r) ≡ suc (length r)
+length-insert : (x : ℤ) (r : List ℤ) → length (insert x r) ≡ suc (length r)
 unfolding insert
 length-insert x [] = refl
 length-insert x (y ∷ r) = chosen-leZ (λ (l : List ℤ). length l ≡ suc (suc (length r))) x y (λ h. refl) (λ h. ap suc (length-insert x r))

@@ -18,10 +18,7 @@ pub record Down (f v₀ v : List ℤ) (k : ℕ) : Type 0 where
   pub new : (j : ℕ) → k ≤ j → j < length v₀ → at v j ≡ at f j
 
 pub down-start : (f v₀ : List ℤ) → Down f v₀ v₀ (length v₀)
-down-start f v₀ = record { long = refl; old = λ j h. refl; new = λ j h l. absurd (never j h l) }
-  where
-    never : (j : ℕ) → length v₀ ≤ j → j < length v₀ → ⊥
-    never j h l = omega arith
+down-start f v₀ = record { long = refl; old = λ j h. refl; new = λ j h l. absurd (omega arith) }
 
 pub down-step : (f v₀ v : List ℤ) (k j : ℕ) (z : ℤ) → suc j ≡ k → k ≤ length v₀ → z ≡ at f j → Down f v₀ v k → Down f v₀ (set v j z) j
 down-step f v₀ v k j z e h q d =

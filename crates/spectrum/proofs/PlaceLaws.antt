@@ -29,7 +29,7 @@ leading-at [] = refl
 leading-at (r ∷ rs) = refl
 
 -- a residual by the one behind it, which is 0 behind the last
-pub residual-from : (step : ℕ) (predictor : ℕ → ℕ) (k : ℕ) (xs : List ℤ) (i : ℕ) → i < length xs
+residual-from : (step : ℕ) (predictor : ℕ → ℕ) (k : ℕ) (xs : List ℤ) (i : ℕ) → i < length xs
     → at (residuals step predictor k xs) i ≡ predicted (predictor (k + i)) (at (residuals step predictor k xs) (suc i)) +ℤ scaled step (at xs i)
 unfolding residuals
 residual-from step predictor k [] i h = absurd (not-suc-le-zero h)

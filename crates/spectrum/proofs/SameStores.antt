@@ -39,7 +39,7 @@ module _ (store : ℤ → ℤ) (k : Keeps16 store) where
       let p : store x ≡ c -ℤ half (at g i) = k x (e2 .0) ∙ ap (λ (z : ℤ). z -ℤ half (at g i)) (k c (e1 .0)) in
       (p, k y (e3 .0) ∙ ap (λ (z : ℤ). z +ℤ at g i) p)
 
-  pub move-same : (g v : List ℤ) (i : ℕ) → every fits16 (stores store g v i) ≡ true → move store g v i ≡ move whole g v i
+  move-same : (g v : List ℤ) (i : ℕ) → every fits16 (stores store g v i) ≡ true → move store g v i ≡ move whole g v i
   unfolding move stores
   move-same g v zero e = ap (λ (z : ℤ). set v 0 z) (k (at g 0) (and-both (fits16 (at g 0)) true e .0))
   move-same g v (suc j) e = go (eqb (suc j) (length v)) e

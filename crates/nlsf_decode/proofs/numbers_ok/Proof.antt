@@ -44,7 +44,7 @@ returns c =
     let f : SFits w8 (at (a .t1) 0) = sfits-of (c .first .given) in
     let k : b .order-of .result + 1 - 1 ≡ bookOf (a .khz) .order = omega (arith, b .order-of .ensures) in
     let e : c .before .all-small .result ≡ every (inRange (negsuc 9) (pos 10)) (placeIndices (bookOf (a .khz) .order) (a .t1)) =
-        c .before .all-small .ensures ∙ ap (λ (m : ℕ). every (inRange (negsuc 9) (pos 10)) (take m (drop 1 (a .t1)))) k in
+    c .before .all-small .ensures ∙ ap (λ (m : ℕ). every (inRange (negsuc 9) (pos 10)) (take m (drop 1 (a .t1)))) k in
     rw (toZ-ofZ f, e)
 
 pub numbers-ok-spec : {M : Type 1} → statement M

@@ -75,7 +75,7 @@ residual-is c =
     let x = at (s .args .xs .now) j in
     let f : SFits w8 x = sfits-of (c .before .residual-arg .given) in
     let e : c .residual .result ≡ predicted (predictorBy (lent s) j) (toZ w32 (b .loop .r)) +ℤ scaled (s .args .step) x =
-        rw (toZ-ofZ f, c .before .before .predictor .ensures) at (c .residual .ensures) in
+    rw (toZ-ofZ f, c .before .before .predictor .ensures) at (c .residual .ensures) in
     toZ-ofZ {w = w32} (sfits-of (c .residual .ok))
     ∙ e
     ∙ turn (lent s) (s .args .vector .now) (s .args .xs .now) (s .pre) j (b .loop .k) (toZ w32 (b .loop .r)) k (b .loop .inv .0) (b .loop .inv .2)
@@ -118,8 +118,7 @@ shared-slice-read-place-2 c = search needs
 place-requires : tie.Need-place-requires Inv-loop μ-loop
 place-requires c κs =
     let b = c .before .before .before .before .before .before in
-    let s = b .before .before .before .before .before .before in
-    (
+    let s = b .before .before .before .before .before .before in (
       rw (residual-is (c .before .before)) (near (lent s) (s .args .vector .now) (s .args .xs .now) (s .pre) (b .loop .k - 1)),
       s .pre .heavy (b .loop .k - 1) (omega arith),
     )

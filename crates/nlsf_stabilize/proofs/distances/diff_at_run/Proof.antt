@@ -3,18 +3,16 @@ use Prim.Native.Nat.{_-_}
 use mathlib.Core.Path.{_≡_, sym, _∙_}
 use native.Mathlib.Omega.{arith}
 use borrow.Author.Needs.{needs, sfits-of}
-use lib.IntN.{ℤ, pos, _+ℤ_, _-ℤ_}
+use lib.IntN.{pos, _+ℤ_, _-ℤ_}
 use mir.Syntax.{w16, w32}
 use mir.Val.{SFits}
-use mir.Facts.{toZ-ofZ, sfits-widen}
+use mir.Facts.{toZ-ofZ}
 use Rattle.ints.specs.Widths.{fits-up, fits-down}
 use Rattle.spectrum.specs.Values.{at, top}
 use Rattle.nlsf_stabilize.proofs.DiffLaws.{at-first, at-between, at-last}
+use Rattle.nlsf_stabilize.proofs.Widened.{wide}
 use Rattle.nlsf_stabilize.proofs.distances.diff_at_run.Statement.{statement}
 use Rattle.nlsf_stabilize.proofs.distances.diff_at_run.Tie as tie
-
-wide : {z : ℤ} → SFits w16 z → SFits w32 z
-wide f = sfits-widen {w = w16} tt f
 
 shared-slice-copy-out-above : tie.Need-shared-slice-copy-out-above
 shared-slice-copy-out-above c = search needs

@@ -13,11 +13,9 @@ use Rattle.ints.specs.Parts.{up, down}
 use Rattle.ints.specs.Sums.{up-diff}
 use Rattle.ints.specs.Widths.{fits-up, fits-down, parts-fit}
 use Rattle.nlsf_stabilize.proofs.Downward.{min-yes, min-no}
+use Rattle.nlsf_stabilize.proofs.Widened.{wide}
 use Rattle.nlsf_stabilize.proofs.fallback.lower_one.Statement.{statement}
 use Rattle.nlsf_stabilize.proofs.fallback.lower_one.Tie as tie
-
-wide : {z : ℤ} → SFits w16 z → SFits w32 z
-wide f = sfits-widen {w = w16} tt f
 
 module _ (x n g : ℤ) (fx : SFits w16 x) (fn : SFits w32 n) (fg : SFits w16 g) (b : (up n ≤ 32768) × ((down n ≤ 32768) × (down (n -ℤ g) ≤ 32768))) where
   y-fits : SFits w32 (n -ℤ g)

@@ -15,11 +15,9 @@ use Rattle.spectrum.proofs.Extremes.{le-leZ}
 use Rattle.spectrum.specs.Fallback.{sat16}
 use Rattle.spectrum.specs.Values.{maxZ}
 use Rattle.nlsf_stabilize.proofs.Upward.{max-yes, max-no, sat-same, sat-top}
+use Rattle.nlsf_stabilize.proofs.Widened.{wide}
 use Rattle.nlsf_stabilize.proofs.fallback.raise_one.Statement.{statement}
 use Rattle.nlsf_stabilize.proofs.fallback.raise_one.Tie as tie
-
-wide : {z : ℤ} → SFits w16 z → SFits w32 z
-wide f = sfits-widen {w = w16} tt f
 
 module _ (x p g : ℤ) (fx : SFits w16 x) (fp : SFits w16 p) (fg : SFits w16 g) (d : down g ≡ 0) where
   y-fits : SFits w32 (p +ℤ g)

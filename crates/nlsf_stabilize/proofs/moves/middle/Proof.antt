@@ -9,11 +9,9 @@ use Rattle.ints.specs.Sums.{up-sum, down-sum}
 use Rattle.ints.specs.Widths.{fits-up, fits-down, parts-fit, shr-fits}
 use Rattle.spectrum.proofs.Extremes.{held-hi, held-lo, held-own}
 use Rattle.spectrum.specs.Values.{half}
+use Rattle.nlsf_stabilize.proofs.Widened.{wide}
 use Rattle.nlsf_stabilize.proofs.moves.middle.Statement.{statement}
 use Rattle.nlsf_stabilize.proofs.moves.middle.Tie as tie
-
-wide : {z : ℤ} → SFits w16 z → SFits w32 z
-wide f = sfits-widen {w = w16} tt f
 
 module _ (a b : ℤ) (fa : SFits w16 a) (fb : SFits w16 b) where
   s-fits : SFits w32 (a +ℤ b)

@@ -3,19 +3,17 @@ use Prim.Native.Nat.{suc, _-_}
 use mathlib.Core.Path.{_≡_, _∙_}
 use native.Mathlib.Omega.{arith}
 use borrow.Author.Needs.{needs, sfits-of}
-use lib.IntN.{ℤ, pos, _+ℤ_, _-ℤ_}
+use lib.IntN.{pos, _+ℤ_, _-ℤ_}
 use lib.ListN.{length, take, drop, length-set}
 use mir.Syntax.{w16, w32}
 use mir.Val.{SFits, toZ, ofZ}
-use mir.Facts.{toZ-ofZ, sfits-widen}
+use mir.Facts.{toZ-ofZ}
 use Rattle.ints.specs.Wrap.{wrap16}
 use Rattle.spectrum.specs.Values.{at, top, held, half, total}
 use Rattle.nlsf_stabilize.proofs.MoveLaws.{part-before, part-behind, pair-ok, move-first, last-fits, move-last, move-between}
+use Rattle.nlsf_stabilize.proofs.Widened.{wide}
 use Rattle.nlsf_stabilize.proofs.moves.move_at_run.Statement.{statement}
 use Rattle.nlsf_stabilize.proofs.moves.move_at_run.Tie as tie
-
-wide : {z : ℤ} → SFits w16 z → SFits w32 z
-wide f = sfits-widen {w = w16} tt f
 
 shared-slice-copy-out-v : tie.Need-shared-slice-copy-out-v
 shared-slice-copy-out-v c = search needs

@@ -12,12 +12,10 @@ use Rattle.icdf.specs.Rule.{before}
 use Rattle.spectrum.specs.Values.{top, held, half}
 use Rattle.nlsf_stabilize.proofs.Downward.{behind}
 use Rattle.nlsf_stabilize.proofs.PairLaws.{half-fits, lo-fits, less-fits, hi-fits, low-near}
+use Rattle.nlsf_stabilize.proofs.Widened.{wide}
 use Rattle.nlsf_stabilize.specs.Asked.{PairOk}
 use Rattle.nlsf_stabilize.proofs.moves.pair_low.Statement.{statement}
 use Rattle.nlsf_stabilize.proofs.moves.pair_low.Tie as tie
-
-wide : {z : ℤ} → SFits w16 z → SFits w32 z
-wide f = sfits-widen {w = w16} tt f
 
 module _ (gap before behind : ℤ) (o : PairOk gap before behind) (fg : SFits w16 gap) where
   -- the local h
