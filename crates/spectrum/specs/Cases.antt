@@ -67,7 +67,7 @@ cases =
     stabilises (pos 0 ∷ pos 0 ∷ pos 2 ∷ []) (pos 32767 ∷ pos 32766 ∷ []) (pos 32766 ∷ pos 32766 ∷ []) 1 ∷
     -- a gap total of 32,768 is accepted, 32,769 refused; the lengths come before the gaps
     stabilises (pos 0 ∷ pos 32767 ∷ pos 1 ∷ []) (pos 0 ∷ pos 32767 ∷ []) (pos 0 ∷ pos 32767 ∷ []) 0 ∷
-    refuses (pos 0 ∷ pos 32768 ∷ pos 1 ∷ []) (pos 0 ∷ pos 32767 ∷ []) 7 ∷
+    refuses (pos 1 ∷ pos 32767 ∷ pos 1 ∷ []) (pos 0 ∷ pos 32767 ∷ []) 7 ∷
     refuses (pos 1 ∷ pos 1 ∷ []) (pos 5 ∷ []) 6 ∷
     refuses (pos 0 ∷ pos 0 ∷ []) (pos 5 ∷ pos 5 ∷ []) 6 ∷
     -- spectra; indices past the order are not looked at
