@@ -6,9 +6,9 @@
  *
  * What every call gives: `refusal` is 0, or the number of document 01's table that refuses the
  * call: 1 more than 1,275 bytes, 2 an unsound state, 3 a total above 1,000,000, 4 a number out of
- * its range, 5 a table that breaks its rule, 8 a value that cannot be written. The checks run in
- * that order and the first decides. A refused call answers value 0 and the state it was given, and
- * writes nothing.
+ * its range, 5 a table that breaks its rule, 6 a length, 7 a gap set that breaks its rule, 8 a value
+ * that cannot be written. The checks run in that order and the first decides. A refused call answers
+ * value 0 and the state it was given, and writes nothing.
  */
 #ifndef TIGNAROPS_H
 #define TIGNAROPS_H
@@ -89,6 +89,25 @@ tg_written tg_enc_bits(uint8_t *buf, size_t len, tg_writer w, uint32_t value, ui
  * between. state.error is 0 if nothing was lost; then a reader of the buffer gives back every symbol.
  * Refusals 1 to 3. */
 tg_written tg_enc_done(uint8_t *buf, size_t len, tg_writer w);
+
+/* The spectrum indices of a frame: index[0] picks a book's vector, the others one residual each. */
+typedef struct {
+    int8_t index[17];
+} tg_spectrum;
+
+typedef struct {
+    uint32_t refusal, moves;
+} tg_moves;
+
+/* The line spectrum of the indices, stabilised: n is 10 at 8 and 12 kHz, 16 at 16 kHz; whatever the
+ * vector held does not matter. moves is 0 to 20. Refusals 4 (a rate, a first index outside 0 to 31,
+ * another outside -10 to 10) and 6 (n); a refusal leaves the vector as it is. */
+tg_moves tg_nlsf_decode(int16_t *vector, size_t n, tg_spectrum indices, uint32_t khz);
+
+/* A vector of n values, 2 to 16, made to keep its m = n + 1 least gaps in 0 to 32,768: at most 20
+ * moves, then the fallback of RFC 6716, section 4.2.7.5.4. Refusals 6 (lengths) and 7 (a gap below 0,
+ * a last gap of 0, more than 32,768 together); a refusal leaves the vector as it is. */
+tg_moves tg_nlsf_stabilise(int16_t *vector, size_t n, const int16_t *gaps, size_t m);
 
 #ifdef __cplusplus
 }

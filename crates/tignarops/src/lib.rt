@@ -4,10 +4,13 @@ ghost use Rattle.entcode.specs.Models.{bit, raw, num, tab};
 ghost use Rattle.entcode.specs.Reading.{decSym, decTell, decOpen};
 ghost use Rattle.entcode.specs.Flat.{out};
 ghost use Rattle.entcode.specs.Writing.{sent, encSym, encTell, encDone, encOpen};
+ghost use Rattle.spectrum.specs.Calls.{stabiliseCall, decodeCall};
 use entcode::Dec;
 use entcode::Decoded;
 use entcode::Enc;
 use entcode::Encoded;
+use spectrum::Moves;
+use spectrum::Spectrum;
 
 // ---- the reader
 
@@ -108,4 +111,20 @@ pub extern "C" fn tg_enc_done(buf: &mut [u8], w: Enc) -> Encoded
     ensures { λ a. ⌜ sent (now (buf .exit)) a ≡ encDone (out (now (buf .entry)) w) ⌝ }
 {
     entenc::ec_enc_done(buf, w)
+}
+
+// ---- line spectra
+
+#[no_mangle]
+pub extern "C" fn tg_nlsf_decode(vector: &mut [i16], indices: Spectrum, khz: u32) -> Moves
+    ensures { λ a. ⌜ record { vector = now (vector .exit); answer = a } ≡ decodeCall (now (vector .entry)) indices khz ⌝ }
+{
+    nlsf_decode::silk_NLSF_decode(vector, indices, khz)
+}
+
+#[no_mangle]
+pub extern "C" fn tg_nlsf_stabilise(vector: &mut [i16], gaps: &[i16]) -> Moves
+    ensures { λ a. ⌜ record { vector = now (vector .exit); answer = a } ≡ stabiliseCall (now (vector .entry)) (now (gaps .entry)) ⌝ }
+{
+    nlsf_stabilize::silk_NLSF_stabilize(vector, gaps)
 }
