@@ -9,10 +9,8 @@ use Rattle.ints.specs.Order.{parts-alone}
 use Rattle.ints.specs.Parts.{up, down}
 use Rattle.ints.specs.Sums.{up-sum, down-sum, up-diff, down-diff}
 use Rattle.ints.specs.Widths.{parts-fit}
-use Rattle.icdf.specs.Rule.{before}
 use Rattle.spectrum.proofs.Extremes.{held-least, held-most, half-nat}
 use Rattle.spectrum.specs.Values.{top, _≼_, held, half}
-use Rattle.nlsf_stabilize.proofs.Downward.{behind}
 use Rattle.nlsf_stabilize.specs.Asked.{PairOk}
 
 module _ (gap before behind : ℤ) (o : PairOk gap before behind) where

@@ -5,7 +5,6 @@ use mathlib.Core.List.{List}
 use lib.IntN.{ℤ}
 use lib.ListN.{length}
 use Rattle.ints.specs.Parts.{up, down}
-use Rattle.icdf.specs.Rule.{before}
 use Rattle.spectrum.specs.Gaps.{Ruled}
 use Rattle.spectrum.specs.Values.{at}
 

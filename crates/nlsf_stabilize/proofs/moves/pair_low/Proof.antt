@@ -8,9 +8,7 @@ use mir.Syntax.{w16, w32}
 use mir.Val.{SFits, toZ, ofZ}
 use mir.Facts.{toZ-ofZ, sfits-widen}
 use Rattle.ints.specs.Widths.{parts-fit}
-use Rattle.icdf.specs.Rule.{before}
 use Rattle.spectrum.specs.Values.{top, held, half}
-use Rattle.nlsf_stabilize.proofs.Downward.{behind}
 use Rattle.nlsf_stabilize.proofs.PairLaws.{half-fits, lo-fits, less-fits, hi-fits, low-near}
 use Rattle.nlsf_stabilize.proofs.Widened.{wide}
 use Rattle.nlsf_stabilize.specs.Asked.{PairOk}
