@@ -1,4 +1,5 @@
 pub mod Record
 pub mod IndexSyntax
 pub mod PulseSyntax
+pub mod PulseSteps
 pub mod FrameCalls
