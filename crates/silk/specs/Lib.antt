@@ -2,4 +2,5 @@ pub mod Record
 pub mod IndexSyntax
 pub mod PulseSyntax
 pub mod PulseSteps
+pub mod PulsePlaces
 pub mod FrameCalls

@@ -5,7 +5,7 @@ use mathlib.Core.List.{List, [], _∷_, _++_, map, flatten, map-append}
 use native.Mathlib.Numerals.{add-one}
 use native.Mathlib.Omega.{arith}
 use borrow.Author.Tests.{eq-eqb, ne-eqb}
-use lib.IntN.{ℤ, pos}
+use lib.IntN.{ℤ, pos, negℤ}
 use lib.ListN.{length, getD, set}
 use lib.Seq.{getD-set-same, getD-set-other}
 use Rattle.sheet.specs.Rows.{pulseRows}
@@ -168,6 +168,22 @@ no-lows b d [] = refl
 no-lows b d (x ∷ v) = each-next b d d 0 (lowBits 0) x v x refl ∙ ap (λ g. before (x ∷ []) g) (no-lows b d v)
 
 -- ---- signs
+
+pub sign-none : {b : List ℕ} {d : Dec} (r : List ℕ) (n : ℕ) → n ≡ 0 → Core b d → Ran b d (sign r n) 16 (pos 0) d
+unfolding sign
+sign-none r n e h = rw e (ran-within (omega arith) (ran-done h))
+
+pub sign-minus : {b : List ℕ} {d : Dec} {a : Decoded} (r : List ℕ) (n : ℕ) → 1 ≤ n → Took b (tab 8 r) d a → a .value ≡ 0
+    → Ran b d (sign r n) 16 (negℤ (pos n)) (a .state)
+unfolding sign
+sign-minus r zero l h e = absurd (omega arith)
+sign-minus {a = a} r (suc n) l h e = ran-ask {n = 0} refl h (rw (eq-eqb (a .value) 0 e) (ran-done (h .core)))
+
+pub sign-plus : {b : List ℕ} {d : Dec} {a : Decoded} (r : List ℕ) (n : ℕ) → 1 ≤ n → Took b (tab 8 r) d a → (a .value ≡ 0 → ⊥)
+    → Ran b d (sign r n) 16 (pos n) (a .state)
+unfolding sign
+sign-plus r zero l h e = absurd (omega arith)
+sign-plus {a = a} r (suc n) l h e = ran-ask {n = 0} refl h (rw (ne-eqb (a .value) 0 e) (ran-done (h .core)))
 
 pub block-signs-end : (b : List ℕ) (d : Dec) (signal offset : ℕ) (vs : List (List ℕ)) → run b d (blockSigns signal offset [] vs) ≡ got [] d
 unfolding blockSigns run

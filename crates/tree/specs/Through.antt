@@ -34,7 +34,7 @@ pub record Through {R Q A : Type 0} (b : List ℕ) (d : Dec) (whole : Asks R (Li
   pub least : d .total ≤ z .total
   pub most : z .total ≤ d .total + n
 
-pub through-start : {R A : Type 0} {b : List ℕ} {d : Dec} {t : Asks R (List A)} → Core b d → Through b d t 0 [] d t
+pub through-start : {R A : Type 0} {b : List ℕ} {d : Dec} {t : Asks R (List A)} {n : ℕ} → Core b d → Through b d t n [] d t
 through-start h = record { is = refl; core = h; least = omega arith; most = omega arith }
 
 pub through-next : {R Q P S A : Type 0} {b : List ℕ} {d z y : Dec} {whole : Asks R (List A)} {n m k : ℕ} {xs : List A} {left : Asks Q (List A)}
