@@ -1,3 +1,4 @@
 pub mod Every
 pub mod Rows
 pub mod Parts
+pub mod AtMost

@@ -3,10 +3,11 @@
 use Prim.Native.Nat.{ℕ, zero, suc, _+_, _-_, _*_, _<_, _≤_}
 use mathlib.Core.Path.{_≡_, refl, sym, ap, subst, _∙_}
 use mathlib.Core.List.{List, [], _∷_, _++_, map, flatten, map-append, append-assoc, append-nil}
+use native.Mathlib.Numerals.{add-one}
 use native.Mathlib.Omega.{arith}
 use lib.IntN.{ℤ, pos, natAbs}
-use lib.ListN.{length, getD, set, length-append, length-map}
-use lib.Seq.{set-at, getD-at}
+use lib.ListN.{length, getD, drop, set, length-append, length-map}
+use lib.Seq.{drop-cons, set-at, getD-at}
 use Rattle.entcode.specs.declared.Dec.{Dec}
 use Rattle.entcode.specs.ReaderLaws.{Core}
 use Rattle.tree.specs.Asks.{Asks, got, run}
@@ -40,11 +41,12 @@ module _ {Q A : Type 0} (f : A → ℤ) (e : Q) (t : ℕ → Asks Q A) (w : ℕ)
     pub left : List ℕ
     pub is : s ≡ map f results ++ map pos left
     pub size : length results ≡ k
+    pub suffix : left ≡ drop k vs
     pub count : k + length left ≡ length vs
     pub through : Through b d₀ (each e t vs) (w * k) results d (each e t left)
 
   pub going-start : (s : List ℤ) → s ≡ map pos vs → Core b d₀ → Going s d₀ 0
-  going-start s h c = record { results = []; left = vs; is = h; size = refl; count = omega arith; through = through-start c }
+  going-start s h c = record { results = []; left = vs; is = h; size = refl; suffix = refl; count = omega arith; through = through-start c }
 
   -- the place at hand
   record Here (s : List ℤ) (k : ℕ) (left : List ℕ) : Type 0 where
@@ -70,6 +72,20 @@ module _ {Q A : Type 0} (f : A → ℤ) (e : Q) (t : ℕ → Asks Q A) (w : ℕ)
   pub going-natural : (s : List ℤ) (d : Dec) (k : ℕ) → Going s d k → k < length vs → getD s k (pos 0) ≡ pos (natAbs (getD s k (pos 0)))
   going-natural s d k g l = let h = here s d k g l in rw (h .at)
 
+  -- it is the next of the magnitudes
+  suffix-both : (s : List ℤ) (d : Dec) (k : ℕ) (g : Going s d k) → k < length vs → (p : Here s k (g .left)) → p .value ∷ p .others ≡ getD vs k 0 ∷ drop (suc k) vs
+  suffix-both s d k g l p = sym (p .front) ∙ g .suffix ∙ drop-cons vs k 0 l
+
+  suffix-next : (s : List ℤ) (d : Dec) (k : ℕ) (g : Going s d k) → k < length vs → (p : Here s k (g .left)) → p .others ≡ drop (k + 1) vs
+  suffix-next s d k g l p = let e : p .value ∷ p .others ≡ getD vs k 0 ∷ drop (suc k) vs = suffix-both s d k g l p in rw add-one (cc)
+
+  pub going-value : (s : List ℤ) (d : Dec) (k : ℕ) → Going s d k → k < length vs → natAbs (getD s k (pos 0)) ≡ getD vs k 0
+  going-value s d k g l =
+      let p = here s d k g l in
+      let e : p .value ∷ p .others ≡ getD vs k 0 ∷ drop (suc k) vs = suffix-both s d k g l p in
+      let f : p .value ≡ getD vs k 0 = cc in
+      rw (p .at) f
+
   -- the place at hand is worked on
   pub going-next : (s : List ℤ) (d : Dec) (k : ℕ) → Going s d k → k < length vs → (x : A) (z : Dec) (m : ℕ) → m ≤ w
       → Ran b d (t (natAbs (getD s k (pos 0)))) m x z → Going (set s k (f x)) z (k + 1)
@@ -85,6 +101,7 @@ module _ {Q A : Type 0} (f : A → ℤ) (e : Q) (t : ℕ → Asks Q A) (w : ℕ)
             ∙ sym (append-assoc (map f (g .results)) (f x ∷ []) (map pos (p .others)))
             ∙ ap (λ (q : List ℤ). q ++ map pos (p .others)) (sym (map-append f (g .results) (x ∷ [])));
         size = omega (arith, length-append (g .results) (x ∷ []), g .size);
+        suffix = suffix-next s d k g l p;
         count = omega (arith, g .count, ap length (p .front));
         through = through-next (each e t (p .others)) (g .through) u
             (ap (λ (q : List ℕ). run b d (each e t q)) (p .front) ∙ each-next b d z e t (p .value) (p .others) x (u .is))

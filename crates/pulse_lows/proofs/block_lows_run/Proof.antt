@@ -1,0 +1,100 @@
+-- `block_lows_run` meets its contract. The invariant: k places have their low bits, and the tree has come as far. Assumes nothing.
+use borrow.Author.Needs.{needs, sfits-of}
+use Prim.Native.Nat.{ℕ, _-_, _≤_}
+use native.Mathlib.Omega.{arith}
+use mathlib.Core.Path.{_≡_, _∙_}
+use mathlib.Core.List.{List}
+use lib.IntN.{ℤ, pos, natAbs}
+use lib.ListN.{length, getD, length-set, length-map}
+use mir.Facts.{toZ-ofZ, toZ-pos}
+use mir.Syntax.{w16}
+use mir.Val.{SFits}
+use Rattle.entcode.specs.declared.Dec.{Dec}
+use Rattle.silk.specs.PulseSyntax.{each, lowBits}
+use Rattle.silk.specs.PulseSteps.{Placed}
+use Rattle.silk.specs.PulsePlaces.{mags, Going, going-start, going-natural, going-value, going-next, Ended, going-ended}
+use Rattle.pulse_lows.proofs.block_lows_run.Statement.{statement}
+use Rattle.pulse_lows.proofs.block_lows_run.Tie as tie
+
+record Turn (packet : List ℕ) (n : ℕ) (s₀ : List ℤ) (d₀ : Dec) (s : List ℤ) (d : Dec) (k : ℕ) : Type 0 where
+  pub going : Going pos 0 (lowBits n) 160 packet d₀ (mags s₀) s d k
+  pub to : k ≤ 16
+  pub size : length s ≡ 16
+
+finish : (packet : List ℕ) (n : ℕ) (s₀ : List ℤ) (d₀ : Dec) (s : List ℤ) (d : Dec) → Ended pos 0 (lowBits n) 160 packet d₀ (mags s₀) s d
+    → length (mags s₀) ≡ 16 → Placed packet d₀ (each 0 (lowBits n) (mags s₀)) 2560 s d
+finish packet n s₀ d₀ s d e h = record { values = e .results; ran = rw h at (e .ran); is = e .is }
+
+abbrev Inv-loop : tie.InvT-loop
+Inv-loop packet row places₀ n d₀ k₀ places d k = Turn packet n places₀ d₀ places d k
+
+abbrev μ-loop : tie.MeasureT-loop
+μ-loop packet row places₀ n d₀ k₀ places d k = 16 - k
+
+counted : (c : tie.Start) → length (mags (c .args .places .now)) ≡ 16
+counted c = length-map (c .args .places .now) natAbs ∙ c .pre .1 .1 .1 .1
+
+loop-holds : tie.Need-loop-holds Inv-loop μ-loop
+loop-holds c =
+    let b = c .before .before in
+    record { going = going-start _ _ _ _ _ _ _ _ (b .pre .1 .1 .1 .0) (b .pre .0); to = omega arith; size = b .pre .1 .1 .1 .1 }
+
+mul-m : tie.Need-mul-m Inv-loop μ-loop
+mul-m c = search needs
+
+slice-copy-out-m : tie.Need-slice-copy-out-m Inv-loop μ-loop
+slice-copy-out-m c = search needs
+
+cast-low-bits : tie.Need-cast-low-bits Inv-loop μ-loop
+cast-low-bits c = ?
+
+low-bits-requires : tie.Need-low-bits-requires Inv-loop μ-loop
+low-bits-requires c κs = ?
+
+cast-places : tie.Need-cast-places Inv-loop μ-loop
+cast-places c = search needs
+
+mul-t12 : tie.Need-mul-t12 Inv-loop μ-loop
+mul-t12 c = search needs
+
+slice-set-from-places : tie.Need-slice-set-from-places Inv-loop μ-loop
+slice-set-from-places c = search needs
+
+add-k : tie.Need-add-k Inv-loop μ-loop
+add-k c = search needs
+
+loop-less : tie.Need-loop-less Inv-loop μ-loop
+loop-less c = search needs
+
+loop-again : tie.Need-loop-again Inv-loop μ-loop
+loop-again c = ?
+
+same-length : tie.Need-same-length Inv-loop μ-loop
+same-length c = search needs
+
+returns : tie.Need-returns Inv-loop μ-loop
+returns c =
+    let b = c .before .before .before .before in
+    let l = c .before .loop in
+    let h = counted b in
+    finish _ _ (b .args .places .now) _ _ _ (going-ended _ _ _ _ _ _ _ (l .places) (l .d) (l .k) (l .inv .going) (omega arith)) h
+
+pub block-lows-run-spec : {M : Type 1} → statement M
+block-lows-run-spec =
+    tie.close
+    (tie.spec
+    Inv-loop
+    μ-loop
+    loop-holds
+    mul-m
+    slice-copy-out-m
+    cast-low-bits
+    low-bits-requires
+    cast-places
+    mul-t12
+    slice-set-from-places
+    add-k
+    loop-less
+    loop-again
+    same-length
+    returns)
