@@ -1,14 +1,16 @@
 -- `block_lows_run` meets its contract. The invariant: k places have their low bits, and the tree has come as far. Assumes nothing.
 use borrow.Author.Needs.{needs, sfits-of}
-use Prim.Native.Nat.{ℕ, _-_, _≤_}
+use Prim.Native.Nat.{ℕ, _-_, _≤_, _<_}
 use native.Mathlib.Omega.{arith}
 use mathlib.Core.Path.{_≡_, _∙_}
 use mathlib.Core.List.{List}
-use lib.IntN.{ℤ, pos, natAbs}
+use lib.Dec.{T}
+use lib.IntN.{ℤ, pos, negsuc, natAbs}
 use lib.ListN.{length, getD, length-set, length-map}
+use lib.Signed.{nonNeg}
 use mir.Facts.{toZ-ofZ, toZ-pos}
-use mir.Syntax.{w16}
-use mir.Val.{SFits}
+use mir.Syntax.{w16, w32}
+use mir.Val.{Fits, SFits}
 use Rattle.entcode.specs.declared.Dec.{Dec}
 use Rattle.silk.specs.PulseSyntax.{each, lowBits}
 use Rattle.silk.specs.PulseSteps.{Placed}
@@ -31,8 +33,20 @@ Inv-loop packet row places₀ n d₀ k₀ places d k = Turn packet n places₀ d
 abbrev μ-loop : tie.MeasureT-loop
 μ-loop packet row places₀ n d₀ k₀ places d k = 16 - k
 
-counted : (c : tie.Start) → length (mags (c .args .places .now)) ≡ 16
+counted : (c : tie.Start Inv-loop μ-loop) → length (mags (c .args .places .now)) ≡ 16
 counted c = length-map (c .args .places .now) natAbs ∙ c .pre .1 .1 .1 .1
+
+-- the magnitude at hand
+small : (c : tie.At-loop Inv-loop μ-loop) → c .loop .k < 16 → natAbs (getD (c .loop .places) (c .loop .k) (pos 0)) ≤ 16
+small c l =
+    let b = c .before .before .before in
+    let h = counted b in
+    rw (going-value _ _ _ _ _ _ (mags (b .args .places .now)) (c .loop .places) (c .loop .d) (c .loop .k) (c .loop .inv .going) (omega arith))
+    (b .pre .1 .1 .1 .2 (c .loop .k))
+
+natural-fits : (z : ℤ) → z ≡ pos (natAbs z) → natAbs z ≤ 16 → T (nonNeg z) × Fits w32 (natAbs z)
+natural-fits (pos n) e h = (tt, omega arith)
+natural-fits (negsuc n) e h = let q : _≡_ {A = ℕ} 0 1 = cc in absurd (omega arith)
 
 loop-holds : tie.Need-loop-holds Inv-loop μ-loop
 loop-holds c =
@@ -46,10 +60,21 @@ slice-copy-out-m : tie.Need-slice-copy-out-m Inv-loop μ-loop
 slice-copy-out-m c = search needs
 
 cast-low-bits : tie.Need-cast-low-bits Inv-loop μ-loop
-cast-low-bits c = ?
+cast-low-bits c =
+    let b = c .before .before .before .before .before in
+    let l = c .before .before .loop in
+    let f : SFits w16 (getD (l .places) (l .k) (pos 0)) = sfits-of (c .m .given) in
+    let h = counted b in
+    rw (toZ-ofZ f)
+    (natural-fits (getD (l .places) (l .k) (pos 0)) (going-natural _ _ _ _ _ _ _ (l .places) (l .d) (l .k) (l .inv .going) (omega arith)) (small (c .before .before) (omega arith)))
 
 low-bits-requires : tie.Need-low-bits-requires Inv-loop μ-loop
-low-bits-requires c κs = ?
+low-bits-requires c κs =
+    let b = c .before .before .before .before .before in
+    let l = c .before .before .loop in
+    let g = l .inv .going .through in
+    let f : SFits w16 (getD (l .places) (l .k) (pos 0)) = sfits-of (c .m .given) in
+    (g .core, (omega (arith, g .most, b .pre .1 .0), (b .pre .1 .1 .0 .0, (rw (toZ-ofZ f) (small (c .before .before) (omega arith)), b .pre .1 .1 .0 .1))))
 
 cast-places : tie.Need-cast-places Inv-loop μ-loop
 cast-places c = search needs
@@ -67,7 +92,18 @@ loop-less : tie.Need-loop-less Inv-loop μ-loop
 loop-less c = search needs
 
 loop-again : tie.Need-loop-again Inv-loop μ-loop
-loop-again c = ?
+loop-again c =
+    let b = c .before .before .before .before .before .before .before in
+    let l = c .before .before .before .before .loop in
+    let a = c .before .low-bits in
+    let f : SFits w16 (getD (l .places) (l .k) (pos 0)) = sfits-of (c .before .before .m .given) in
+    let h = counted b in
+    rw (toZ-pos w16 {n = a .result .value} (omega (arith, a .ensures .1)))
+    (record {
+      going = going-next _ _ _ _ _ _ _ (l .places) (l .d) (l .k) (l .inv .going) (omega arith) (a .result .value) (a .result .state) 160 (omega arith) (rw (toZ-ofZ f) at (a .ensures .0));
+      to = omega arith;
+      size = length-set (l .places) (l .k) (pos (a .result .value)) ∙ l .inv .size;
+    })
 
 same-length : tie.Need-same-length Inv-loop μ-loop
 same-length c = search needs
