@@ -2,3 +2,4 @@ pub mod Every
 pub mod Rows
 pub mod Parts
 pub mod AtMost
+pub mod All

@@ -39,7 +39,7 @@ fn low_bits(packet: &[u8], from: Dec, row: &[u8], m: u32, n: u32) -> Decoded
 }
 
 // n low bits behind each magnitude of a block.
-pub fn block_lows_run(packet: &[u8], from: Dec, row: &[u8], places: &mut [i16], n: u32) -> Dec
+fn all_lows(packet: &[u8], from: Dec, row: &[u8], places: &mut [i16], n: u32) -> Dec
     requires { ⌜ Core (now packet) from ⌝ }
     requires { ⌜ from .total ≤ 2 ^ 28 ⌝ }
     requires { ⌜ (now row ≡ lowBitRow) × (n ≤ 10) ⌝ }
@@ -57,4 +57,18 @@ pub fn block_lows_run(packet: &[u8], from: Dec, row: &[u8], places: &mut [i16], 
         k += 1;
     }
     d
+}
+
+// The same, with nothing to do for a block that has none.
+pub fn block_lows_run(packet: &[u8], from: Dec, row: &[u8], places: &mut [i16], n: u32) -> Dec
+    requires { ⌜ Core (now packet) from ⌝ }
+    requires { ⌜ from .total ≤ 2 ^ 28 ⌝ }
+    requires { ⌜ (now row ≡ lowBitRow) × (n ≤ 10) ⌝ }
+    requires { ⌜ Natural (now places) × (length (now places) ≡ 16) × AtMost 16 (mags (now places)) ⌝ }
+    ensures { λ z. ⌜ Placed (now (packet .entry)) from (each 0 (lowBits n) (mags (now (places .entry)))) 2560 (now (places .exit)) z ⌝ }
+{
+    if n == 0 {
+        return from;
+    }
+    all_lows(packet, from, row, places, n)
 }

@@ -4,4 +4,6 @@ pub mod PulseSyntax
 pub mod PulseSteps
 pub mod PulsePlaces
 pub mod PulseRowLaws
+pub mod PulseBlocks
+pub mod PulseLaws
 pub mod FrameCalls
