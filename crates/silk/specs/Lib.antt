@@ -6,4 +6,5 @@ pub mod PulsePlaces
 pub mod PulseRowLaws
 pub mod PulseBlocks
 pub mod PulseLaws
+pub mod PulseRounds
 pub mod FrameCalls

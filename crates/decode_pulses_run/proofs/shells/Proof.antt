@@ -1,74 +1,77 @@
+-- `shells` meets its contract. The invariant: i blocks are split, and the tree has come as far. Assumes nothing.
+use borrow.Author.Needs.{needs}
+use Prim.Native.Nat.{ℕ, _+_, _-_, _*_, _≤_}
+use native.Mathlib.Omega.{arith}
+use mathlib.Core.Path.{_≡_, _∙_}
+use borrow.Rule.Slice.PartMut.{mid-len}
+use lib.ListN.{length, getD}
+use Rattle.silk.specs.PulseRounds.{Splitting, splitting-start, splitting-size, splitting-next, splitting-end}
 use Rattle.decode_pulses_run.proofs.shells.Statement.{statement}
 use Rattle.decode_pulses_run.proofs.shells.Tie as tie
-use Rattle.decode_pulses_run.proofs.shells.Reads as reads
-use Rattle.decode_pulses_run.proofs.shells.Lts as lts
-use Rattle.shell_coder.proofs.silk_shell_decoder_run.Reads as silk-shell-decoder-run-reads
 
 abbrev Inv-loop : tie.InvT-loop
-Inv-loop packet rows pulses₀ n x d₀ i₀ pulses d i = ?
+Inv-loop packet rows pulses₀ n x d₀ i₀ pulses d i = Splitting packet d₀ (x .counts) (x .lows) n pulses d i
 
 abbrev μ-loop : tie.MeasureT-loop
-μ-loop packet rows pulses₀ n x d₀ i₀ pulses d i = ?
+μ-loop packet rows pulses₀ n x d₀ i₀ pulses d i = n - i
 
--- src/lib.rt:25:5
+-- the slice keeps its length
+sized : (c : tie.At-loop Inv-loop μ-loop) → length (c .loop .pulses) ≡ c .before .before .before .before .args .n * 16
+sized c = splitting-size _ _ _ _ _ _ _ _ (c .loop .inv)
+
 loop-holds : tie.Need-loop-holds Inv-loop μ-loop
-loop-holds c = ?
+loop-holds c = let b = c .before .before .before in splitting-start _ _ _ _ _ _ (b .pre .1 .1 .1 .1) (b .pre .0)
 
--- src/lib.rt:26:18
 mul-at : tie.Need-mul-at Inv-loop μ-loop
-mul-at c = ?
+mul-at c = search needs
 
--- src/lib.rt:27:19
 add-end : tie.Need-add-end Inv-loop μ-loop
-add-end c = ?
+add-end c = search needs
 
--- src/lib.rt:28:17
 element-copy-out-c : tie.Need-element-copy-out-c Inv-loop μ-loop
-element-copy-out-c c = ?
+element-copy-out-c c = search needs
 
--- src/lib.rt:29:66
 mul-silk-shell-decoder-run : tie.Need-mul-silk-shell-decoder-run Inv-loop μ-loop
-mul-silk-shell-decoder-run c = ?
+mul-silk-shell-decoder-run c = search needs
 
--- src/lib.rt:29:66
 sub-silk-shell-decoder-run : tie.Need-sub-silk-shell-decoder-run Inv-loop μ-loop
-sub-silk-shell-decoder-run c = ?
+sub-silk-shell-decoder-run c = search needs
 
--- src/lib.rt:29:66
 part-silk-shell-decoder-run-start : tie.Need-part-silk-shell-decoder-run-start Inv-loop μ-loop
-part-silk-shell-decoder-run-start c = ?
+part-silk-shell-decoder-run-start c = omega (arith, sized (c .before .before))
 
--- src/lib.rt:29:66
 part-silk-shell-decoder-run-end : tie.Need-part-silk-shell-decoder-run-end Inv-loop μ-loop
-part-silk-shell-decoder-run-end c = ?
+part-silk-shell-decoder-run-end c = omega (arith, sized (c .before .before))
 
--- src/lib.rt:29:88
 cast-silk-shell-decoder-run : tie.Need-cast-silk-shell-decoder-run Inv-loop μ-loop
-cast-silk-shell-decoder-run c = ?
+cast-silk-shell-decoder-run c = omega (arith, c .before .before .before .before .before .before .before .pre .1 .1 .1 .2 (c .before .before .before .loop .i))
 
--- src/lib.rt:29:9
 silk-shell-decoder-run-requires : tie.Need-silk-shell-decoder-run-requires Inv-loop μ-loop
-silk-shell-decoder-run-requires c κs = ?
+silk-shell-decoder-run-requires c κs =
+    let b = c .before .before .before .before .before .before .before in
+    let l = c .before .before .before .loop in
+    let g = l .inv .turning .through in
+    let m = mid-len (l .i * 16) (l .i * 16 + 16) (l .pulses) (omega (arith, sized (c .before .before .before))) in
+    (g .core, (omega (arith, g .most, b .pre .1 .0, b .pre .1 .1 .1 .0), (b .pre .1 .1 .0, (b .pre .1 .1 .1 .2 (l .i), omega (arith, m)))))
 
--- src/lib.rt:30:9
 add-i : tie.Need-add-i Inv-loop μ-loop
-add-i c = ?
+add-i c = search needs
 
--- src/lib.rt:25:5
 loop-less : tie.Need-loop-less Inv-loop μ-loop
-loop-less c = ?
+loop-less c = search needs
 
--- src/lib.rt:25:5
 loop-again : tie.Need-loop-again Inv-loop μ-loop
-loop-again c = ?
+loop-again c =
+    let b = c .before .before .before .before .before .before .before .before .before in
+    let l = c .before .before .before .before .before .loop in
+    let a = c .before .silk-shell-decoder-run in
+    splitting-next _ _ _ _ _ (l .pulses) (l .d) (l .i) (l .inv) (omega arith) (b .pre .1 .1 .1 .2 (l .i)) (a .last .1 .1 .1 .0) (a .result) (a .ensures)
 
--- src/lib.rt:16:1
 same-length : tie.Need-same-length Inv-loop μ-loop
-same-length c = ?
+same-length c = sized (c .before) ∙ omega (arith, c .before .before .before .before .before .pre .1 .1 .1 .1)
 
--- src/lib.rt:16:1
 returns : tie.Need-returns Inv-loop μ-loop
-returns c = ?
+returns c = let l = c .before .loop in splitting-end _ _ _ _ _ (l .pulses) (l .d) (l .i) (l .inv) (omega arith)
 
 pub shells-spec : {M : Type 1} → statement M
 shells-spec =
