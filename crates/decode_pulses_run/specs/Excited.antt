@@ -9,5 +9,5 @@ use Rattle.silk.specs.PulseSyntax.{Excitation, excitation}
 
 pub record Excited (b : List ℕ) (d : Dec) (signal offset n : ℕ) (s : List ℤ) (z : Dec) : Type 0 where
   pub value : Excitation
-  pub ran : Ran b d (excitation signal offset n) 70000 value z
+  pub ran : Ran b d (excitation signal offset n) 64656 value z
   pub is : s ≡ flatten (value .pulses)

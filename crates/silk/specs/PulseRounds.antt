@@ -13,8 +13,8 @@ use Rattle.entcode.specs.ReaderLaws.{Core}
 use Rattle.tree.specs.Asks.{Asks, got, run}
 use Rattle.tree.specs.Ran.{Ran}
 use Rattle.tree.specs.Through.{before}
-use Rattle.silk.specs.PulseSyntax.{Block, each, shell}
-use Rattle.silk.specs.PulseSteps.{Placed, blockAt, blocksFrom, blocks-end, blocks-left, each-next, each-end}
+use Rattle.silk.specs.PulseSyntax.{Block, each, shell, lowBits, blockLows, signRowOf, sign, blockSigns}
+use Rattle.silk.specs.PulseSteps.{Placed, blockAt, blocksFrom, blocks-end, blocks-left, each-next, each-end, block-lows-next, block-lows-end, block-signs-next, block-signs-end}
 use Rattle.silk.specs.PulsePlaces.{mags, mags-pos}
 use Rattle.silk.specs.PulseBlocks.{Small, Sixteen, Turning, Turned, turning-start, turning-part, turning-next, turning-end, Split}
 use Rattle.silk.specs.PulseLaws.{shell-small}
@@ -184,6 +184,14 @@ module _ {Q T A : Type 0} (f : A → ℤ) (P : List ℕ → Type 0) (wide : (v :
         wide (p .value) (p .has),
       )
 
+  pub working-ended : (s : List ℤ) (d : Dec) (i : ℕ) → Working s d i → n ≤ i → length s ≡ n * 16
+  unfolding flatten
+  working-ended s d i g h =
+      let t = g .turning in
+      let o : length (map pos (flatten (g .left))) ≡ 0 = ap (λ (v : List (List ℕ)). length (map pos (flatten v))) (no-more (g .left) (omega (arith, g .count))) in
+      ap length (t .is) ∙ length-append (map f (flatten (t .results))) (map pos (flatten (g .left)))
+      ∙ omega (arith, length-map (flatten (t .results)) f, t .size, g .count)
+
   pub working-end : (s : List ℤ) (d : Dec) (i : ℕ) → Working s d i → n ≤ i → Turned f Sixteen b d₀ (tree (blocksFrom c l 0 n) ms) w s d n
   unfolding flatten
   working-end s d i g h =
@@ -193,3 +201,19 @@ module _ {Q T A : Type 0} (f : A → ℤ) (P : List ℕ → Type 0) (wide : (v :
       (turning-end f Sixteen b d₀ (tree (blocksFrom c l 0 n) ms) w s d i (map pos (flatten (g .left))) _ (g .turning)
       (ap (λ (v : List (List ℕ)). map pos (flatten v)) o)
       (ap (λ (k : List Block). run b d (tree k (g .left))) (blocks-end c l n i h) ∙ no-block b d (g .left)))
+
+-- i blocks have their low bits
+abbrev pub lowsOf : Block → List ℕ → Asks (List ℕ) (List ℕ)
+lowsOf k v = each 0 (lowBits (k .lows)) v
+
+abbrev pub Lowering : List ℕ → Dec → List ℕ → List ℕ → List (List ℕ) → ℕ → List ℤ → Dec → ℕ → Type 0
+Lowering b d₀ c l ms n s d i = Working pos Small (λ v h. h .size) lowsOf blockLows 2560 block-lows-next block-lows-end b d₀ c l ms n s d i
+
+-- i blocks have their signs
+abbrev pub signsOf : ℕ → ℕ → Block → List ℕ → Asks (List ℤ) (List ℤ)
+signsOf signal offset k v = each (pos 0) (sign (signRowOf signal offset (k .count))) v
+
+abbrev pub Signing : List ℕ → Dec → ℕ → ℕ → List ℕ → List ℕ → List (List ℕ) → ℕ → List ℤ → Dec → ℕ → Type 0
+Signing b d₀ signal offset c l vs n s d i =
+    Working (λ (x : ℤ). x) Sixteen (λ v h. h) (signsOf signal offset) (blockSigns signal offset) 256
+    (λ b d z k bs v vs x. block-signs-next b d z signal offset k bs v vs x) (λ b d vs. block-signs-end b d signal offset vs) b d₀ c l vs n s d i
