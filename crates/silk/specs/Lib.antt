@@ -1,4 +1,10 @@
 pub mod Record
 pub mod IndexSyntax
 pub mod PulseSyntax
+pub mod PulseSteps
+pub mod PulsePlaces
+pub mod PulseRowLaws
+pub mod PulseBlocks
+pub mod PulseLaws
+pub mod PulseRounds
 pub mod FrameCalls

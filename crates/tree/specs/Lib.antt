@@ -1,3 +1,5 @@
 pub mod Asks
 pub mod AsksLaws
 pub mod Ran
+pub mod Always
+pub mod Through
