@@ -29,6 +29,14 @@ pub data Subframes : ℕ → Type 0 where
   two : Subframes 2
   four : Subframes 4
 
+pub subframes-most : {n : ℕ} → Subframes n → n ≤ 4
+subframes-most two = omega arith
+subframes-most four = omega arith
+
+pub subframes-least : {n : ℕ} → Subframes n → 2 ≤ n
+subframes-least two = omega arith
+subframes-least four = omega arith
+
 -- where the rows of a lag's low part and of a contour stand, and how long the latter is
 unfoldable pub lagLowStart : ℕ → ℕ
 lagLowStart khz = cond (eqb khz 8) 533 (cond (eqb khz 12) 542 548)
@@ -38,6 +46,22 @@ contourStart khz subframes = cond (eqb khz 8) (cond (eqb subframes 2) 408 411) (
 
 unfoldable pub contourSize : ℕ → ℕ → ℕ
 contourSize khz subframes = cond (eqb khz 8) (cond (eqb subframes 2) 3 11) (cond (eqb subframes 2) 12 34)
+
+pub lag-low-within : (khz : ℕ) → Rate khz → (lagLowStart khz + khz / 2 ≤ 556) × (khz / 2 ≤ 8)
+unfolding lagLowStart
+lag-low-within khz eight = (omega arith, omega arith)
+lag-low-within khz twelve = (omega arith, omega arith)
+lag-low-within khz sixteen = (omega arith, omega arith)
+
+pub contour-within : (khz subframes : ℕ) → Rate khz → Subframes subframes
+    → (contourStart khz subframes + contourSize khz subframes ≤ 468) × (contourSize khz subframes ≤ 34)
+unfolding contourStart contourSize
+contour-within khz subframes eight two = (omega arith, omega arith)
+contour-within khz subframes eight four = (omega arith, omega arith)
+contour-within khz subframes twelve two = (omega arith, omega arith)
+contour-within khz subframes twelve four = (omega arith, omega arith)
+contour-within khz subframes sixteen two = (omega arith, omega arith)
+contour-within khz subframes sixteen four = (omega arith, omega arith)
 
 -- ---- what a reader of indices is lent
 

@@ -138,18 +138,19 @@ unfoldable pub scale : ℕ → Indices → Asks Indices Indices
 scale mode x =
     cond (eqb mode 0) (ask (row scaleRow) (λ y. said (y .scale)) (λ v. done (withScale x v))) (done (withScale x 0))
 
--- the lag is relative in mode 2 after a voiced frame
-abbrev pub relativeIn : Setting → Bool
-relativeIn s = eqb (s .mode) 2 && eqb (s .prevtype) 2
+unfoldable pub pitch : Bool → ℕ → ℕ → ℕ → ℤ → Indices → Asks Indices Indices
+pitch relative khz subframes mode before x =
+    then (lag relative khz before x) (λ a.
+    then (contour khz subframes a) (λ c.
+    then (period subframes c) (scale mode)))
 
-unfoldable pub pitch : Setting → Indices → Asks Indices Indices
-pitch s x =
-    then (lag (relativeIn s) (s .khz) (s .prevlag) x) (λ a.
-    then (contour (s .khz) (s .subframes) a) (λ c.
-    then (period (s .subframes) c) (scale (s .mode))))
+-- the lag is relative in mode 2 after a voiced frame
+abbrev pub relativeIn : ℕ → ℕ → Bool
+relativeIn mode prevtype = eqb mode 2 && eqb prevtype 2
 
 unfoldable pub voicing : Setting → ℕ → Indices → Asks Indices Indices
-voicing s signal x = cond (eqb signal 2) (pitch s x) (done x)
+voicing s signal x =
+    cond (eqb signal 2) (pitch (relativeIn (s .mode) (s .prevtype)) (s .khz) (s .subframes) (s .mode) (s .prevlag) x) (done x)
 
 -- seed (section 4.2.7.7)
 unfoldable pub seed : Indices → Asks Indices Indices

@@ -14,19 +14,11 @@ use Rattle.entcode.specs.declared.Dec.{Dec}
 use Rattle.entcode.specs.ReaderLaws.{Core}
 use Rattle.tree.specs.Asks.{run}
 use Rattle.silk.specs.declared.Indices.{Indices}
-use Rattle.silk.specs.IndexRows.{Subframes, two, four, delta-gain-row}
+use Rattle.silk.specs.IndexRows.{subframes-most, subframes-least, delta-gain-row}
 use Rattle.silk.specs.IndexSyntax.{moreGains}
 use Rattle.silk.specs.IndexSteps.{gains-end, gains-next}
 use Rattle.index_gains.proofs.more_gains.Statement.{statement}
 use Rattle.index_gains.proofs.more_gains.Tie as tie
-
-most-four : {n : ℕ} → Subframes n → n ≤ 4
-most-four two = omega arith
-most-four four = omega arith
-
-least-one : {n : ℕ} → Subframes n → 1 ≤ n
-least-one two = omega arith
-least-one four = omega arith
 
 record Going (b : List ℕ) (n : ℕ) (x₀ : Indices) (d₀ : Dec) (x : Indices) (d : Dec) (k : ℕ) : Type 0 where
   pub rest : run b d (moreGains (n - k) k x) ≡ run b d₀ (moreGains (n - 1) 1 x₀)
@@ -51,8 +43,8 @@ loop-holds c =
       rest = refl;
       core = z .pre .0 .core;
       from = omega arith;
-      to = least-one (z .pre .1);
-      few = most-four (z .pre .1);
+      to = omega (arith, subframes-least (z .pre .1));
+      few = subframes-most (z .pre .1);
       size = search needs;
       least = omega arith;
       most = omega arith;
