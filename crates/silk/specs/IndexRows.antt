@@ -37,6 +37,11 @@ pub subframes-least : {n : ℕ} → Subframes n → 2 ≤ n
 subframes-least two = omega arith
 subframes-least four = omega arith
 
+pub rate-most : {khz : ℕ} → Rate khz → khz / 16 ≤ 1
+rate-most eight = omega arith
+rate-most twelve = omega arith
+rate-most sixteen = omega arith
+
 -- where the rows of a lag's low part and of a contour stand, and how long the latter is
 unfoldable pub lagLowStart : ℕ → ℕ
 lagLowStart khz = cond (eqb khz 8) 533 (cond (eqb khz 12) 542 548)

@@ -44,15 +44,15 @@ module _ (b : List ℕ) (d : Dec) (n k : ℕ) (x : Indices) where
   filters-next p t a e h l =
       rw (add-one, less-suc n k l) (asked b d t (filterRow p) (λ y. saidAt (y .ltp) k) (λ v. filters p (n - suc k) (suc k) (withFilter x k v)) a e h)
 
-  pub residuals-end : (khz v : ℕ) → n ≤ k → run b d (residuals khz v (n - k) k x) ≡ got x d
+  pub residuals-end : (khz : ℕ) (s : List ℕ) → n ≤ k → run b d (residuals khz s (n - k) k x) ≡ got x d
   unfolding run residuals
-  residuals-end khz v h = let e : n - k ≡ 0 = omega arith in rw e
+  residuals-end khz s h = let e : n - k ≡ 0 = omega arith in rw e
 
-  pub residuals-next : (khz v : ℕ) (z : ℤ) (q : Dec) → k < n → run b d (residual (residualRow khz (residualPick khz v k))) ≡ got z q
-      → run b q (residuals khz v (n - (k + 1)) (k + 1) (withNlsf x (k + 1) z)) ≡ run b d (residuals khz v (n - k) k x)
+  pub residuals-next : (khz : ℕ) (s : List ℕ) (z : ℤ) (q : Dec) → k < n → run b d (residual (residualRow khz (residualPick s k))) ≡ got z q
+      → run b q (residuals khz s (n - (k + 1)) (k + 1) (withNlsf x (k + 1) z)) ≡ run b d (residuals khz s (n - k) k x)
   unfolding residuals
-  residuals-next khz v z q l e =
-      let r = residual (residualRow khz (residualPick khz v k)) in
+  residuals-next khz s z q l e =
+      let r = residual (residualRow khz (residualPick s k)) in
       rw (add-one, less-suc n k l)
-      (ran-then b d q (of (λ y. getD (y .nlsf) (suc k) (pos 0)) r) (λ z. residuals khz v (n - suc k) (suc k) (withNlsf x (suc k) z)) z
+      (ran-then b d q (of (λ y. getD (y .nlsf) (suc k) (pos 0)) r) (λ z. residuals khz s (n - suc k) (suc k) (withNlsf x (suc k) z)) z
       (run-of b d (λ y. getD (y .nlsf) (suc k) (pos 0)) r ∙ e))

@@ -58,13 +58,13 @@ gains mode subframes signal x = then (firstGain mode signal x) (moreGains (subfr
 abbrev pub bookOf : ℕ → Book
 bookOf khz = cond (eqb khz 16) wideBook narrowBook
 
--- one place's bits of the selector byte that serves an even place i and i + 1
-abbrev pub pickOf : ℕ → ℕ → ℕ
-pickOf selector i = selector / cond (eqb (i % 2) 0) 2 32 % 8
+-- the selectors of vector v: a byte for two places
+abbrev pub selectorsOf : ℕ → ℕ → List ℕ
+selectorsOf khz v = getD (bookOf khz .selectors) v []
 
--- the residual row of place i of vector v
-unfoldable pub residualPick : ℕ → ℕ → ℕ → ℕ
-residualPick khz v i = pickOf (getD (getD (bookOf khz .selectors) v []) (i / 2) 0) i
+-- the residual row of place i: bits 1 to 3 of its byte for an even place, 5 to 7 for an odd one
+abbrev pub residualPick : List ℕ → ℕ → ℕ
+residualPick selectors i = getD selectors (i / 2) 0 / cond (eqb (i % 2) 0) 2 32 % 8
 
 -- the symbol of a residual z, -10 to 10, and what is left for the extension
 abbrev pub residualSaid : ℤ → ℕ
@@ -81,17 +81,17 @@ residual r =
     (cond (eqb v 8) (ask (row extensionRow) extensionSaid (λ e. done (pos (4 + e))))
     (done (pos v -ℤ pos 4))))
 
--- n more residuals from place i on, of first index v
-unfoldable pub residuals : ℕ → ℕ → ℕ → ℕ → Indices → Asks Indices Indices
-residuals khz v zero i x = done x
-residuals khz v (suc n) i x =
-    then (of (λ y. getD (y .nlsf) (suc i) (pos 0)) (residual (residualRow khz (residualPick khz v i))))
-    (λ z. residuals khz v n (suc i) (withNlsf x (suc i) z))
+-- n more residuals from place i on
+unfoldable pub residuals : ℕ → List ℕ → ℕ → ℕ → Indices → Asks Indices Indices
+residuals khz selectors zero i x = done x
+residuals khz selectors (suc n) i x =
+    then (of (λ y. getD (y .nlsf) (suc i) (pos 0)) (residual (residualRow khz (residualPick selectors i))))
+    (λ z. residuals khz selectors n (suc i) (withNlsf x (suc i) z))
 
 unfoldable pub spectrum : ℕ → ℕ → Indices → Asks Indices Indices
 spectrum khz signal x =
     ask (row (firstIndexRow khz signal)) (λ y. saidAt (y .nlsf) 0) (λ v.
-    residuals khz v (bookOf khz .order) 0 (withNlsf x 0 (pos v)))
+    residuals khz (selectorsOf khz v) (bookOf khz .order) 0 (withNlsf x 0 (pos v)))
 
 -- interpolation (section 4.2.7.5.5): 4 subframes only; fixed at 4 for 2
 unfoldable pub interpolation : ℕ → Indices → Asks Indices Indices
