@@ -148,9 +148,8 @@ pitch relative khz subframes mode before x =
 abbrev pub relativeIn : ℕ → ℕ → Bool
 relativeIn mode prevtype = eqb mode 2 && eqb prevtype 2
 
-unfoldable pub voicing : Setting → ℕ → Indices → Asks Indices Indices
-voicing s signal x =
-    cond (eqb signal 2) (pitch (relativeIn (s .mode) (s .prevtype)) (s .khz) (s .subframes) (s .mode) (s .prevlag) x) (done x)
+unfoldable pub voicing : ℕ → Bool → ℕ → ℕ → ℕ → ℤ → Indices → Asks Indices Indices
+voicing signal relative khz subframes mode before x = cond (eqb signal 2) (pitch relative khz subframes mode before x) (done x)
 
 -- seed (section 4.2.7.7)
 unfoldable pub seed : Indices → Asks Indices Indices
@@ -164,4 +163,4 @@ indices s x =
     then (gains (s .mode) (s .subframes) (k / 2) (withKind x k)) (λ g.
     then (spectrum (s .khz) (k / 2) g) (λ q.
     then (interpolation (s .subframes) q) (λ i.
-    then (voicing s (k / 2) i) seed))))
+    then (voicing (k / 2) (relativeIn (s .mode) (s .prevtype)) (s .khz) (s .subframes) (s .mode) (s .prevlag) i) seed))))

@@ -1,3 +1,4 @@
 pub mod Asks
 pub mod AsksLaws
 pub mod Ran
+pub mod Outcomes
