@@ -1,5 +1,9 @@
 pub mod Record
 pub mod IndexSyntax
+pub mod IndexRows
+pub mod IndexSteps
+pub mod IndexParts
+pub mod IndexRanges
 pub mod PulseSyntax
 pub mod PulseSteps
 pub mod PulsePlaces

@@ -1,5 +1,6 @@
+pub mod Always
 pub mod Asks
 pub mod AsksLaws
+pub mod Outcomes
 pub mod Ran
-pub mod Always
 pub mod Through
