@@ -6,3 +6,5 @@ pub mod IndexParts
 pub mod IndexRanges
 pub mod PulseSyntax
 pub mod FrameCalls
+pub mod IndexCalls
+pub mod IndexCases
