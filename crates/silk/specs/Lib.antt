@@ -12,3 +12,5 @@ pub mod PulseBlocks
 pub mod PulseLaws
 pub mod PulseRounds
 pub mod FrameCalls
+pub mod IndexCalls
+pub mod IndexCases
