@@ -26,10 +26,7 @@ fn decode_sign(packet: &[u8], d: Dec, row: &[u8], m: i16) -> SignRead
     ensures { λ a. ⌜ Ran (now (packet .entry)) d (sign (now (row .entry)) (natAbs m)) 16 (a .pulse) (a .state) ⌝ }
 {
     if m == 0 {
-        return SignRead {
-            pulse: 0,
-            state: d,
-        };
+        return SignRead { pulse: 0, state: d };
     }
     let a = entdec_run::ec_dec_icdf8_run(packet, d, row);
     let state = a.state;

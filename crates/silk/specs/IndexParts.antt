@@ -132,6 +132,7 @@ gains-end mode n signal x f p h =
           others = λ k i j. d .inside k i (omega arith);
           kept = λ k i. d .behind k (omega arith) ∙ c .behind k (omega arith);
         })
+
     next : 2 ≤ n → n ≤ 4 → (y : Indices) → Gained (Filled (Upto (firstMost mode)) 0 1) x y → Ends (Gained (GainsRead mode n) x) (n - 1) (moreGains (n - 1) 1 y)
     next l u y (gained a c) = ends-in (λ z q. both l a c z q) (more-gains-end (n - 1) 1 (withGains x a) (omega (arith, c .size)))
 
@@ -348,12 +349,15 @@ voicing-end signal relative khz n mode before x r f h =
         → Scaled mode (withFilters (withPeriod (withContour (withLag x z) c) p) m) y → Voiced signal relative khz n mode x y
     after-scale e z lz c lc p m lp fm y (scaled v s) =
         voiced e z c p v m (record { lag = lz; contour = lc; period = lp; filters = fm; scale = s })
+
     after-period : signal ≡ 2 → (z : ℤ) → LagRead relative khz z → (c : ℕ) → c < contourSize khz n → (y : Indices)
         → Perioded n (withContour (withLag x z) c) y → Ends (Voiced signal relative khz n mode x) 1 (scale mode y)
     after-period e z lz c lc y (perioded p m lp fm) = ends-in (λ w q. after-scale e z lz c lc p m lp fm w q) (scale-end mode _)
+
     after-contour : signal ≡ 2 → (z : ℤ) → LagRead relative khz z → (y : Indices) → Contoured khz n (withLag x z) y
         → Ends (Voiced signal relative khz n mode x) 6 (then (period n y) (scale mode))
     after-contour e z lz y (contoured c lc) =
         ends-then {n = 5} {m = 1} _ (period-end n (withContour (withLag x z) c) (subframes-most f) h) (λ w q. after-period e z lz c lc w q)
+
     after-lag : signal ≡ 2 → (y : Indices) → Lagged relative khz x y → Ends (Voiced signal relative khz n mode x) 7 (then (contour khz n y) (λ c. then (period n c) (scale mode)))
     after-lag e y (lagged z lz) = ends-then {n = 1} {m = 6} _ (contour-end khz n (withLag x z) r f) (λ w q. after-contour e z lz w q)

@@ -66,8 +66,7 @@ block-lows-run-requires c κs =
     let b = c .before .before .before .before .before .before .before in
     let l = c .before .before .before .before .loop in
     let g = l .inv .turning .through in
-    let o = working-here _ _ _ _ _ _ _ _ _ _ _ _ _ _ (l .pulses) (l .d) (l .i) (l .inv) (omega arith) in
-    (
+    let o = working-here _ _ _ _ _ _ _ _ _ _ _ _ _ _ (l .pulses) (l .d) (l .i) (l .inv) (omega arith) in (
       g .core,
       (
         omega (arith, g .most, b .pre .1 .0, b .pre .1 .1 .1 .0),

@@ -90,7 +90,7 @@ loop-again c =
     let a = c .before .before .residual-index in
     let p = c .before .before .before .residual-pick-run in
     let e : run (z .args .packet .now) (l .r) (residual (residualRow (z .args .khz) (residualPick (z .args .selectors .now) (l .i)))) ≡ got (a .result .value) (a .result .state) =
-        rw (p .ensures) at (a .ensures .is) in
+    rw (p .ensures) at (a .ensures .is) in
     let f : SFits w8 (a .result .value) = search needs in
     rw (toZ-ofZ f)
     (record {
