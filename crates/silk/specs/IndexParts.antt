@@ -318,7 +318,7 @@ data Scaled (mode : ℕ) (x : Indices) : Indices → Type 0 where
 scale-end : (mode : ℕ) (x : Indices) → Ends (Scaled mode x) 1 (scale mode x)
 unfolding scale sizes
 scale-end mode x =
-    chosen (λ (t : Asks Indices Indices). Ends (Scaled mode x) 1 t) (eqb mode 0)
+    chosen (λ (t : Asks Indices Indices). Ends (Scaled mode x) 1 t) _
     (λ e. row-asks 40 (omega arith) (λ v i. ends (scaled v (record { most = omega (arith, row-size 40); fixed = λ q. absurd (q (eqb-true mode 0 e)) }))))
     (λ e. ends (scaled 0 (record { most = omega arith; fixed = λ q. refl })))
 
