@@ -1,2 +1,5 @@
 pub mod Every
 pub mod Rows
+pub mod Parts
+pub mod AtMost
+pub mod All

@@ -5,6 +5,12 @@ pub mod IndexSteps
 pub mod IndexParts
 pub mod IndexRanges
 pub mod PulseSyntax
+pub mod PulseSteps
+pub mod PulsePlaces
+pub mod PulseRowLaws
+pub mod PulseBlocks
+pub mod PulseLaws
+pub mod PulseRounds
 pub mod FrameCalls
 pub mod IndexCalls
 pub mod IndexCases

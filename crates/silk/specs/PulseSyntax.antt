@@ -11,7 +11,7 @@ use Rattle.sheet.specs.Directory.{rateRow, countRow, lastCountRow, shellRow, lo
 use Rattle.entcode.specs.Models.{Model, tab}
 use Rattle.tree.specs.Asks.{Asks, done, ask, then, of}
 
-abbrev row : List ℕ → Model
+abbrev pub row : List ℕ → Model
 row r = tab 8 r
 
 -- a block's count before low bits, and the number of its low bits (its shift)
@@ -26,11 +26,11 @@ pub record Excitation : Type 0 where
   pub pulses : List (List ℤ)
 
 -- the tree f for each part of a list, one after the other; what the writer has in hand is a list too
-abbrev headOf : {Q : Type 0} → Q → List Q → Q
+abbrev pub headOf : {Q : Type 0} → Q → List Q → Q
 headOf e [] = e
 headOf e (x ∷ xs) = x
 
-abbrev tailOf : {Q : Type 0} → List Q → List Q
+abbrev pub tailOf : {Q : Type 0} → List Q → List Q
 tailOf [] = []
 tailOf (x ∷ xs) = xs
 
@@ -117,7 +117,7 @@ blockSigns signal offset (b ∷ bs) (v ∷ vs) =
 -- ---- all of it, in order
 
 -- what the writer of a frame has in hand at each part: magnitudes before low bits, whole magnitudes, pulses
-abbrev magnitudes : Excitation → List (List ℕ)
+abbrev pub magnitudes : Excitation → List (List ℕ)
 magnitudes y = map (map natAbs) (y .pulses)
 
 unfoldable pub shifted : List Block → List (List ℕ) → List (List ℕ)

@@ -1,4 +1,6 @@
+pub mod Always
 pub mod Asks
 pub mod AsksLaws
-pub mod Ran
 pub mod Outcomes
+pub mod Ran
+pub mod Through

@@ -1,12 +1,12 @@
-// Sums of 16-bit numbers that wrap: the library has wrapping adds of unsigned numbers alone.
-ghost use mathlib.Core.Path.{_≡_};
+// Signed sums kept in 16 bits: what `wrapping_add` of i16 is in the crate.
 ghost use Prim.Native.Nat.{_≤_};
+ghost use mathlib.Core.Path.{_≡_};
 ghost use lib.IntN.{_+ℤ_};
 ghost use Rattle.ints.specs.Parts.{up, down};
 ghost use Rattle.ints.specs.Wrap.{wrap16};
 
-// A number that is near the range of 16 bits, kept in 16 bits.
-fn fold16(s: i32) -> i16
+// A number near the range of 16 bits, kept in 16 bits.
+pub fn fold16_run(s: i32) -> i16
     requires { ⌜ (up s ≤ 65535) × (down s ≤ 65536) ⌝ }
     ensures { λ r. ⌜ r ≡ wrap16 s ⌝ }
 {
@@ -23,5 +23,5 @@ fn fold16(s: i32) -> i16
 pub fn add16(a: i16, b: i16) -> i16
     ensures { λ r. ⌜ r ≡ wrap16 (a +ℤ b) ⌝ }
 {
-    fold16((a as i32) + (b as i32))
+    fold16_run((a as i32) + (b as i32))
 }

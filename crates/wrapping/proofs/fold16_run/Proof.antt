@@ -1,4 +1,4 @@
--- `wrapping::fold16` meets its contract: each arm's result lies in 16 bits, and differs from s by a multiple of 65,536.
+-- `fold16_run` meets its contract: each arm's result lies in 16 bits, and differs from s by a multiple of 65,536.
 -- Assumes nothing.
 use Prim.Native.Nat.{_≤_}
 use mathlib.Core.Path.{_≡_, refl, sym}
@@ -9,13 +9,13 @@ use lib.Signed.{ltZ}
 use mir.Syntax.{w16, w32}
 use mir.Val.{SFits}
 use mir.Facts.{toZ-ofZ, sfits-widen}
-use Rattle.ints.specs.Parts.{up, down}
-use Rattle.ints.specs.Sums.{sum-parts, diff-parts, up-sum, down-sum, up-diff, down-diff}
 use Rattle.ints.specs.Order.{parts-alone, ltZ-true, ltZ-false}
+use Rattle.ints.specs.Parts.{up, down}
+use Rattle.ints.specs.Sums.{sum-parts, up-sum, down-sum, diff-parts, up-diff, down-diff}
 use Rattle.ints.specs.Widths.{fits-up, fits-down, parts-fit}
 use Rattle.ints.specs.Wrapping.{wrap16-is}
-use Rattle.wrapping.proofs.fold16.Statement.{statement}
-use Rattle.wrapping.proofs.fold16.Tie as tie
+use Rattle.wrapping.proofs.fold16_run.Statement.{statement}
+use Rattle.wrapping.proofs.fold16_run.Tie as tie
 
 wide : {z : ℤ} → SFits w16 z → SFits w32 z
 wide f = sfits-widen {w = w16} tt f
@@ -88,6 +88,6 @@ returns-3 c =
     let f = within (s .args .s) (s .pre) (rw e at (c .before .if1 .left)) (rw e at (c .if2 .left)) in
     rw (e, toZ-ofZ f) (sym (wrap16-is (s .args .s) (s .args .s) 0 0 refl (fits-up _ f) (fits-down _ f)))
 
-pub fold16-spec : {M : Type 1} → statement M
-fold16-spec =
+pub fold16-run-spec : {M : Type 1} → statement M
+fold16-run-spec =
     tie.close (tie.spec sub-result cast-result add-result cast-result-2 cast-result-3 returns returns-2 returns-3)

@@ -1,0 +1,62 @@
+// The signs of a block's pulses (RFC 6716, section 4.2.7.8.5): one for each place that is not 0; symbol 0 is minus. Names as in the crate's
+// code_signs.rs. The block's row is lent.
+ghost use mathlib.Core.Path.{_≡_};
+ghost use Prim.Native.Nat.{_+_, _^_, _<_, _≤_};
+ghost use lib.IntN.{pos, natAbs};
+ghost use lib.ListN.{length};
+ghost use Rattle.icdf.specs.Rule.{Icdf};
+ghost use Rattle.entcode.specs.ReaderLaws.{Core};
+ghost use Rattle.tree.specs.Ran.{Ran};
+ghost use Rattle.silk.specs.PulseSyntax.{each, sign};
+ghost use Rattle.silk.specs.PulsePlaces.{mags, Natural};
+use entcode::Dec;
+
+// A pulse with its sign, and the reader behind it.
+pub struct SignRead {
+    pub pulse: i16,
+    pub state: Dec,
+}
+
+// The pulse of magnitude m.
+fn decode_sign(packet: &[u8], d: Dec, row: &[u8], m: i16) -> SignRead
+    requires { ⌜ Core (now packet) d ⌝ }
+    requires { ⌜ d .total ≤ 2 ^ 30 ⌝ }
+    requires { ⌜ Icdf 8 (now row) ⌝ }
+    requires { ⌜ m ≡ pos (natAbs m) ⌝ }
+    ensures { λ a. ⌜ Ran (now (packet .entry)) d (sign (now (row .entry)) (natAbs m)) 16 (a .pulse) (a .state) ⌝ }
+{
+    if m == 0 {
+        return SignRead {
+            pulse: 0,
+            state: d,
+        };
+    }
+    let a = entdec_run::ec_dec_icdf8_run(packet, d, row);
+    let state = a.state;
+    if a.value == 0 {
+        let pulse = -m;
+        return SignRead { pulse, state };
+    }
+    SignRead { pulse: m, state }
+}
+
+// The pulses of a block, from their magnitudes.
+pub fn silk_decode_signs_run(packet: &[u8], from: Dec, row: &[u8], places: &mut [i16]) -> Dec
+    requires { ⌜ Core (now packet) from ⌝ }
+    requires { ⌜ from .total ≤ 2 ^ 29 ⌝ }
+    requires { ⌜ Icdf 8 (now row) ⌝ }
+    requires { ⌜ Natural (now places) × (length (now places) ≡ 16) ⌝ }
+    ensures { λ z. ⌜ Ran (now (packet .entry)) from (each (pos 0) (sign (now (row .entry))) (mags (now (places .entry)))) 256 (now (places .exit)) z ⌝ }
+{
+    let mut d = from;
+    let mut k: usize = 0;
+    while k < 16 {
+        let m = places[k];
+        let a = decode_sign(packet, d, row, m);
+        let pulse = a.pulse;
+        places[k] = pulse;
+        d = a.state;
+        k += 1;
+    }
+    d
+}

@@ -1,0 +1,11 @@
+-- What holds of every element of a list. Assumes nothing.
+use mathlib.Core.List.{List, [], _∷_, _++_}
+
+module _ {A : Type 0} (P : A → Type 0) where
+  abbrev pub All : List A → Type 0
+  All [] = Unit {0}
+  All (x ∷ xs) = P x × All xs
+
+  pub all-snoc : (xs : List A) (x : A) → All xs → P x → All (xs ++ (x ∷ []))
+  all-snoc [] x h p = (p, tt)
+  all-snoc (y ∷ xs) x h p = (h .0, all-snoc xs x (h .1) p)
