@@ -9,7 +9,7 @@ ghost use Rattle.silk.specs.Record.{settingOf};
 ghost use Rattle.silk.specs.IndexRows.{Reading, Rate, Subframes};
 ghost use Rattle.silk.specs.IndexSyntax.{voicing, indices};
 ghost use Rattle.silk.specs.IndexParts.{Upto};
-ghost use Rattle.silk.specs.FrameCalls.{numbersOk, indicesGot, indicesKept, decodeIndices};
+ghost use Rattle.silk.specs.FrameCalls.{numbersOk, indicesGot, decodeIndices};
 use entcode::Dec;
 use index_gains::gains_run;
 use index_gains::interpolation_run;
@@ -29,13 +29,18 @@ fn numbers_ok(khz: u32, subframes: u32, active: u32, mode: u32, prevtype: u32) -
     ensures { λ b. ⌜ b ≡ numbersOk khz subframes active mode prevtype ⌝ }
 {
     ((khz == 8) | ((khz == 12) | (khz == 16)))
-        & (((subframes == 2) | (subframes == 4)) & ((active <= 1) & ((mode <= 2) & (prevtype <= 2))))
+        & (((subframes == 2) | (subframes == 4))
+            & ((active <= 1) & ((mode <= 2) & (prevtype <= 2))))
 }
 
 fn numbers_rule(khz: u32, subframes: u32, active: u32, mode: u32, prevtype: u32) -> u32
     ensures { λ n. ⌜ n ≡ cond (numbersOk khz subframes active mode prevtype) 0 4 ⌝ }
 {
-    if numbers_ok(khz, subframes, active, mode, prevtype) { 0 } else { 4 }
+    if numbers_ok(khz, subframes, active, mode, prevtype) {
+        0
+    } else {
+        4
+    }
 }
 
 // ---- reading
@@ -92,7 +97,18 @@ fn all_indices(
     let q = spectrum_run(packet, g.state, rows, g.indices, khz, signal);
     let i = interpolation_run(packet, q.state, rows, q.indices, subframes);
     let relative = (mode == 2) & (prevtype == 2);
-    let v = voicing_index(packet, i.state, rows, i.indices, signal, relative, khz, subframes, mode, prevlag);
+    let v = voicing_index(
+        packet,
+        i.state,
+        rows,
+        i.indices,
+        signal,
+        relative,
+        khz,
+        subframes,
+        mode,
+        prevlag,
+    );
     seed_run(packet, v.state, rows, v.indices)
 }
 
@@ -140,7 +156,18 @@ pub fn silk_decode_indices(
     let n = refusals::first_refusal(entdec::gate(packet, d), rule);
     if n == 0 {
         let rows = index_rows();
-        let a = all_indices(packet, d, &rows, record, khz, subframes, active, mode, prevtype, prevlag);
+        let a = all_indices(
+            packet,
+            d,
+            &rows,
+            record,
+            khz,
+            subframes,
+            active,
+            mode,
+            prevtype,
+            prevlag,
+        );
         accepted(a.state, a.indices, prevlag)
     } else {
         IndicesRead {

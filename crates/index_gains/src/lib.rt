@@ -97,7 +97,13 @@ pub fn gains_run(
 }
 
 // 4 for 2 subframes.
-pub fn interpolation_run(packet: &[u8], d: Dec, rows: &[u8], x: Indices, subframes: u32) -> IndicesPart
+pub fn interpolation_run(
+    packet: &[u8],
+    d: Dec,
+    rows: &[u8],
+    x: Indices,
+    subframes: u32,
+) -> IndicesPart
     requires { ⌜ Reading (now packet) d (now rows) (2 ^ 29) ⌝ }
     ensures { λ a. ⌜ Ran (now (packet .entry)) d (interpolation subframes x) 16 (a .indices) (a .state) ⌝ }
 {

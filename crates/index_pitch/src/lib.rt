@@ -54,7 +54,15 @@ fn lag_after(before: i16, v: u32) -> i16
 }
 
 // Delta symbol 0 means that an absolute lag follows.
-fn lag_index(packet: &[u8], d: Dec, rows: &[u8], x: Indices, relative: bool, khz: u32, before: i16) -> IndicesPart
+fn lag_index(
+    packet: &[u8],
+    d: Dec,
+    rows: &[u8],
+    x: Indices,
+    relative: bool,
+    khz: u32,
+    before: i16,
+) -> IndicesPart
     requires { ⌜ Reading (now packet) d (now rows) (2 ^ 28) ⌝ }
     requires { ⌜ Rate khz ⌝ }
     ensures { λ a. ⌜ Ran (now (packet .entry)) d (lag relative khz before x) 48 (a .indices) (a .state) ⌝ }
@@ -98,7 +106,14 @@ fn contour_size(khz: u32, subframes: u32) -> usize
     }
 }
 
-fn contour_index(packet: &[u8], d: Dec, rows: &[u8], x: Indices, khz: u32, subframes: u32) -> IndicesPart
+fn contour_index(
+    packet: &[u8],
+    d: Dec,
+    rows: &[u8],
+    x: Indices,
+    khz: u32,
+    subframes: u32,
+) -> IndicesPart
     requires { ⌜ Reading (now packet) d (now rows) (2 ^ 29) ⌝ }
     requires { ⌜ Rate khz × Subframes subframes ⌝ }
     ensures { λ a. ⌜ Ran (now (packet .entry)) d (contour khz subframes x) 16 (a .indices) (a .state) ⌝ }

@@ -77,7 +77,15 @@ fn residual_index(packet: &[u8], d: Dec, rows: &[u8], k: usize) -> ResidualRead
 // ---- all of them
 
 // A residual for each of n places.
-fn residual_indices(packet: &[u8], d: Dec, rows: &[u8], x: Indices, selectors: &[u8], khz: u32, n: usize) -> IndicesPart
+fn residual_indices(
+    packet: &[u8],
+    d: Dec,
+    rows: &[u8],
+    x: Indices,
+    selectors: &[u8],
+    khz: u32,
+    n: usize,
+) -> IndicesPart
     requires { ⌜ Reading (now packet) d (now rows) (2 ^ 28) ⌝ }
     requires { ⌜ Rate khz × (n ≤ 2 * length (now selectors)) × (n ≤ 16) ⌝ }
     ensures { λ a. ⌜ Ran (now (packet .entry)) d (residuals khz (now (selectors .entry)) n 0 x) 512 (a .indices) (a .state) ⌝ }
@@ -100,7 +108,14 @@ fn residual_indices(packet: &[u8], d: Dec, rows: &[u8], x: Indices, selectors: &
     }
 }
 
-pub fn spectrum_run(packet: &[u8], d: Dec, rows: &[u8], x: Indices, khz: u32, signal: u32) -> IndicesPart
+pub fn spectrum_run(
+    packet: &[u8],
+    d: Dec,
+    rows: &[u8],
+    x: Indices,
+    khz: u32,
+    signal: u32,
+) -> IndicesPart
     requires { ⌜ Reading (now packet) d (now rows) (2 ^ 27) ⌝ }
     requires { ⌜ Rate khz × (signal < 3) ⌝ }
     ensures { λ a. ⌜ Ran (now (packet .entry)) d (spectrum khz signal x) 528 (a .indices) (a .state) ⌝ }

@@ -2,19 +2,19 @@
 -- Assumes nothing.
 use Prim.Native.Nat.{ℕ, _+_, _≤_, _<_}
 use mathlib.Core.Path.{_≡_, refl, sym, ap, subst, _∙_}
-use mathlib.Core.Bool.{Bool, true, false, _&&_, _||_, cond}
+use mathlib.Core.Bool.{Bool, true, false, _||_, cond}
 use mathlib.Core.List.{List}
 use native.Mathlib.Omega.{arith}
 use borrow.Author.Tests.{eqb-true, leb-true, eq-eqb, ne-eqb}
 use lib.Dec.{eqb, leb}
 use Rattle.tests.specs.Both.{and-both}
 use Rattle.tests.specs.Choice.{chosen}
-use Rattle.refusals.specs.First.{firstOf, first-none}
+use Rattle.refusals.specs.First.{first-none}
 use Rattle.entcode.specs.declared.Dec.{Dec}
 use Rattle.entcode.specs.Sound.{gateR}
 use Rattle.entcode.specs.ReaderLaws.{Bytes}
 use Rattle.entcode.specs.ReadingLaws.{Sound, Open, gate-open}
-use Rattle.tree.specs.Asks.{Got, run}
+use Rattle.tree.specs.Asks.{run}
 use Rattle.tree.specs.Outcomes.{Ended, ends-run}
 use Rattle.silk.specs.declared.Indices.{Indices}
 use Rattle.silk.specs.declared.IndicesRead.{IndicesRead}

@@ -1,12 +1,11 @@
 -- What reading each part of a frame's side indices gives, whatever the packet holds: the record with the part's fields changed, and their range
 -- (RFC 6716, section 4.2.7). The whole is in IndexRanges. Assumes nothing.
-use Prim.Native.Nat.{ℕ, zero, suc, _+_, _-_, _*_, _/_, _%_, _^_, _≤_, _<_}
+use Prim.Native.Nat.{ℕ, zero, suc, _+_, _-_, _*_, _/_, _^_, _≤_, _<_}
 use mathlib.Core.Path.{_≡_, refl, sym, ap, subst, _∙_}
 use mathlib.Core.Bool.{Bool, true, false, cond}
 use mathlib.Core.List.{List, flatten}
-use native.Mathlib.Nat.{mul-le-mul}
 use native.Mathlib.Omega.{arith}
-use borrow.Author.Tests.{eq-eqb, ne-eqb, eqb-true, eqb-false}
+use borrow.Author.Tests.{eqb-true, eqb-false}
 use lib.Dec.{eqb}
 use lib.IntN.{ℤ, pos, negsuc, natAbs, _-ℤ_}
 use lib.ListN.{length, getD, set, length-set}
@@ -21,12 +20,12 @@ use Rattle.sheet.specs.Places.{sizes, row-size}
 use Rattle.sheet.specs.Families.{type-stands, gain-stands, first-index-stands, residual-stands, filter-stands}
 use Rattle.sheet.specs.SheetRule.{row-good}
 use Rattle.entcode.specs.Models.{tab}
-use Rattle.tree.specs.Asks.{Asks, done, ask, then, of}
+use Rattle.tree.specs.Asks.{Asks, ask, then}
 use Rattle.tree.specs.Outcomes.{Ends, ends, asks, ends-more, ends-in, ends-then, ends-of}
 use Rattle.silk.specs.declared.Indices.{Indices}
-use Rattle.silk.specs.Record.{Setting, withKind, withGain, withNlsf, withInterp, withLag, withContour, withPeriod, withFilter, withScale, withSeed, withGains, withNlsfs, withFilters}
+use Rattle.silk.specs.Record.{withGain, withNlsf, withInterp, withLag, withContour, withPeriod, withFilter, withScale, withGains, withNlsfs, withFilters}
 use Rattle.silk.specs.IndexRows.{Rate, eight, twelve, sixteen, Subframes, subframes-least, subframes-most, rate-most, lagLowStart, contourStart, contourSize, IndexRows, index-rows, lag-low-row, contour-row}
-use Rattle.silk.specs.IndexSyntax.{kind, firstGain, moreGains, gains, residualPick, residual, residuals, spectrum, bookOf, selectorsOf, interpolation, absoluteLag, lagAfter, lag, contour, filters, period, scale, pitch, relativeIn, voicing, seed, indices}
+use Rattle.silk.specs.IndexSyntax.{kind, firstGain, moreGains, gains, residualPick, residual, residuals, spectrum, bookOf, selectorsOf, interpolation, absoluteLag, lagAfter, lag, contour, filters, period, scale, pitch, voicing}
 
 -- ---- numbers and lists
 
@@ -132,6 +131,7 @@ gains-end mode n signal x f p h =
           others = λ k i j. d .inside k i (omega arith);
           kept = λ k i. d .behind k (omega arith) ∙ c .behind k (omega arith);
         })
+
     next : 2 ≤ n → n ≤ 4 → (y : Indices) → Gained (Filled (Upto (firstMost mode)) 0 1) x y → Ends (Gained (GainsRead mode n) x) (n - 1) (moreGains (n - 1) 1 y)
     next l u y (gained a c) = ends-in (λ z q. both l a c z q) (more-gains-end (n - 1) 1 (withGains x a) (omega (arith, c .size)))
 
@@ -348,12 +348,15 @@ voicing-end signal relative khz n mode before x r f h =
         → Scaled mode (withFilters (withPeriod (withContour (withLag x z) c) p) m) y → Voiced signal relative khz n mode x y
     after-scale e z lz c lc p m lp fm y (scaled v s) =
         voiced e z c p v m (record { lag = lz; contour = lc; period = lp; filters = fm; scale = s })
+
     after-period : signal ≡ 2 → (z : ℤ) → LagRead relative khz z → (c : ℕ) → c < contourSize khz n → (y : Indices)
         → Perioded n (withContour (withLag x z) c) y → Ends (Voiced signal relative khz n mode x) 1 (scale mode y)
     after-period e z lz c lc y (perioded p m lp fm) = ends-in (λ w q. after-scale e z lz c lc p m lp fm w q) (scale-end mode _)
+
     after-contour : signal ≡ 2 → (z : ℤ) → LagRead relative khz z → (y : Indices) → Contoured khz n (withLag x z) y
         → Ends (Voiced signal relative khz n mode x) 6 (then (period n y) (scale mode))
     after-contour e z lz y (contoured c lc) =
         ends-then {n = 5} {m = 1} _ (period-end n (withContour (withLag x z) c) (subframes-most f) h) (λ w q. after-period e z lz c lc w q)
+
     after-lag : signal ≡ 2 → (y : Indices) → Lagged relative khz x y → Ends (Voiced signal relative khz n mode x) 7 (then (contour khz n y) (λ c. then (period n c) (scale mode)))
     after-lag e y (lagged z lz) = ends-then {n = 1} {m = 6} _ (contour-end khz n (withLag x z) r f) (λ w q. after-contour e z lz w q)

@@ -24,17 +24,19 @@ cast-out-2 c = search needs
 gains-run-requires : tie.Need-gains-run-requires
 gains-run-requires c κs =
     let z = c .before .before .before .before .before in
-    let k = c .before .before .kind-run in
-    (record { core = k .ensures .0 .core; few = omega (arith, k .ensures .0 .most, z .pre .0 .few); rows = z .pre .0 .rows },
-    (z .pre .1 .1, omega (arith, k .ensures .1)))
+    let k = c .before .before .kind-run in (
+      record { core = k .ensures .0 .core; few = omega (arith, k .ensures .0 .most, z .pre .0 .few); rows = z .pre .0 .rows },
+      (z .pre .1 .1, omega (arith, k .ensures .1)),
+    )
 
 spectrum-run-requires : tie.Need-spectrum-run-requires
 spectrum-run-requires c κs =
     let z = c .before .before .before .before .before .before in
     let k = c .before .before .before .kind-run in
-    let g = c .gains-run in
-    (record { core = g .ensures .core; few = omega (arith, k .ensures .0 .most, g .ensures .most, z .pre .0 .few); rows = z .pre .0 .rows },
-    (z .pre .1 .0, omega (arith, k .ensures .1)))
+    let g = c .gains-run in (
+      record { core = g .ensures .core; few = omega (arith, k .ensures .0 .most, g .ensures .most, z .pre .0 .few); rows = z .pre .0 .rows },
+      (z .pre .1 .0, omega (arith, k .ensures .1)),
+    )
 
 interpolation-run-requires : tie.Need-interpolation-run-requires
 interpolation-run-requires c κs =

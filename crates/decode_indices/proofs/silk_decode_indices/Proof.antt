@@ -40,22 +40,23 @@ all-indices-requires c κs =
     let z = c .before .before .before .before .before .before .before in
     let n = c .before .before .before .first-refusal in
     let e : n .result ≡ indicesRule (z .args .packet .now) (z .args .d) (setting z) =
-        rw (c .before .before .before .before .gate .ensures, c .before .before .before .before .before .numbers-rule .ensures) at (n .ensures) in
-    let a = rule-accepts (z .args .packet .now) (z .args .d) (setting z) (sym e ∙ c .before .before .if1 .taken) in
-    (record { core = a .passed .sound .core; few = omega (arith, a .passed .low); rows = index-rows (c .before .index-rows .result) (c .before .index-rows .ensures) },
-    (a .numbers .rate, a .numbers .subframes, a .numbers .active))
+    rw (c .before .before .before .before .gate .ensures, c .before .before .before .before .before .numbers-rule .ensures) at (n .ensures) in
+    let a = rule-accepts (z .args .packet .now) (z .args .d) (setting z) (sym e ∙ c .before .before .if1 .taken) in (
+      record { core = a .passed .sound .core; few = omega (arith, a .passed .low); rows = index-rows (c .before .index-rows .result) (c .before .index-rows .ensures) },
+      (a .numbers .rate, a .numbers .subframes, a .numbers .active),
+    )
 
 accepted-requires : tie.Need-accepted-requires
 accepted-requires c κs =
     let z = c .before .before .before .before .before .before .before .before in
     let n = c .before .before .before .before .first-refusal in
     let e : n .result ≡ indicesRule (z .args .packet .now) (z .args .d) (setting z) =
-        rw (c .before .before .before .before .before .gate .ensures, c .before .before .before .before .before .before .numbers-rule .ensures) at (n .ensures) in
+    rw (c .before .before .before .before .before .gate .ensures, c .before .before .before .before .before .before .numbers-rule .ensures) at (n .ensures) in
     let a = rule-accepts (z .args .packet .now) (z .args .d) (setting z) (sym e ∙ c .before .before .before .if1 .taken) in
     let y : Bytes (z .args .packet .now) = λ i. omega (arith, c .before .before .before .before .before .before .before .shared-slice-known .given i) in
     let s : Shape (z .args .«record») = record { gains = search (needs, z .good .1 .1 .0); ltp = search (needs, z .good .1 .1 .0); nlsf = search (needs, z .good .1 .1 .0) } in
     let g : run (z .args .packet .now) (z .args .d) (indices (setting z) (z .args .«record»)) ≡ got (c .all-indices .result .indices) (c .all-indices .result .state) =
-        rw (toZ-ofZ (z .fits .prevlag)) at (c .all-indices .ensures .is) in
+    rw (toZ-ofZ (z .fits .prevlag)) at (c .all-indices .ensures .is) in
     subst (λ (q : Got Indices). Upto 2 (q .value .signal)) g (indices-ended _ _ _ _ y a s .holds .range .signal)
 
 returns : tie.Need-returns
@@ -63,10 +64,10 @@ returns c =
     let z = c .before .before .before .before .before .before .before .before .before in
     let n = c .before .before .before .before .before .first-refusal in
     let e : n .result ≡ indicesRule (z .args .packet .now) (z .args .d) (setting z) =
-        rw (c .before .before .before .before .before .before .gate .ensures, c .before .before .before .before .before .before .before .numbers-rule .ensures) at (n .ensures) in
+    rw (c .before .before .before .before .before .before .gate .ensures, c .before .before .before .before .before .before .before .numbers-rule .ensures) at (n .ensures) in
     let r = c .before .all-indices in
     let g : run (z .args .packet .now) (z .args .d) (indices (setting z) (z .args .«record»)) ≡ got (r .result .indices) (r .result .state) =
-        rw (toZ-ofZ (z .fits .prevlag)) at (r .ensures .is) in
+    rw (toZ-ofZ (z .fits .prevlag)) at (r .ensures .is) in
     let a : c .accepted .result ≡ indicesGot (z .args .prevlag) (got (r .result .indices) (r .result .state)) = rw (toZ-ofZ (z .fits .prevlag)) at (c .accepted .ensures) in
     a ∙ ap (λ (q : Got Indices). indicesGot (z .args .prevlag) q) (sym g) ∙ indices-runs _ _ _ (setting z) (sym e ∙ c .before .before .before .before .if1 .taken)
 
@@ -75,7 +76,7 @@ returns-2 c =
     let z = c .before .before .before .before .before in
     let n = c .before .first-refusal in
     let e : n .result ≡ indicesRule (z .args .packet .now) (z .args .d) (setting z) =
-        rw (c .before .before .gate .ensures, c .before .before .before .numbers-rule .ensures) at (n .ensures) in
+    rw (c .before .before .gate .ensures, c .before .before .before .numbers-rule .ensures) at (n .ensures) in
     rw (toZ-ofZ (z .fits .prevlag)) (indices-refused _ _ _ (setting z) (n .result) e (c .if1 .left))
 
 pub silk-decode-indices-spec : {M : Type 1} → statement M

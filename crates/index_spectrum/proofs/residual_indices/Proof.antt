@@ -1,7 +1,7 @@
 -- `index_spectrum::residual_indices` meets its contract. The invariant: the rest of the tree, run from here, gives what the whole gives from the
 -- start. Assumes nothing.
 use borrow.Author.Needs.{needs}
-use Prim.Native.Nat.{ℕ, _+_, _-_, _*_, _/_, _≤_}
+use Prim.Native.Nat.{ℕ, _+_, _-_, _*_, _≤_}
 use mathlib.Core.Path.{_≡_, sym, ap, _∙_}
 use mathlib.Core.List.{List}
 use native.Mathlib.Nat.{sub-zero}
@@ -90,7 +90,7 @@ loop-again c =
     let a = c .before .before .residual-index in
     let p = c .before .before .before .residual-pick-run in
     let e : run (z .args .packet .now) (l .r) (residual (residualRow (z .args .khz) (residualPick (z .args .selectors .now) (l .i)))) ≡ got (a .result .value) (a .result .state) =
-        rw (p .ensures) at (a .ensures .is) in
+    rw (p .ensures) at (a .ensures .is) in
     let f : SFits w8 (a .result .value) = search needs in
     rw (toZ-ofZ f)
     (record {

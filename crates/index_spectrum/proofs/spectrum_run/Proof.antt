@@ -71,9 +71,10 @@ residual-indices-requires c κs =
     let z = c .before .before .before .before .before .before .before .before in
     let a = c .before .before .before .before .ec-dec-icdf8-run in
     let w = c .before .wide-selectors-run in
-    let v : a .result .value < 32 = omega (arith, a .ensures .inside, first-index-row (z .pre .0 .rows) _ (below-four z) .size) in
-    (record { core = a .ensures .core; few = omega (arith, a .ensures .most, z .pre .0 .few); rows = z .pre .0 .rows },
-    (z .pre .1 .0, omega (arith, ap length (w .ensures), wide-shaped .selectors .width _ v), omega arith))
+    let v : a .result .value < 32 = omega (arith, a .ensures .inside, first-index-row (z .pre .0 .rows) _ (below-four z) .size) in (
+      record { core = a .ensures .core; few = omega (arith, a .ensures .most, z .pre .0 .few); rows = z .pre .0 .rows },
+      (z .pre .1 .0, omega (arith, ap length (w .ensures), wide-shaped .selectors .width _ v), omega arith),
+    )
 
 returns : tie.Need-returns
 unfolding spectrum
@@ -97,9 +98,10 @@ residual-indices-requires-2 c κs =
     let z = c .before .before .before .before .before .before .before .before in
     let a = c .before .before .before .before .ec-dec-icdf8-run in
     let w = c .before .narrow-selectors-run in
-    let v : a .result .value < 32 = omega (arith, a .ensures .inside, first-index-row (z .pre .0 .rows) _ (below-four z) .size) in
-    (record { core = a .ensures .core; few = omega (arith, a .ensures .most, z .pre .0 .few); rows = z .pre .0 .rows },
-    (z .pre .1 .0, omega (arith, ap length (w .ensures), narrow-shaped .selectors .width _ v), omega arith))
+    let v : a .result .value < 32 = omega (arith, a .ensures .inside, first-index-row (z .pre .0 .rows) _ (below-four z) .size) in (
+      record { core = a .ensures .core; few = omega (arith, a .ensures .most, z .pre .0 .few); rows = z .pre .0 .rows },
+      (z .pre .1 .0, omega (arith, ap length (w .ensures), narrow-shaped .selectors .width _ v), omega arith),
+    )
 
 returns-2 : tie.Need-returns-2
 unfolding spectrum
