@@ -48,7 +48,7 @@ subframes-of n = go (eqb n 2) (eqb n 4) refl refl
     go true b p q e = subst Subframes (sym (eqb-true n 2 p)) two
     go false b p q e = subst Subframes (sym (eqb-true n 4 (q ∙ e))) four
 
-setting-chosen : (s : Setting) → settingOk s ≡ true → Chosen s
+pub setting-chosen : (s : Setting) → settingOk s ≡ true → Chosen s
 unfolding numbersOk
 setting-chosen s e =
     let p = and-both (khzOk (s .khz)) _ e in
@@ -64,7 +64,7 @@ setting-chosen s e =
       prevtype = leb-true _ _ (v .1);
     }
 
-four-none : (t : Bool) → _≡_ {A = ℕ} (cond t 0 4) 0 → t ≡ true
+pub four-none : (t : Bool) → _≡_ {A = ℕ} (cond t 0 4) 0 → t ≡ true
 four-none true e = refl
 four-none false e = absurd (omega arith)
 
