@@ -93,7 +93,7 @@ same-numbers (a ∷ l) (b ∷ m) e =
     cc
 
 -- a record by its fields, so that equal fields make equal records
-abbrev made : List ℤ → List ℤ → List ℤ → ℤ → ℤ → ℤ → ℤ → ℤ → ℤ → ℤ → ℤ → Indices
+abbrev pub made : List ℤ → List ℤ → List ℤ → ℤ → ℤ → ℤ → ℤ → ℤ → ℤ → ℤ → ℤ → Indices
 made g f n l c s o i p k d =
     record {
       gains = g;
