@@ -9,7 +9,7 @@ ghost use Rattle.silk.specs.Record.{settingOf};
 ghost use Rattle.silk.specs.IndexRows.{Reading, Rate, Subframes};
 ghost use Rattle.silk.specs.IndexSyntax.{voicing, indices};
 ghost use Rattle.silk.specs.IndexParts.{Upto};
-ghost use Rattle.silk.specs.FrameCalls.{numbersOk, indicesGot, indicesKept, decodeIndices};
+ghost use Rattle.silk.specs.FrameCalls.{numbersOk, indicesGot, decodeIndices};
 use entcode::Dec;
 use index_gains::gains_run;
 use index_gains::interpolation_run;

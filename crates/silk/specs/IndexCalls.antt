@@ -2,19 +2,19 @@
 -- Assumes nothing.
 use Prim.Native.Nat.{ℕ, _+_, _≤_, _<_}
 use mathlib.Core.Path.{_≡_, refl, sym, ap, subst, _∙_}
-use mathlib.Core.Bool.{Bool, true, false, _&&_, _||_, cond}
+use mathlib.Core.Bool.{Bool, true, false, _||_, cond}
 use mathlib.Core.List.{List}
 use native.Mathlib.Omega.{arith}
 use borrow.Author.Tests.{eqb-true, leb-true, eq-eqb, ne-eqb}
 use lib.Dec.{eqb, leb}
 use Rattle.tests.specs.Both.{and-both}
 use Rattle.tests.specs.Choice.{chosen}
-use Rattle.refusals.specs.First.{firstOf, first-none}
+use Rattle.refusals.specs.First.{first-none}
 use Rattle.entcode.specs.declared.Dec.{Dec}
 use Rattle.entcode.specs.Sound.{gateR}
 use Rattle.entcode.specs.ReaderLaws.{Bytes}
 use Rattle.entcode.specs.ReadingLaws.{Sound, Open, gate-open}
-use Rattle.tree.specs.Asks.{Got, run}
+use Rattle.tree.specs.Asks.{run}
 use Rattle.tree.specs.Outcomes.{Ended, ends-run}
 use Rattle.silk.specs.declared.Indices.{Indices}
 use Rattle.silk.specs.declared.IndicesRead.{IndicesRead}
@@ -48,7 +48,7 @@ subframes-of n = go (eqb n 2) (eqb n 4) refl refl
     go true b p q e = subst Subframes (sym (eqb-true n 2 p)) two
     go false b p q e = subst Subframes (sym (eqb-true n 4 (q ∙ e))) four
 
-setting-chosen : (s : Setting) → settingOk s ≡ true → Chosen s
+pub setting-chosen : (s : Setting) → settingOk s ≡ true → Chosen s
 unfolding numbersOk
 setting-chosen s e =
     let p = and-both (khzOk (s .khz)) _ e in
@@ -64,7 +64,7 @@ setting-chosen s e =
       prevtype = leb-true _ _ (v .1);
     }
 
-four-none : (t : Bool) → _≡_ {A = ℕ} (cond t 0 4) 0 → t ≡ true
+pub four-none : (t : Bool) → _≡_ {A = ℕ} (cond t 0 4) 0 → t ≡ true
 four-none true e = refl
 four-none false e = absurd (omega arith)
 

@@ -1,10 +1,10 @@
 -- Worked cases of the side indices, over the syntax: which record some symbols lead to (document 01, case P13, and "Side indices"). Assumes nothing.
-use Prim.Native.Nat.{ℕ, _+_}
-use mathlib.Core.Path.{_≡_, refl}
+use Prim.Native.Nat.{ℕ}
+use mathlib.Core.Path.{refl}
 use mathlib.Core.List.{List, [], _∷_}
-use lib.IntN.{ℤ, pos, negsuc}
+use lib.IntN.{pos, negsuc}
 use Rattle.ints.specs.Wrap.{wrap16}
-use Rattle.sheet.specs.Directory.{deltaLagRow, lagRow, lagLowRow, extensionRow, interpolationRow}
+use Rattle.sheet.specs.Directory.{deltaLagRow, lagRow, lagLowRow, extensionRow}
 use Rattle.entcode.specs.Models.{Sym, tab}
 use Rattle.tree.specs.Asks.{Leads}
 use Rattle.silk.specs.declared.Indices.{Indices}

@@ -1,12 +1,11 @@
 -- What reading each part of a frame's side indices gives, whatever the packet holds: the record with the part's fields changed, and their range
 -- (RFC 6716, section 4.2.7). The whole is in IndexRanges. Assumes nothing.
-use Prim.Native.Nat.{ℕ, zero, suc, _+_, _-_, _*_, _/_, _%_, _^_, _≤_, _<_}
+use Prim.Native.Nat.{ℕ, zero, suc, _+_, _-_, _*_, _/_, _^_, _≤_, _<_}
 use mathlib.Core.Path.{_≡_, refl, sym, ap, subst, _∙_}
 use mathlib.Core.Bool.{Bool, true, false, cond}
 use mathlib.Core.List.{List, flatten}
-use native.Mathlib.Nat.{mul-le-mul}
 use native.Mathlib.Omega.{arith}
-use borrow.Author.Tests.{eq-eqb, ne-eqb, eqb-true, eqb-false}
+use borrow.Author.Tests.{eqb-true, eqb-false}
 use lib.Dec.{eqb}
 use lib.IntN.{ℤ, pos, negsuc, natAbs, _-ℤ_}
 use lib.ListN.{length, getD, set, length-set}
@@ -21,12 +20,12 @@ use Rattle.sheet.specs.Places.{sizes, row-size}
 use Rattle.sheet.specs.Families.{type-stands, gain-stands, first-index-stands, residual-stands, filter-stands}
 use Rattle.sheet.specs.SheetRule.{row-good}
 use Rattle.entcode.specs.Models.{tab}
-use Rattle.tree.specs.Asks.{Asks, done, ask, then, of}
+use Rattle.tree.specs.Asks.{Asks, ask, then}
 use Rattle.tree.specs.Outcomes.{Ends, ends, asks, ends-more, ends-in, ends-then, ends-of}
 use Rattle.silk.specs.declared.Indices.{Indices}
-use Rattle.silk.specs.Record.{Setting, withKind, withGain, withNlsf, withInterp, withLag, withContour, withPeriod, withFilter, withScale, withSeed, withGains, withNlsfs, withFilters}
+use Rattle.silk.specs.Record.{withGain, withNlsf, withInterp, withLag, withContour, withPeriod, withFilter, withScale, withGains, withNlsfs, withFilters}
 use Rattle.silk.specs.IndexRows.{Rate, eight, twelve, sixteen, Subframes, subframes-least, subframes-most, rate-most, lagLowStart, contourStart, contourSize, IndexRows, index-rows, lag-low-row, contour-row}
-use Rattle.silk.specs.IndexSyntax.{kind, firstGain, moreGains, gains, residualPick, residual, residuals, spectrum, bookOf, selectorsOf, interpolation, absoluteLag, lagAfter, lag, contour, filters, period, scale, pitch, relativeIn, voicing, seed, indices}
+use Rattle.silk.specs.IndexSyntax.{kind, firstGain, moreGains, gains, residualPick, residual, residuals, spectrum, bookOf, selectorsOf, interpolation, absoluteLag, lagAfter, lag, contour, filters, period, scale, pitch, voicing}
 
 -- ---- numbers and lists
 
@@ -319,7 +318,7 @@ data Scaled (mode : ℕ) (x : Indices) : Indices → Type 0 where
 scale-end : (mode : ℕ) (x : Indices) → Ends (Scaled mode x) 1 (scale mode x)
 unfolding scale sizes
 scale-end mode x =
-    chosen (λ (t : Asks Indices Indices). Ends (Scaled mode x) 1 t) (eqb mode 0)
+    chosen (λ (t : Asks Indices Indices). Ends (Scaled mode x) 1 t) _
     (λ e. row-asks 40 (omega arith) (λ v i. ends (scaled v (record { most = omega (arith, row-size 40); fixed = λ q. absurd (q (eqb-true mode 0 e)) }))))
     (λ e. ends (scaled 0 (record { most = omega arith; fixed = λ q. refl })))
 

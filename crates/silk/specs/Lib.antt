@@ -14,3 +14,4 @@ pub mod PulseRounds
 pub mod FrameCalls
 pub mod IndexCalls
 pub mod IndexCases
+pub mod IndexWriting

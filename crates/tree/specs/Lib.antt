@@ -2,5 +2,6 @@ pub mod Always
 pub mod Asks
 pub mod AsksLaws
 pub mod Outcomes
+pub mod Telling
 pub mod Ran
 pub mod Through

@@ -1,13 +1,13 @@
 -- `index_spectrum::lowered` meets its contract. Assumes nothing.
 use borrow.Author.Needs.{needs}
-use Prim.Native.Nat.{ℕ, zero, suc, _+_, _<_}
-use mathlib.Core.Path.{_≡_, refl, ap}
+use Prim.Native.Nat.{ℕ, _+_, _<_}
+use mathlib.Core.Path.{_≡_}
 use native.Mathlib.Omega.{arith}
 use lib.IntN.{pos, negsuc, _-ℤ_}
 use mir.Syntax.{w8}
 use mir.Val.{SFits, toZ}
 use mir.Facts.{toZ-ofZ, toZ-pos}
-use Rattle.ints.specs.Sums.{diff-parts, down-diff}
+use Rattle.ints.specs.Sums.{diff-parts}
 use Rattle.ints.specs.Order.{parts-same}
 use Rattle.ints.specs.Widths.{parts-fit}
 use Rattle.index_spectrum.proofs.lowered.Statement.{statement}

@@ -1,7 +1,7 @@
 -- `index_spectrum::residual_indices` meets its contract. The invariant: the rest of the tree, run from here, gives what the whole gives from the
 -- start. Assumes nothing.
 use borrow.Author.Needs.{needs}
-use Prim.Native.Nat.{ℕ, _+_, _-_, _*_, _/_, _≤_}
+use Prim.Native.Nat.{ℕ, _+_, _-_, _*_, _≤_}
 use mathlib.Core.Path.{_≡_, sym, ap, _∙_}
 use mathlib.Core.List.{List}
 use native.Mathlib.Nat.{sub-zero}
