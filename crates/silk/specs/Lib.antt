@@ -8,3 +8,4 @@ pub mod PulseBlocks
 pub mod PulseLaws
 pub mod PulseRounds
 pub mod FrameCalls
+pub mod PulseCallLaws
