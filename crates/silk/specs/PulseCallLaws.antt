@@ -1,19 +1,28 @@
 -- Laws of the call that reads pulses: what its accepted numbers are, and its two outcomes. Assumes nothing.
 use Prim.Native.Nat.{ℕ, _+_, _*_, _/_, _≤_}
 use mathlib.Core.Path.{_≡_, refl, sym, _∙_}
-use mathlib.Core.List.{List, flatten}
+use mathlib.Core.List.{List, [], _∷_, flatten}
 use mathlib.Core.Bool.{Bool, true, false, _&&_, _||_, cond}
 use native.Mathlib.Nat.{mul-le-mul}
 use native.Mathlib.Omega.{arith}
-use borrow.Author.Tests.{eqb-true, leb-true, eq-eqb, ne-eqb}
+use borrow.Author.Tests.{eqb-true, eqb-false, leb-true, eq-eqb, ne-eqb}
 use lib.Dec.{eqb, leb}
 use lib.IntN.{ℤ}
+use lib.ListN.{length}
 use Rattle.tests.specs.Both.{and-both}
+use Rattle.tests.specs.Choice.{chosen}
+use Rattle.lists.specs.All.{All, all-append}
+use Rattle.refusals.specs.First.{first-none}
 use Rattle.entcode.specs.declared.Dec.{Dec}
+use Rattle.entcode.specs.Sound.{gateR}
+use Rattle.entcode.specs.ReaderLaws.{Bytes}
 use Rattle.entcode.specs.Reading.{gives, refuses}
+use Rattle.entcode.specs.ReadingLaws.{Sound, gate-open}
 use Rattle.tree.specs.Asks.{got, run}
+use Rattle.tree.specs.Always.{always-run, always-core}
 use Rattle.silk.specs.PulseSyntax.{Excitation, excitation}
-use Rattle.silk.specs.FrameCalls.{khzOk, subframesOk, blocksOf, pulseNumbersOk, pulseRule, pulsesRule, pulsed, decodePulses}
+use Rattle.silk.specs.FrameCalls.{khzOk, subframesOk, blocksOf, pulseNumbersOk, pulseRule, pulsesRule, Pulsed, pulsed, decodePulses}
+use Rattle.silk.specs.PulseLaws.{Within, Fine, excitation-within}
 
 -- what follows from each of two tests follows from their disjunction
 either {ℓ} : {A : Type ℓ} (a b : Bool) → a || b ≡ true → (a ≡ true → A) → (b ≡ true → A) → A
@@ -81,3 +90,35 @@ module _ (b : List ℕ) (d : Dec) (p : List ℤ) (khz subframes signal offset n 
   pub pulses-refused : (n ≡ 0 → ⊥) → pulsed p (refuses n d) ≡ decodePulses b d p khz subframes signal offset
   unfolding decodePulses
   pulses-refused h = rw (ne-eqb (pulsesRule b d p khz subframes signal offset) 0 (λ q. h (e ∙ q)), e)
+
+-- ---- what an accepted call hands back
+
+-- a sound reader whose total grew by at most 100,000, and pulses within -17,407 to 17,407
+pub record PulsesRead (b : List ℕ) (d : Dec) (q : Pulsed) : Type 0 where
+  pub sound : Sound b (q .answer .state)
+  pub most : q .answer .state .total ≤ d .total + 100000
+  pub within : All Within (q .pulses)
+
+all-flatten : {A : Type 0} (P : A → Type 0) (xs : List (List A)) → All (All P) xs → All P (flatten xs)
+unfolding flatten
+all-flatten P [] h = tt
+all-flatten P (x ∷ xs) h = all-append P x (flatten xs) (h .0) (all-flatten P xs (h .1))
+
+pub pulses-accepted : (b : List ℕ) (d : Dec) (p : List ℤ) (khz subframes signal offset : ℕ) → Bytes b
+    → decodePulses b d p khz subframes signal offset .answer .refusal ≡ 0 → PulsesRead b d (decodePulses b d p khz subframes signal offset)
+unfolding decodePulses
+pulses-accepted b d p khz subframes signal offset y =
+    chosen (λ (q : Pulsed). q .answer .refusal ≡ 0 → PulsesRead b d q) (eqb (pulsesRule b d p khz subframes signal offset) 0)
+    (λ t e.
+      let f = first-none (gateR b d) (pulseRule (length p) khz subframes signal offset) (eqb-true (pulsesRule b d p khz subframes signal offset) 0 t) in
+      let o = gate-open b d (f .0) in
+      let w = pulse-open (length p) khz subframes signal offset (f .1) .numbers in
+      let tree = excitation signal offset (blocksOf khz subframes) in
+      let a = excitation-within signal offset (blocksOf khz subframes) (w .signal2) (w .offset1) (blocks-most khz subframes (w .khz16) (w .subframes4)) in
+      let c = always-core Fine 64656 b d tree a y (o .sound .core) in
+      record {
+        sound = record { core = c .core; least = omega (arith, c .least, o .sound .least); most = omega (arith, c .most, o .low) };
+        most = omega (arith, c .most);
+        within = all-flatten Within (run b d tree .value .pulses) (always-run Fine 64656 b d tree a);
+      })
+    (λ t e. absurd (eqb-false (pulsesRule b d p khz subframes signal offset) 0 t e))
