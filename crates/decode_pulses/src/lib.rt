@@ -54,7 +54,13 @@ pub fn silk_decode_pulses(
         let rows = tables::rows::pulse_rows();
         let blocks = blocks_of(khz, subframes);
         let state = decode_pulses_run::silk_decode_pulses_run(
-            packet, d, &rows, pulses, blocks, signal, offset,
+            packet,
+            d,
+            &rows,
+            pulses,
+            blocks,
+            signal,
+            offset,
         );
         return Decoded {
             refusal: 0,

@@ -1,5 +1,5 @@
 -- Laws of the call that reads pulses: what its accepted numbers are, and its two outcomes. Assumes nothing.
-use Prim.Native.Nat.{ℕ, _+_, _*_, _/_, _≤_}
+use Prim.Native.Nat.{ℕ, _+_, _*_, _≤_}
 use mathlib.Core.Path.{_≡_, refl, sym, _∙_}
 use mathlib.Core.List.{List, [], _∷_, flatten}
 use mathlib.Core.Bool.{Bool, true, false, _&&_, _||_, cond}
@@ -110,15 +110,15 @@ unfolding decodePulses
 pulses-accepted b d p khz subframes signal offset y =
     chosen (λ (q : Pulsed). q .answer .refusal ≡ 0 → PulsesRead b d q) (eqb (pulsesRule b d p khz subframes signal offset) 0)
     (λ t e.
-      let f = first-none (gateR b d) (pulseRule (length p) khz subframes signal offset) (eqb-true (pulsesRule b d p khz subframes signal offset) 0 t) in
-      let o = gate-open b d (f .0) in
-      let w = pulse-open (length p) khz subframes signal offset (f .1) .numbers in
-      let tree = excitation signal offset (blocksOf khz subframes) in
-      let a = excitation-within signal offset (blocksOf khz subframes) (w .signal2) (w .offset1) (blocks-most khz subframes (w .khz16) (w .subframes4)) in
-      let c = always-core Fine 64656 b d tree a y (o .sound .core) in
-      record {
-        sound = record { core = c .core; least = omega (arith, c .least, o .sound .least); most = omega (arith, c .most, o .low) };
-        most = omega (arith, c .most);
-        within = all-flatten Within (run b d tree .value .pulses) (always-run Fine 64656 b d tree a);
-      })
+    let f = first-none (gateR b d) (pulseRule (length p) khz subframes signal offset) (eqb-true (pulsesRule b d p khz subframes signal offset) 0 t) in
+    let o = gate-open b d (f .0) in
+    let w = pulse-open (length p) khz subframes signal offset (f .1) .numbers in
+    let tree = excitation signal offset (blocksOf khz subframes) in
+    let a = excitation-within signal offset (blocksOf khz subframes) (w .signal2) (w .offset1) (blocks-most khz subframes (w .khz16) (w .subframes4)) in
+    let c = always-core Fine 64656 b d tree a y (o .sound .core) in
+    record {
+      sound = record { core = c .core; least = omega (arith, c .least, o .sound .least); most = omega (arith, c .most, o .low) };
+      most = omega (arith, c .most);
+      within = all-flatten Within (run b d tree .value .pulses) (always-run Fine 64656 b d tree a);
+    })
     (λ t e. absurd (eqb-false (pulsesRule b d p khz subframes signal offset) 0 t e))

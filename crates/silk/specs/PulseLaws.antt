@@ -1,29 +1,26 @@
 -- What every excitation that is read has, whatever the packet (RFC 6716, section 4.2.7.8): a block's magnitudes before low bits total its count,
 -- no pulse lies beyond 17,407, and reading adds at most 64,656 to the total. Assumes nothing.
 use Prim.Native.Nat.{ℕ, zero, suc, _+_, _-_, _*_, _/_, _^_, _<_, _≤_, min}
-use mathlib.Core.Path.{_≡_, refl, sym, ap, subst, _∙_}
-use mathlib.Core.Bool.{Bool, true, false, cond}
+use mathlib.Core.Path.{_≡_, refl, ap, _∙_}
 use mathlib.Core.List.{List, [], _∷_, _++_}
 use native.Mathlib.Nat.{pow-suc, mul-le-mul, suc-mul}
 use native.Mathlib.Omega.{arith}
-use borrow.Author.Tests.{eqb-true, eqb-false}
+use borrow.Author.Tests.{eqb-false}
 use lib.Dec.{eqb}
-use lib.IntN.{ℤ, pos, negsuc, natAbs}
-use lib.ListN.{length, getD, take, drop, length-append}
+use lib.IntN.{ℤ, pos, natAbs}
+use lib.ListN.{length, take, drop, length-append}
 use lib.Pow.{pow-mono}
 use Rattle.tests.specs.Choice.{chosen, by-lt}
 use Rattle.lists.specs.AtMost.{AtMost}
 use Rattle.lists.specs.All.{All}
 use Rattle.icdf.specs.Rule.{Icdf}
-use Rattle.sheet.specs.Directory.{rowOf, rateRow, shellRow, lowBitRow}
-use Rattle.sheet.specs.Places.{sizes, row-size}
 use Rattle.sheet.specs.Families.{rate-stands, shell-stands}
 use Rattle.sheet.specs.SheetRule.{row-good}
 use Rattle.entcode.specs.declared.Dec.{Dec}
 use Rattle.tree.specs.Asks.{Asks, done, then, of}
 use Rattle.tree.specs.Ran.{Ran}
 use Rattle.tree.specs.Always.{Always, ran-always, always-more, always-weaker, always-then, always-of}
-use Rattle.silk.specs.PulseSyntax.{Block, Excitation, headOf, tailOf, each, countSaid, laterRow, lowCounts, count, counts, total, split, shell, lowBits, blockLows, signRowOf, sign, blockSigns, magnitudes, shifted, excitation}
+use Rattle.silk.specs.PulseSyntax.{Block, Excitation, headOf, tailOf, each, lowCounts, count, counts, total, split, shell, lowBits, blockLows, signRowOf, sign, blockSigns, magnitudes, shifted, excitation}
 use Rattle.silk.specs.PulseRowLaws.{count-size, later, low-bit-size}
 use Rattle.silk.specs.PulseBlocks.{Small}
 
@@ -213,9 +210,9 @@ block-signs-within signal offset h k (b ∷ bs) [] q e = absurd (omega arith)
 block-signs-within signal offset h k (b ∷ bs) (v ∷ vs) q e =
     let t = each (pos 0) (sign (signRowOf signal offset (b .count))) v in
     let one : Always (All Within) 256 t =
-        always-more (All Within) (length v * 16) 256 t (omega (arith, q .0 .size))
-        (always-weaker _ (All Within) (length v * 16) t (λ l r. r .all)
-        (each-always (pos 0) (sign (signRowOf signal offset (b .count))) Whole Within 16 (λ m w. sign-within (signRowOf signal offset (b .count)) (sign-good signal offset (b .count) h k) m w) v (q .0 .most))) in
+    always-more (All Within) (length v * 16) 256 t (omega (arith, q .0 .size))
+    (always-weaker _ (All Within) (length v * 16) t (λ l r. r .all)
+    (each-always (pos 0) (sign (signRowOf signal offset (b .count))) Whole Within 16 (λ m w. sign-within (signRowOf signal offset (b .count)) (sign-good signal offset (b .count) h k) m w) v (q .0 .most))) in
     cons-always (All Within) (length bs) 256 (length bs * 256) (suc (length bs) * 256) (headOf []) t tailOf (blockSigns signal offset bs vs) (omega arith) one
     (block-signs-within signal offset h k bs vs (q .1) (omega arith))
 

@@ -1,6 +1,6 @@
 -- What holds of every result of a tree, and how far its reading moves a reader, whatever symbols are read. Assumes nothing.
 use Prim.Native.Nat.{ℕ, _+_, _-_, _≤_}
-use mathlib.Core.Path.{_≡_, ap, subst}
+use mathlib.Core.Path.{ap, subst}
 use mathlib.Core.List.{List}
 use native.Mathlib.Omega.{arith}
 use Rattle.entcode.specs.declared.Dec.{Dec}

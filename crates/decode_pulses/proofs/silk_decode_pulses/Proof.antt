@@ -1,8 +1,8 @@
 -- `silk_decode_pulses` meets its contract: the first refusal, or the excitation. Assumes nothing.
 use borrow.Author.Needs.{needs}
-use Prim.Native.Nat.{ℕ, _*_}
+use Prim.Native.Nat.{ℕ}
 use native.Mathlib.Omega.{arith}
-use mathlib.Core.Path.{_≡_, sym, ap, ap₂, subst, _∙_}
+use mathlib.Core.Path.{_≡_, sym, ap₂, subst, _∙_}
 use lib.ListN.{length}
 use Rattle.refusals.specs.First.{firstOf, first-none}
 use Rattle.entcode.specs.Sound.{gateR}
@@ -54,8 +54,7 @@ silk-decode-pulses-run-requires c κs =
     let a = c .before .before .before .before .before .before .before .before .before .args in
     let k = accepted (c .before .before .before .before) in
     let o = k .own .numbers in
-    let e = c .before .before .blocks-of .ensures in
-    (
+    let e = c .before .before .blocks-of .ensures in (
       k .gate .sound .core,
       (
         omega (arith, k .gate .low),
@@ -79,7 +78,7 @@ returns c =
     let a = c .before .before .before .before .before .before .before .before .before .before .before .args in
     let r = c .before .silk-decode-pulses-run in
     let x : Excited (a .packet .now) (a .d) (a .signal) (a .offset) _ (r .last .1 .1 .1 .0) (r .result) =
-        subst (λ (k : ℕ). Excited (a .packet .now) (a .d) (a .signal) (a .offset) k (r .last .1 .1 .1 .0) (r .result)) (c .before .before .before .before .blocks-of .ensures) (r .ensures) in
+    subst (λ (k : ℕ). Excited (a .packet .now) (a .d) (a .signal) (a .offset) k (r .last .1 .1 .1 .0) (r .result)) (c .before .before .before .before .blocks-of .ensures) (r .ensures) in
     pulses-read (a .packet .now) (a .d) (a .pulses .now) (a .khz) (a .subframes) (a .signal) (a .offset) _ (number (c .before .before .before .before .before .before .before))
     (c .before .before .before .before .before .before .if1 .taken) _ _ (x .value) (x .ran .is) (x .is)
 
