@@ -1,5 +1,5 @@
 -- The parts of an excitation, read one after the other, are the excitation (RFC 6716, section 4.2.7.8). Assumes nothing.
-use Prim.Native.Nat.{ℕ, _+_, _*_, _≤_}
+use Prim.Native.Nat.{ℕ, _*_, _≤_}
 use mathlib.Core.Path.{_≡_, subst, _∙_}
 use mathlib.Core.List.{List, flatten, map-id}
 use native.Mathlib.Omega.{arith}

@@ -1,5 +1,5 @@
 -- The three loops over the blocks of a frame, turn by turn: splits fill the slice, low bits and signs work on the magnitudes in it. Assumes nothing.
-use Prim.Native.Nat.{ℕ, zero, suc, _+_, _-_, _*_, _<_, _≤_}
+use Prim.Native.Nat.{ℕ, _+_, _-_, _*_, _<_, _≤_}
 use mathlib.Core.Path.{_≡_, refl, sym, ap, subst, _∙_}
 use mathlib.Core.List.{List, [], _∷_, _++_, map, flatten, map-append}
 use native.Mathlib.Nat.{sub-zero}

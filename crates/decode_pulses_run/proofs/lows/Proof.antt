@@ -1,8 +1,8 @@
 -- `lows` meets its contract. The invariant: i blocks have their low bits, and the tree has come as far. Assumes nothing.
 use borrow.Author.Needs.{needs}
-use Prim.Native.Nat.{ℕ, _+_, _-_, _*_, _<_, _≤_}
+use Prim.Native.Nat.{_+_, _-_, _*_, _<_, _≤_}
 use native.Mathlib.Omega.{arith}
-use mathlib.Core.Path.{_≡_, sym, ap, subst, _∙_}
+use mathlib.Core.Path.{sym, ap, subst, _∙_}
 use lib.IntN.{pos}
 use lib.ListN.{length, length-map}
 use Rattle.lists.specs.AtMost.{AtMost}

@@ -1,8 +1,8 @@
 -- `silk_decode_pulses_run` meets its contract: the parts in order. Assumes nothing.
 use borrow.Author.Needs.{needs}
-use Prim.Native.Nat.{_+_, _*_, _/_, _<_}
+use Prim.Native.Nat.{_+_, _/_, _<_}
 use native.Mathlib.Omega.{arith}
-use mathlib.Core.Path.{_≡_, sym, ap, _∙_}
+use mathlib.Core.Path.{ap, _∙_}
 use lib.ListN.{length}
 use Rattle.sheet.specs.Families.{rate-stands}
 use Rattle.sheet.specs.SheetRule.{row-good}

@@ -6,7 +6,6 @@ use native.Mathlib.Decide.{decLe}
 use native.Mathlib.Omega.{arith}
 use mathlib.Core.Path.{_≡_, refl, sym, ap, _∙_}
 use mathlib.Core.List.{List}
-use denote.Ref.{now}
 use lib.ListN.{length}
 use Rattle.sheet.specs.Directory.{countRow}
 use Rattle.sheet.specs.SheetRule.{row-good}

@@ -1,6 +1,5 @@
 -- `shell_4` meets its contract: a split, then each half. Assumes nothing.
 use borrow.Author.Needs.{needs}
-use Prim.Native.Nat.{_-_}
 use native.Mathlib.Omega.{arith}
 use mathlib.Core.Path.{_∙_}
 use lib.Seq.{length-take-le}
