@@ -113,6 +113,12 @@ tg_indices_read tg_decode_indices(const uint8_t *packet, size_t len, tg_reader r
                                   uint32_t subframes, uint32_t active, uint32_t mode, uint32_t prev_type,
                                   int16_t prev_lag);
 
+/* The pulses of a frame: n is 16 x its blocks, (5 x khz x subframes + 15) / 16 of them; signal_type 0
+ * to 2, offset_type 0 or 1. Whatever the pulses held does not matter. Refusals 1 to 4, and 6 (n); a
+ * refusal leaves the pulses as they are. */
+tg_read tg_decode_pulses(const uint8_t *packet, size_t len, tg_reader r, int16_t *pulses, size_t n, uint32_t khz,
+                         uint32_t subframes, uint32_t signal_type, uint32_t offset_type);
+
 /* The spectrum indices of a frame: index[0] picks a book's vector, the others one residual each. */
 typedef struct {
     int8_t index[17];

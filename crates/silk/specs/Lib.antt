@@ -12,4 +12,7 @@ pub mod PulseBlocks
 pub mod PulseLaws
 pub mod PulseRounds
 pub mod FrameCalls
+pub mod IndexCalls
+pub mod IndexCases
+pub mod IndexWriting
 pub mod PulseCallLaws

@@ -5,7 +5,7 @@ ghost use Rattle.entcode.specs.Reading.{decSym, decTell, decOpen};
 ghost use Rattle.entcode.specs.Flat.{out};
 ghost use Rattle.entcode.specs.Writing.{sent, encSym, encTell, encDone, encOpen};
 ghost use Rattle.silk.specs.Record.{settingOf};
-ghost use Rattle.silk.specs.FrameCalls.{decodeIndices};
+ghost use Rattle.silk.specs.FrameCalls.{decodeIndices, pulsed, decodePulses};
 ghost use Rattle.spectrum.specs.Calls.{stabiliseCall, decodeCall};
 use entcode::Dec;
 use entcode::Decoded;
@@ -144,6 +144,23 @@ pub extern "C" fn tg_decode_indices(
         prevtype,
         prevlag,
     )
+}
+
+// ---- pulses
+
+#[no_mangle]
+pub extern "C" fn tg_decode_pulses(
+    packet: &[u8],
+    r: Dec,
+    pulses: &mut [i16],
+    khz: u32,
+    subframes: u32,
+    signal: u32,
+    offset: u32,
+) -> Decoded
+    ensures { λ a. ⌜ pulsed (now (pulses .exit)) a ≡ decodePulses (now (packet .entry)) r (now (pulses .entry)) khz subframes signal offset ⌝ }
+{
+    decode_pulses::silk_decode_pulses(packet, r, pulses, khz, subframes, signal, offset)
 }
 
 // ---- line spectra
