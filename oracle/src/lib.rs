@@ -17,6 +17,7 @@ pub mod reader;
 pub mod record;
 pub mod report;
 pub mod rng;
+pub mod roundtrip;
 pub mod row;
 pub mod shim;
 pub mod state;

@@ -1,5 +1,5 @@
-//! Holds our calls and tables to the crate's and to libopus's: a line for each comparison that came
-//! out equal, or the first difference and status 1.
+//! Holds our calls and tables to the crate's and to libopus's, and what our writer writes to reading
+//! back: a line for each comparison that came out equal, or the first difference and status 1.
 //!
 //! ORACLE_SEED picks the calls at random. `record` writes the recorded answers anew;
 //! `overflow`, built with overflow checks, holds that no accepted call overflows in the crate.
@@ -8,7 +8,7 @@ use oracle::hold::Plans;
 use oracle::reader::Reading;
 use oracle::record::{self, Recorded};
 use oracle::writer::Writing;
-use oracle::{hold, tables};
+use oracle::{hold, roundtrip, tables};
 use std::path::{Path, PathBuf};
 use std::process::ExitCode;
 use std::{env, fs};
@@ -36,6 +36,7 @@ fn compare() -> Result<(), String> {
     println!("calls: seed {seed}");
     calls::<Reading>(seed)?;
     calls::<Writing>(seed)?;
+    roundtrip::hold(seed).map_err(|e| format!("round trip: {e}"))?;
     read_record::<Reading>()?;
     read_record::<Writing>()
 }

@@ -162,7 +162,7 @@ pub fn any<'a>(rng: &mut Rng, entries: &'a mut Entries, value: u32) -> Model<'a>
 }
 
 /// A table that keeps document 01's rule, most often a short one; symbols of probability 0 occur.
-fn any_table<'a>(rng: &mut Rng, entries: &'a mut Entries) -> Model<'a> {
+pub fn any_table<'a>(rng: &mut Rng, entries: &'a mut Entries) -> Model<'a> {
     let scale = rng.between(1, 8);
     let count = match rng.between(0, 15) {
         0 => rng.or_end(1, 256),

@@ -18,25 +18,7 @@ impl Plans for Writing {
         share: u32,
         mut said: impl FnMut(u64, &str),
     ) -> Outcome {
-        let tables = models::limit_tables();
-        let limits = models::at_limits(&tables);
-        listed(sink)?;
-        let lengths = (0..=LONGEST + 1).step_by(share as usize);
-        along(sink, rng, lengths, 300)?;
-        let plan = "along buffers of every length from their opening past their finish";
-        said(sink.counters().all(), plan);
-
-        speech(sink, rng, 3_000 / share)?;
-        let plan = "along buffers by the tables of speech";
-        said(sink.counters().all(), plan);
-
-        long_runs(sink, &[3, LONGEST])?;
-        let plan = "along buffers while the run of 255s grows";
-        said(sink.counters().all(), plan);
-
-        to_the_end(sink, rng)?;
-        let plan = "along a buffer until its total refuses more";
-        said(sink.counters().all(), plan);
+        along_buffers(sink, rng, share, &mut said)?;
 
         runs(sink, &[0, 3, LONGEST])?;
         finishes(sink, rng, 1_000_000 / share)?;
@@ -46,6 +28,8 @@ impl Plans for Writing {
         on_sound(sink, rng, 4_000_000 / share)?;
         said(sink.counters().all(), "on arbitrary sound states");
 
+        let tables = models::limit_tables();
+        let limits = models::at_limits(&tables);
         on_unsound(sink, rng, &LENGTHS, &limits)?;
         said(sink.counters().all(), "on states that break one rule");
 
@@ -56,6 +40,33 @@ impl Plans for Writing {
         said(sink.counters().all(), plan);
         Ok(())
     }
+}
+
+/// The plans that write from an opening on.
+fn along_buffers(
+    sink: &mut impl Sink<Writing>,
+    rng: &mut Rng,
+    share: u32,
+    said: &mut impl FnMut(u64, &str),
+) -> Outcome {
+    listed(sink)?;
+    let lengths = (0..=LONGEST + 1).step_by(share as usize);
+    along(sink, rng, lengths, 300)?;
+    let plan = "along buffers of every length from their opening past their finish";
+    said(sink.counters().all(), plan);
+
+    speech(sink, rng, 3_000 / share)?;
+    let plan = "along buffers by the tables of speech";
+    said(sink.counters().all(), plan);
+
+    long_runs(sink, &[3, LONGEST])?;
+    let plan = "along buffers while the run of 255s grows";
+    said(sink.counters().all(), plan);
+
+    to_the_end(sink, rng)?;
+    let plan = "along a buffer until its total refuses more";
+    said(sink.counters().all(), plan);
+    Ok(())
 }
 
 /// The cases of document 01 that are run.
