@@ -9,3 +9,5 @@ pub mod PulseLaws
 pub mod PulseRounds
 pub mod FrameCalls
 pub mod PulseCallLaws
+pub mod PulseWriting
+pub mod PulseWritten
