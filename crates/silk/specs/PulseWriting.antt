@@ -15,7 +15,7 @@ use Rattle.silk.specs.PulseSyntax.{row, Block, Excitation, each, count, 
 -- ---- a block with j low bits
 
 abbrev pub shiftedBy : ℕ → List ℤ → List ℕ
-shiftedBy j p = map (λ z. natAbs z / 2 ^ j) p
+shiftedBy j p = map (λ m. m / 2 ^ j) (map natAbs p)
 
 -- its count before low bits
 abbrev pub blockBy : ℕ → List ℤ → Block

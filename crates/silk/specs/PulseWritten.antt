@@ -2,18 +2,20 @@
 use Prim.Native.Nat.{ℕ, zero, suc, _+_, _-_, _*_, _/_, _%_, _^_, _<_, _≤_}
 use mathlib.Core.Path.{_≡_, refl, sym, ap, _∙_}
 use mathlib.Core.Bool.{false}
-use mathlib.Core.List.{List, [], _∷_, _++_}
+use mathlib.Core.List.{List, [], _∷_, _++_, map}
 use native.Mathlib.Nat.{pow-suc, div-one, div-div-eq-div-mul}
 use native.Mathlib.Omega.{arith}
 use borrow.Author.Tests.{lt-ltb, le-ltb, ne-eqb}
 use lib.Dec.{ltb}
 use lib.IntN.{ℤ, pos, negsuc, natAbs}
-use lib.ListN.{length, take, drop, length-drop, take-append-drop}
+use lib.ListN.{length, take, drop, length-drop, length-map, take-append-drop}
 use lib.Seq.{length-take-le}
 use Rattle.tests.specs.Choice.{by-lt}
-use Rattle.tree.specs.Asks.{Asks, done, then, of, meant}
-use Rattle.tree.specs.AsksLaws.{meant-then, meant-of}
-use Rattle.silk.specs.PulseSyntax.{Block, countSaid, lowCounts, count, total, split, shell, lowBits, sign}
+use Rattle.entcode.specs.declared.Dec.{Dec}
+use Rattle.tree.specs.Asks.{Asks, done, then, of, Got, got, run, meant, Gives}
+use Rattle.tree.specs.AsksLaws.{meant-then, meant-of, written-reads-back}
+use Rattle.silk.specs.PulseSyntax.{Block, Excitation, headOf, tailOf, each, countSaid, lowCounts, count, counts, total, split, shell, lowBits, blockLows, signRowOf, sign, blockSigns, magnitudes, shifted, excitation}
+use Rattle.silk.specs.PulseWriting.{shiftedBy, blockBy, blocksBy, excited, pulsesSay}
 
 -- ---- counts
 
@@ -89,3 +91,107 @@ pub low-bits-meant : (n y : ℕ) → meant y (lowBits n (y / 2 ^ n)) ≡ y
 unfolding lowBits meant
 low-bits-meant zero y = div-one y
 low-bits-meant (suc n) y = ap (λ (v : ℕ). meant y (lowBits n v)) (sym (next-bit n y)) ∙ low-bits-meant n y
+
+-- ---- lists of trees
+
+cons-meant : {A : Type 0} (e y : A) (ys : List A) (t : Asks A A) (u : Asks (List A) (List A)) → meant y t ≡ y → meant ys u ≡ ys
+    → meant (y ∷ ys) (then (of (headOf e) t) (λ a. then (of tailOf u) (λ l. done (a ∷ l)))) ≡ y ∷ ys
+unfolding meant
+cons-meant {A = A} e y ys t u p q =
+    meant-then (y ∷ ys) (of (headOf e) t) (λ a. then (of tailOf u) (λ l. done (a ∷ l)))
+    ∙ ap (λ (a : A). meant (y ∷ ys) (then (of tailOf u) (λ l. done (a ∷ l)))) (meant-of (y ∷ ys) (headOf e) t ∙ p)
+    ∙ meant-then (y ∷ ys) (of tailOf u) (λ l. done (y ∷ l))
+    ∙ ap {B = List A} (λ (l : List A). y ∷ l) (meant-of (y ∷ ys) tailOf u ∙ q)
+
+each-meant : {S A : Type 0} (e : A) (f : S → Asks A A) (g : A → S) → ((y : A) → meant y (f (g y)) ≡ y) → (ys : List A) → meant ys (each e f (map g ys)) ≡ ys
+unfolding each meant
+each-meant e f g h [] = refl
+each-meant e f g h (y ∷ ys) = cons-meant e y ys (f (g y)) (each e f (map g ys)) (h y) (each-meant e f g h ys)
+
+-- ---- a frame
+
+-- a block that a shift suits
+pub record Suits (j : ℕ) (p : List ℤ) : Type 0 where
+  pub size : length p ≡ 16
+  pub few : j ≤ 10
+  pub most : total (shiftedBy j p) ≤ 16
+
+-- a shift for each block
+abbrev pub AllSuit : List ℕ → List (List ℤ) → Type 0
+AllSuit [] [] = Unit {0}
+AllSuit [] (p ∷ ps) = ⊥
+AllSuit (j ∷ js) [] = ⊥
+AllSuit (j ∷ js) (p ∷ ps) = Suits j p × AllSuit js ps
+
+abbrev whole : List (List ℤ) → List (List ℕ)
+whole ps = map (map natAbs) ps
+
+counts-meant : (level : ℕ) (js : List ℕ) (ps : List (List ℤ)) → AllSuit js ps → meant (blocksBy js ps) (counts level (length ps)) ≡ blocksBy js ps
+unfolding counts blocksBy meant
+counts-meant level [] [] a = refl
+counts-meant level [] (p ∷ ps) a = absurd a
+counts-meant level (j ∷ js) [] a = absurd a
+counts-meant level (j ∷ js) (p ∷ ps) a =
+    cons-meant (record { count = 0; lows = 0 }) (blockBy j p) (blocksBy js ps) (count level) (counts level (length ps)) (count-meant level (blockBy j p) (a .0 .few) (a .0 .most))
+    (counts-meant level js ps (a .1))
+
+splits-meant : (js : List ℕ) (ps : List (List ℤ)) → AllSuit js ps
+    → meant (shifted (blocksBy js ps) (whole ps)) (each [] (λ (b : Block). shell 4 (b .count)) (blocksBy js ps)) ≡ shifted (blocksBy js ps) (whole ps)
+unfolding each blocksBy shifted meant
+splits-meant [] [] a = refl
+splits-meant [] (p ∷ ps) a = absurd a
+splits-meant (j ∷ js) [] a = absurd a
+splits-meant (j ∷ js) (p ∷ ps) a =
+    cons-meant [] (shiftedBy j p) (shifted (blocksBy js ps) (whole ps)) (shell 4 (total (shiftedBy j p))) (each [] (λ (b : Block). shell 4 (b .count)) (blocksBy js ps))
+    (shell-meant 4 (total (shiftedBy j p)) (shiftedBy j p) (length-map (map natAbs p) (λ m. m / 2 ^ j) ∙ length-map p natAbs ∙ a .0 .size) refl) (splits-meant js ps (a .1))
+
+lows-meant : (js : List ℕ) (ps : List (List ℤ)) → AllSuit js ps → meant (whole ps) (blockLows (blocksBy js ps) (shifted (blocksBy js ps) (whole ps))) ≡ whole ps
+unfolding blockLows blocksBy shifted meant
+lows-meant [] [] a = refl
+lows-meant [] (p ∷ ps) a = absurd a
+lows-meant (j ∷ js) [] a = absurd a
+lows-meant (j ∷ js) (p ∷ ps) a =
+    cons-meant [] (map natAbs p) (whole ps) (each 0 (lowBits j) (shiftedBy j p)) (blockLows (blocksBy js ps) (shifted (blocksBy js ps) (whole ps)))
+    (each-meant 0 (lowBits j) (λ m. m / 2 ^ j) (low-bits-meant j) (map natAbs p)) (lows-meant js ps (a .1))
+
+signs-meant : (signal offset : ℕ) (js : List ℕ) (ps : List (List ℤ)) → AllSuit js ps → meant ps (blockSigns signal offset (blocksBy js ps) (whole ps)) ≡ ps
+unfolding blockSigns blocksBy meant
+signs-meant signal offset [] [] a = refl
+signs-meant signal offset [] (p ∷ ps) a = absurd a
+signs-meant signal offset (j ∷ js) [] a = absurd a
+signs-meant signal offset (j ∷ js) (p ∷ ps) a =
+    cons-meant [] p ps (each (pos 0) (sign (signRowOf signal offset (total (shiftedBy j p)))) (map natAbs p)) (blockSigns signal offset (blocksBy js ps) (whole ps))
+    (each-meant (pos 0) (sign (signRowOf signal offset (total (shiftedBy j p)))) natAbs (sign-meant (signRowOf signal offset (total (shiftedBy j p)))) p) (signs-meant signal offset js ps (a .1))
+
+-- what the writer says of pulses means these pulses, at the rate level and with the shifts given
+module _ (signal offset rate : ℕ) (js : List ℕ) (ps : List (List ℤ)) (a : AllSuit js ps) where
+  abbrev hand : Excitation
+  hand = excited rate js ps
+
+  abbrev toSigns : List Block → List (List ℕ) → Asks Excitation Excitation
+  toSigns bs vs = then (of (λ y. y .pulses) (blockSigns signal offset bs vs)) (λ qs. done (record { rate = rate; blocks = bs; pulses = qs }))
+
+  abbrev toLows : List Block → List (List ℕ) → Asks Excitation Excitation
+  toLows bs ms = then (of magnitudes (blockLows bs ms)) (λ vs. toSigns bs vs)
+
+  abbrev toSplits : List Block → Asks Excitation Excitation
+  toSplits bs = then (of (λ y. shifted (y .blocks) (magnitudes y)) (each [] (λ (b : Block). shell 4 (b .count)) bs)) (λ ms. toLows bs ms)
+
+  pub excitation-meant : meant hand (excitation signal offset (length ps)) ≡ hand
+  unfolding excitation meant
+  excitation-meant =
+      let bs = blocksBy js ps in
+      meant-then hand (of (λ (y : Excitation). y .blocks) (counts rate (length ps))) (λ b. toSplits b)
+      ∙ ap (λ (b : List Block). meant hand (toSplits b)) (meant-of hand (λ (y : Excitation). y .blocks) (counts rate (length ps)) ∙ counts-meant rate js ps a)
+      ∙ meant-then hand (of (λ (y : Excitation). shifted (y .blocks) (magnitudes y)) (each [] (λ (b : Block). shell 4 (b .count)) bs)) (λ ms. toLows bs ms)
+      ∙ ap (λ (ms : List (List ℕ)). meant hand (toLows bs ms)) (meant-of hand (λ (y : Excitation). shifted (y .blocks) (magnitudes y)) (each [] (λ (b : Block). shell 4 (b .count)) bs) ∙ splits-meant js ps a)
+      ∙ meant-then hand (of magnitudes (blockLows bs (shifted bs (whole ps)))) (λ vs. toSigns bs vs)
+      ∙ ap (λ (vs : List (List ℕ)). meant hand (toSigns bs vs)) (meant-of hand magnitudes (blockLows bs (shifted bs (whole ps))) ∙ lows-meant js ps a)
+      ∙ meant-then hand (of (λ (y : Excitation). y .pulses) (blockSigns signal offset bs (whole ps))) (λ qs. done (record { rate = rate; blocks = bs; pulses = qs }))
+      ∙ ap {B = Excitation} (λ (qs : List (List ℤ)). record { rate = rate; blocks = bs; pulses = qs }) (meant-of hand (λ (y : Excitation). y .pulses) (blockSigns signal offset bs (whole ps)) ∙ signs-meant signal offset js ps a)
+
+  -- a reader that gives the symbols written has read the pulses
+  pub pulses-read-back : (b : List ℕ) (d z : Dec) → Gives b d (pulsesSay signal offset (length ps) rate js ps) z
+      → run b d (excitation signal offset (length ps)) ≡ got hand z
+  pulses-read-back b d z g =
+      written-reads-back b d z hand (excitation signal offset (length ps)) g ∙ ap {B = Got Excitation} (λ (x : Excitation). got x z) excitation-meant
