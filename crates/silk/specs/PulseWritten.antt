@@ -28,8 +28,8 @@ low-counts-meant (suc n) j b e l m h =
     by-lt j (b .lows)
     (λ p. rw (lt-ltb j (b .lows) p) (low-counts-meant n (suc j) b (omega arith) p m h))
     (λ p.
-      let q : b .lows ≡ j = omega arith in
-      rw (le-ltb j (b .lows) p, ne-eqb (b .count) 17 (λ r. omega arith)) (ap {B = Block} (λ (k : ℕ). record { count = b .count; lows = k }) (sym q)))
+    let q : b .lows ≡ j = omega arith in
+    rw (le-ltb j (b .lows) p, ne-eqb (b .count) 17 (λ r. omega arith)) (ap {B = Block} (λ (k : ℕ). record { count = b .count; lows = k }) (sym q)))
 
 pub count-meant : (level : ℕ) (b : Block) → b .lows ≤ 10 → b .count ≤ 16 → meant b (count level) ≡ b
 unfolding count meant
