@@ -1,4 +1,4 @@
-/* Tignarops: reading Opus speech packets, each call proved. Contracts: crates/tignarops/src/lib.rt.
+/* Tignarops: reading and writing Opus speech packets, each call proved. Contracts: crates/tignarops/src/lib.rt.
  *
  * What every caller owes: a pointer names as many readable elements as the length beside it says
  * (writable ones, where it is not const), and memory that a call writes overlaps no other memory
@@ -6,8 +6,9 @@
  *
  * What every call gives: `refusal` is 0, or the number of document 01's table that refuses the
  * call: 1 more than 1,275 bytes, 2 an unsound state, 3 a total above 1,000,000, 4 a number out of
- * its range, 5 a table that breaks its rule. The checks run in that order and the first decides. A
- * refused call answers value 0 and the state it was given, and writes nothing.
+ * its range, 5 a table that breaks its rule, 6 a length, 7 a gap set that breaks its rule, 8 a value
+ * that cannot be written. The checks run in that order and the first decides. A refused call answers
+ * value 0 and the state it was given, and writes nothing.
  */
 #ifndef TIGNAROPS_H
 #define TIGNAROPS_H
@@ -50,6 +51,92 @@ tg_read tg_dec_uint(const uint8_t *packet, size_t len, tg_reader r, uint32_t tot
 
 /* Raw bits from the packet's end, 1 to 25 of them. Refusals 1 to 4. */
 tg_read tg_dec_bits(const uint8_t *packet, size_t len, tg_reader r, uint32_t bits);
+
+/* A writer beside its buffer: rem is the held byte or -1, error 0 or -1. The error stays once a byte
+ * found no room; work goes on. Only a state that a call handed back, for the same buffer, is of use. */
+typedef struct {
+    uint32_t storage, end_offs, end_window, nend_bits, nbits_total, offs, rng, val, ext;
+    int32_t rem, error;
+} tg_writer;
+
+typedef struct {
+    uint32_t refusal, value;
+    tg_writer state;
+} tg_written;
+
+/* A fresh writer over a buffer, whatever it holds; value 0. Refused with 1 alone, and then the state
+ * is all zeros, on which any other call answers 2. */
+tg_written tg_enc_open(const uint8_t *buf, size_t len);
+
+/* The bits written so far, as a reader of them will count: 1 for a fresh writer. If it is at most
+ * 8 x len after the last symbol, finishing reports no error. Refusals 1 to 3; the state stays. */
+tg_written tg_enc_account(const uint8_t *buf, size_t len, tg_writer w);
+
+/* A bit, 0 or 1, exponent 1 to 15. Refusals 1 to 4, and 8. */
+tg_written tg_enc_bit(uint8_t *buf, size_t len, tg_writer w, uint32_t value, uint32_t exponent);
+
+/* A symbol of an inverse table (as for tg_dec_icdf) that has a probability above 0. Refusals 1 to 5,
+ * and 8. */
+tg_written tg_enc_icdf(uint8_t *buf, size_t len, tg_writer w, uint32_t symbol, const uint8_t *table, size_t n, uint32_t scale);
+
+/* A number below total, total 2 to 2^32 - 1. Refusals 1 to 4, and 8. */
+tg_written tg_enc_uint(uint8_t *buf, size_t len, tg_writer w, uint32_t value, uint32_t total);
+
+/* Raw bits at the buffer's end, 1 to 25 of them, value below 2^bits. Refusals 1 to 4, and 8. */
+tg_written tg_enc_bits(uint8_t *buf, size_t len, tg_writer w, uint32_t value, uint32_t bits);
+
+/* Finishing: the fewest bits that hold whatever follows, all that is held back, the raw bits, zeros
+ * between. state.error is 0 if nothing was lost; then a reader of the buffer gives back every symbol.
+ * Refusals 1 to 3. */
+tg_written tg_enc_done(uint8_t *buf, size_t len, tg_writer w);
+
+/* The side indices of a frame. */
+typedef struct {
+    int8_t gains[4], ltp[4], nlsf[17];
+    int16_t lag;
+    int8_t contour, signal_type, offset_type, interp, period, ltp_scale, seed;
+} tg_indices;
+
+typedef struct {
+    uint32_t refusal;
+    tg_reader state;
+    tg_indices record;
+    uint32_t prev_type;
+    int16_t prev_lag;
+} tg_indices_read;
+
+/* The side indices of a frame: khz 8, 12 or 16; 2 or 4 subframes; active 0 or 1; mode 0 independent,
+ * 1 independent without a scale of its own, 2 conditional; prev_type and prev_lag of the frame before,
+ * answered anew for the next. Fields of the record that the frame does not code stay as they were.
+ * Refusals 1 to 4; a refusal answers record, prev_type and prev_lag as they came. */
+tg_indices_read tg_decode_indices(const uint8_t *packet, size_t len, tg_reader r, tg_indices record, uint32_t khz,
+                                  uint32_t subframes, uint32_t active, uint32_t mode, uint32_t prev_type,
+                                  int16_t prev_lag);
+
+/* The pulses of a frame: n is 16 x its blocks, (5 x khz x subframes + 15) / 16 of them; signal_type 0
+ * to 2, offset_type 0 or 1. Whatever the pulses held does not matter. Refusals 1 to 4, and 6 (n); a
+ * refusal leaves the pulses as they are. */
+tg_read tg_decode_pulses(const uint8_t *packet, size_t len, tg_reader r, int16_t *pulses, size_t n, uint32_t khz,
+                         uint32_t subframes, uint32_t signal_type, uint32_t offset_type);
+
+/* The spectrum indices of a frame: index[0] picks a book's vector, the others one residual each. */
+typedef struct {
+    int8_t index[17];
+} tg_spectrum;
+
+typedef struct {
+    uint32_t refusal, moves;
+} tg_moves;
+
+/* The line spectrum of the indices, stabilised: n is 10 at 8 and 12 kHz, 16 at 16 kHz; whatever the
+ * vector held does not matter. moves is 0 to 20. Refusals 4 (a rate, a first index outside 0 to 31,
+ * another outside -10 to 10) and 6 (n); a refusal leaves the vector as it is. */
+tg_moves tg_nlsf_decode(int16_t *vector, size_t n, tg_spectrum indices, uint32_t khz);
+
+/* A vector of n values, 2 to 16, made to keep its m = n + 1 least gaps in 0 to 32,768: at most 20
+ * moves, then the fallback of RFC 6716, section 4.2.7.5.4. Refusals 6 (lengths) and 7 (a gap below 0,
+ * a last gap of 0, more than 32,768 together); a refusal leaves the vector as it is. */
+tg_moves tg_nlsf_stabilise(int16_t *vector, size_t n, const int16_t *gaps, size_t m);
 
 #ifdef __cplusplus
 }

@@ -75,8 +75,10 @@ fn main() {
     let out = PathBuf::from(env::var_os("OUT_DIR").unwrap());
     fs::write(out.join("unopus.rs"), tree.concat()).unwrap();
 
-    let ours = path("TIGNAROPS_LIBS", "../target/staticlib".into()).join("libtable_entries.a");
-    link(&ours, "table_entries");
+    let ours = path("TIGNAROPS_LIBS", "../target/staticlib".into());
+    for name in ["table_entries", "tignarops"] {
+        link(&ours.join(format!("lib{name}.a")), name);
+    }
 
     println!("cargo:rustc-check-cfg=cfg(libopus)");
     let libopus = beside_the_c_library("libopus.a");

@@ -1,86 +1,111 @@
-//! Holds our tables to the crate's and to libopus's: one line for each comparison that came out
-//! equal, or the first difference and status 1.
+//! Holds our calls and tables to the crate's and to libopus's: a line for each comparison that came
+//! out equal, or the first difference and status 1.
+//!
+//! ORACLE_SEED picks the calls at random. `record` writes the recorded answers anew;
+//! `overflow`, built with overflow checks, holds that no accepted call overflows in the crate.
 
-use oracle::ours::{table_entry, END, TABLES};
-use oracle::row::{compare, Row};
-use oracle::unopus;
+use oracle::hold::Plans;
+use oracle::reader::Reading;
+use oracle::record::{self, Recorded};
+use oracle::writer::Writing;
+use oracle::{hold, tables};
+use std::path::{Path, PathBuf};
 use std::process::ExitCode;
-
-/// How many of the tables, the last ones, are no inverse rows.
-const BOOK_TABLES: usize = 10;
+use std::{env, fs};
 
 fn main() -> ExitCode {
-    match run() {
+    let words: Vec<String> = env::args().skip(1).collect();
+    let outcome = match words.iter().map(String::as_str).collect::<Vec<_>>()[..] {
+        [] => compare(),
+        ["overflow"] => overflow(),
+        ["record"] => write_record::<Reading>().and_then(|()| write_record::<Writing>()),
+        _ => Err("usage: oracle [overflow | record]".to_string()),
+    };
+    match outcome {
         Ok(()) => ExitCode::SUCCESS,
-        Err(difference) => {
-            println!("tables: {difference}");
+        Err(message) => {
+            println!("{message}");
             ExitCode::FAILURE
         }
     }
 }
 
-fn run() -> Result<(), String> {
-    let names = hold("the crate or nlsf-codebooks.txt", unopus::rows)?;
-    let of_books = names.iter().filter(|name| name.starts_with(unopus::BOOKS));
-    let of_books = of_books.count();
-    println!(
-        "tables: {} inverse rows equal the crate's",
-        names.len() - of_books
-    );
-    println!(
-        "tables: {} inverse rows and {BOOK_TABLES} tables of the spectrum books equal {}",
-        of_books - BOOK_TABLES,
-        unopus::BOOKS
-    );
-    against_libopus()?;
-    ends()
+fn compare() -> Result<(), String> {
+    let seed = seed()?;
+    tables::hold_all().map_err(|e| format!("tables: {e}"))?;
+    println!("calls: seed {seed}");
+    calls::<Reading>(seed)?;
+    calls::<Writing>(seed)?;
+    read_record::<Reading>()?;
+    read_record::<Writing>()
 }
 
-#[cfg(libopus)]
-fn against_libopus() -> Result<(), String> {
-    use oracle::libopus;
-    let names = hold("libopus", libopus::rows)?;
-    println!(
-        "tables: {} inverse rows and {BOOK_TABLES} tables of the spectrum books equal libopus's",
-        names.len() - BOOK_TABLES
-    );
-    let steps = unopus::steps();
-    let step = |place| steps[0].1.get(place).copied().unwrap_or(END);
-    compare(step, &libopus::steps()).map_err(|at| format!("DIFFER from libopus: steps, {at}"))?;
-    println!("books: the steps that the crate's files are given equal libopus's");
-    Ok(())
+fn calls<K: Plans>(seed: u64) -> Result<(), String> {
+    hold::to_the_crate::<K>(seed).map_err(|e| format!("{}: {e}", K::NAME))?;
+    hold::to_libopus::<K>(seed).map_err(|e| format!("{}, libopus: {e}", K::NAME))
 }
 
-#[cfg(not(libopus))]
-fn against_libopus() -> Result<(), String> {
-    println!("tables: no libopus.a; comparison with libopus left out");
-    Ok(())
-}
-
-/// Holds each table of ours to the rows of a source, and answers the names of those rows.
-fn hold(source: &str, rows: fn(u32) -> Vec<Row>) -> Result<Vec<String>, String> {
-    let mut names = Vec::new();
-    for table in 0..TABLES {
-        let rows = rows(table);
-        compare(|place| table_entry(table, place), &rows)
-            .map_err(|at| format!("DIFFER from {source}: table {table}, {at}"))?;
-        names.extend(rows.into_iter().map(|(name, _)| name));
+fn overflow() -> Result<(), String> {
+    if !cfg!(debug_assertions) {
+        return Err("overflow: built without overflow checks".to_string());
     }
-    Ok(names)
+    no_overflow::<Reading>()?;
+    no_overflow::<Writing>()
 }
 
-/// That the tables end where the rows do is a part of holding them; here it is the far places.
-fn ends() -> Result<(), String> {
-    let far = (0..TABLES).map(|table| (table, usize::MAX));
-    let unknown = [(TABLES, 0), (u32::MAX, 0)];
-    for (table, place) in far.chain(unknown) {
-        let entry = table_entry(table, place);
-        if entry != END {
-            return Err(format!(
-                "NOT ENDED: table {table}, place {place} has {entry}, not {END}"
-            ));
+fn no_overflow<K: Plans>() -> Result<(), String> {
+    let calls = hold::in_short::<K>(seed()?).map_err(|e| format!("overflow: {e}"))?;
+    println!(
+        "overflow: of {calls} calls of the {}, built with overflow checks, none overflows in the crate",
+        K::NAME
+    );
+    Ok(())
+}
+
+fn seed() -> Result<u64, String> {
+    match env::var("ORACLE_SEED") {
+        Ok(seed) => seed.parse().map_err(|e| format!("ORACLE_SEED: {e}")),
+        Err(_) => Ok(1),
+    }
+}
+
+// ---- the recorded answers
+
+fn folder<K: Recorded>() -> PathBuf {
+    let crates = Path::new(env!("CARGO_MANIFEST_DIR")).join("../crates");
+    crates.join(K::FOLDER)
+}
+
+fn write_record<K: Recorded>() -> Result<(), String> {
+    let files = record::files::<K>()?;
+    let write = |name, bytes: &[u8]| {
+        fs::write(folder::<K>().join(name), bytes)
+            .map_err(|e| format!("record: {}/{name}: {e}", K::FOLDER))
+    };
+    write("stdin", &files.stdin)?;
+    write("stdout", files.stdout.as_bytes())
+}
+
+/// That the files in the tree are what the crate answers today.
+fn read_record<K: Recorded>() -> Result<(), String> {
+    let files = record::files::<K>().map_err(|e| format!("record: {}: {e}", K::FOLDER))?;
+    let same = |name: &str, bytes: &[u8]| match fs::read(folder::<K>().join(name)) {
+        Ok(found) if found == bytes => Ok(()),
+        Ok(found) => {
+            let place = found.iter().zip(bytes).take_while(|(a, b)| a == b).count();
+            Err(format!(
+                "record: {}/{name} DIFFERS from what is recorded today, from byte {place} on",
+                K::FOLDER
+            ))
         }
-    }
-    println!("tables: each of {TABLES} ends where it should, and table {TABLES} is unknown");
+        Err(e) => Err(format!("record: {}/{name}: {e}", K::FOLDER)),
+    };
+    same("stdin", &files.stdin)?;
+    same("stdout", files.stdout.as_bytes())?;
+    let all = files.stdout.lines().last().unwrap_or_default();
+    println!(
+        "record: crates/{} has the crate's answers of today: {all}",
+        K::FOLDER
+    );
     Ok(())
 }

@@ -1,5 +1,9 @@
 //! The exported calls of our proved libraries.
 
+use crate::compare::Answer;
+use crate::models::Model;
+use crate::state::{Reader, Writer};
+
 /// What a table answers past its end, and what an unknown table answers everywhere.
 pub const END: u32 = 65536;
 
@@ -7,12 +11,98 @@ pub const END: u32 = 65536;
 pub const TABLES: u32 = 13;
 
 mod raw {
+    use super::{Answer, Reader, Writer};
+    type Read = Answer<Reader>;
+    type Written = Answer<Writer>;
+
     extern "C" {
         pub fn tg_table_entry(table: u32, place: usize) -> u32;
+
+        // include/tignarops.h
+        pub fn tg_dec_open(packet: *const u8, len: usize) -> Read;
+        pub fn tg_dec_account(packet: *const u8, len: usize, r: Reader) -> Read;
+        pub fn tg_dec_bit(packet: *const u8, len: usize, r: Reader, exponent: u32) -> Read;
+        pub fn tg_dec_icdf(
+            packet: *const u8,
+            len: usize,
+            r: Reader,
+            table: *const u8,
+            n: usize,
+            scale: u32,
+        ) -> Read;
+        pub fn tg_dec_uint(packet: *const u8, len: usize, r: Reader, total: u32) -> Read;
+        pub fn tg_dec_bits(packet: *const u8, len: usize, r: Reader, bits: u32) -> Read;
+
+        pub fn tg_enc_open(buf: *const u8, len: usize) -> Written;
+        pub fn tg_enc_account(buf: *const u8, len: usize, w: Writer) -> Written;
+        pub fn tg_enc_bit(buf: *mut u8, len: usize, w: Writer, value: u32, exp: u32) -> Written;
+        pub fn tg_enc_icdf(
+            buf: *mut u8,
+            len: usize,
+            w: Writer,
+            symbol: u32,
+            table: *const u8,
+            n: usize,
+            scale: u32,
+        ) -> Written;
+        pub fn tg_enc_uint(buf: *mut u8, len: usize, w: Writer, value: u32, total: u32) -> Written;
+        pub fn tg_enc_bits(buf: *mut u8, len: usize, w: Writer, value: u32, bits: u32) -> Written;
+        pub fn tg_enc_done(buf: *mut u8, len: usize, w: Writer) -> Written;
     }
 }
 
 pub fn table_entry(table: u32, place: usize) -> u32 {
     // SAFETY: numbers in, a number out, and it is defined for all of them.
     unsafe { raw::tg_table_entry(table, place) }
+}
+
+// SAFETY of the coder's calls: each pointer comes with its slice's length, a table is no part of the
+// bytes that are lent for writing, and the calls are defined for all numbers, states and bytes.
+
+pub fn dec_open(packet: &[u8]) -> Answer<Reader> {
+    unsafe { raw::tg_dec_open(packet.as_ptr(), packet.len()) }
+}
+
+pub fn dec_account(packet: &[u8], r: Reader) -> Answer<Reader> {
+    unsafe { raw::tg_dec_account(packet.as_ptr(), packet.len(), r) }
+}
+
+pub fn dec(packet: &[u8], r: Reader, model: Model) -> Answer<Reader> {
+    let (bytes, len) = (packet.as_ptr(), packet.len());
+    unsafe {
+        match model {
+            Model::Bit(exponent) => raw::tg_dec_bit(bytes, len, r, exponent),
+            Model::Table(table, scale) => {
+                raw::tg_dec_icdf(bytes, len, r, table.as_ptr(), table.len(), scale)
+            }
+            Model::Number(total) => raw::tg_dec_uint(bytes, len, r, total),
+            Model::Bits(bits) => raw::tg_dec_bits(bytes, len, r, bits),
+        }
+    }
+}
+
+pub fn enc_open(buffer: &[u8]) -> Answer<Writer> {
+    unsafe { raw::tg_enc_open(buffer.as_ptr(), buffer.len()) }
+}
+
+pub fn enc_account(buffer: &[u8], w: Writer) -> Answer<Writer> {
+    unsafe { raw::tg_enc_account(buffer.as_ptr(), buffer.len(), w) }
+}
+
+pub fn enc(buffer: &mut [u8], w: Writer, model: Model, value: u32) -> Answer<Writer> {
+    let (bytes, len) = (buffer.as_mut_ptr(), buffer.len());
+    unsafe {
+        match model {
+            Model::Bit(exponent) => raw::tg_enc_bit(bytes, len, w, value, exponent),
+            Model::Table(table, scale) => {
+                raw::tg_enc_icdf(bytes, len, w, value, table.as_ptr(), table.len(), scale)
+            }
+            Model::Number(total) => raw::tg_enc_uint(bytes, len, w, value, total),
+            Model::Bits(bits) => raw::tg_enc_bits(bytes, len, w, value, bits),
+        }
+    }
+}
+
+pub fn enc_done(buffer: &mut [u8], w: Writer) -> Answer<Writer> {
+    unsafe { raw::tg_enc_done(buffer.as_mut_ptr(), buffer.len(), w) }
 }

@@ -35,6 +35,13 @@ pub fn rows(table: u32) -> Vec<Row> {
     }
 }
 
+/// The entries of every inverse row.
+pub fn inverse_rows() -> Vec<Vec<u8>> {
+    let rows = (0..3).flat_map(rows).map(|(_, entries)| entries);
+    rows.map(|entries| entries.iter().map(|&entry| entry as u8).collect())
+        .collect()
+}
+
 fn index_rows() -> Vec<Row> {
     [
         one!(silk_type_offset_no_VAD_iCDF),

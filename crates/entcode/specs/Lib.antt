@@ -21,3 +21,13 @@ pub mod ReadLaws
 pub mod ReadingLaws
 pub mod GeneralForm
 pub mod ReaderCases
+pub mod WriterSteps
+pub mod WriterFacts
+pub mod FlatLaws
+pub mod CoreLaws
+pub mod WritingLaws
+pub mod FinishLaws
+pub mod ErrorLaws
+pub mod SoundLaws
+pub mod StoredLaws
+pub mod WriterCases

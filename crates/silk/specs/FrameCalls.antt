@@ -25,9 +25,11 @@ khzOk khz = eqb khz 8 || (eqb khz 12 || eqb khz 16)
 abbrev pub subframesOk : ℕ → Bool
 subframesOk subframes = eqb subframes 2 || eqb subframes 4
 
-unfoldable pub settingOk : Setting → Bool
-settingOk s =
-    khzOk (s .khz) && (subframesOk (s .subframes) && (leb (s .active) 1 && (leb (s .mode) 2 && leb (s .prevtype) 2)))
+unfoldable pub numbersOk : ℕ → ℕ → ℕ → ℕ → ℕ → Bool
+numbersOk khz subframes active mode prevtype = khzOk khz && (subframesOk subframes && (leb active 1 && (leb mode 2 && leb prevtype 2)))
+
+abbrev pub settingOk : Setting → Bool
+settingOk s = numbersOk (s .khz) (s .subframes) (s .active) (s .mode) (s .prevtype)
 
 -- blocks of 16 in a frame of 5 x kHz x subframes places: 5, 8, 10, 15, 20
 abbrev pub blocksOf : ℕ → ℕ → ℕ
@@ -39,14 +41,14 @@ blocksOf khz subframes = (5 * khz * subframes + 15) / 16
 unfoldable pub nextLag : ℤ → Indices → ℤ
 nextLag before x = cond (eqb (natAbs (x .signal)) 2) (x .lag) before
 
-abbrev pub indicesGot : Setting → Got Indices → IndicesRead
-indicesGot s g =
+abbrev pub indicesGot : ℤ → Got Indices → IndicesRead
+indicesGot before g =
     record {
       refusal = 0;
       state = g .state;
       indices = g .value;
       prevtype = natAbs (g .value .signal);
-      prevlag = nextLag (s .prevlag) (g .value);
+      prevlag = nextLag before (g .value);
     }
 
 -- record, previous type and lag as they came
@@ -57,7 +59,7 @@ abbrev pub indicesRule : List ℕ → Dec → Setting → ℕ
 indicesRule b d s = firstOf (gateR b d) (cond (settingOk s) 0 4)
 
 unfoldable pub decodeIndices : List ℕ → Dec → Indices → Setting → IndicesRead
-decodeIndices b d x s = cond (eqb (indicesRule b d s) 0) (indicesGot s (run b d (indices s x))) (indicesKept (indicesRule b d s) d x s)
+decodeIndices b d x s = cond (eqb (indicesRule b d s) 0) (indicesGot (s .prevlag) (run b d (indices s x))) (indicesKept (indicesRule b d s) d x s)
 
 -- ---- pulses
 

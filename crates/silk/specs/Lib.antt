@@ -1,5 +1,9 @@
 pub mod Record
 pub mod IndexSyntax
+pub mod IndexRows
+pub mod IndexSteps
+pub mod IndexParts
+pub mod IndexRanges
 pub mod PulseSyntax
 pub mod PulseSteps
 pub mod PulsePlaces
@@ -8,6 +12,9 @@ pub mod PulseBlocks
 pub mod PulseLaws
 pub mod PulseRounds
 pub mod FrameCalls
+pub mod IndexCalls
+pub mod IndexCases
+pub mod IndexWriting
 pub mod PulseCallLaws
 pub mod PulseWriting
 pub mod PulseWritten

@@ -1,5 +1,6 @@
 -- The side-index record with some fields changed, and a frame's setting. No other place spells a record out. Assumes nothing.
 use Prim.Native.Nat.{ℕ, _/_, _%_}
+use mathlib.Core.List.{List}
 use lib.IntN.{ℤ, pos}
 use lib.ListN.{set}
 use Rattle.silk.specs.declared.Indices.{Indices}
@@ -12,6 +13,10 @@ pub record Setting : Type 0 where
   pub mode : ℕ
   pub prevtype : ℕ
   pub prevlag : ℤ
+
+abbrev pub settingOf : ℕ → ℕ → ℕ → ℕ → ℕ → ℤ → Setting
+settingOf khz subframes active mode prevtype prevlag =
+    record { khz = khz; subframes = subframes; active = active; mode = mode; prevtype = prevtype; prevlag = prevlag }
 
 -- signal and offset type, as one number
 abbrev pub withKind : Indices → ℕ → Indices
@@ -175,4 +180,54 @@ withSeed x v =
       period = x .period;
       scale = x .scale;
       seed = pos v;
+    }
+
+-- ---- whole arrays
+
+abbrev pub withGains : Indices → List ℤ → Indices
+withGains x l =
+    record {
+      gains = l;
+      ltp = x .ltp;
+      nlsf = x .nlsf;
+      lag = x .lag;
+      contour = x .contour;
+      signal = x .signal;
+      offset = x .offset;
+      interp = x .interp;
+      period = x .period;
+      scale = x .scale;
+      seed = x .seed;
+    }
+
+abbrev pub withNlsfs : Indices → List ℤ → Indices
+withNlsfs x l =
+    record {
+      gains = x .gains;
+      ltp = x .ltp;
+      nlsf = l;
+      lag = x .lag;
+      contour = x .contour;
+      signal = x .signal;
+      offset = x .offset;
+      interp = x .interp;
+      period = x .period;
+      scale = x .scale;
+      seed = x .seed;
+    }
+
+abbrev pub withFilters : Indices → List ℤ → Indices
+withFilters x l =
+    record {
+      gains = x .gains;
+      ltp = l;
+      nlsf = x .nlsf;
+      lag = x .lag;
+      contour = x .contour;
+      signal = x .signal;
+      offset = x .offset;
+      interp = x .interp;
+      period = x .period;
+      scale = x .scale;
+      seed = x .seed;
     }

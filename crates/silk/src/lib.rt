@@ -19,6 +19,12 @@ pub struct Indices {
     pub seed: i8,
 }
 
+// A record with some of its fields read, and the reader behind them.
+pub struct IndicesPart {
+    pub indices: Indices,
+    pub state: Dec,
+}
+
 // What reading side indices answers.
 #[repr(C)]
 pub struct IndicesRead {

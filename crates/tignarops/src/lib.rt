@@ -2,8 +2,19 @@
 ghost use mathlib.Core.Path.{_≡_};
 ghost use Rattle.entcode.specs.Models.{bit, raw, num, tab};
 ghost use Rattle.entcode.specs.Reading.{decSym, decTell, decOpen};
+ghost use Rattle.entcode.specs.Flat.{out};
+ghost use Rattle.entcode.specs.Writing.{sent, encSym, encTell, encDone, encOpen};
+ghost use Rattle.silk.specs.Record.{settingOf};
+ghost use Rattle.silk.specs.FrameCalls.{decodeIndices, pulsed, decodePulses};
+ghost use Rattle.spectrum.specs.Calls.{stabiliseCall, decodeCall};
 use entcode::Dec;
 use entcode::Decoded;
+use entcode::Enc;
+use entcode::Encoded;
+use silk::Indices;
+use silk::IndicesRead;
+use spectrum::Moves;
+use spectrum::Spectrum;
 
 // ---- the reader
 
@@ -47,4 +58,123 @@ pub extern "C" fn tg_dec_bits(packet: &[u8], r: Dec, bits: u32) -> Decoded
     ensures { λ a. ⌜ a ≡ decSym (now (packet .entry)) r (raw bits) ⌝ }
 {
     entdec::ec_dec_bits(packet, r, bits)
+}
+
+// ---- the writer
+
+#[no_mangle]
+pub extern "C" fn tg_enc_open(buf: &[u8]) -> Encoded
+    ensures { λ a. ⌜ sent (now (buf .entry)) a ≡ encOpen (now (buf .entry)) ⌝ }
+{
+    entenc::ec_enc_init(buf)
+}
+
+#[no_mangle]
+pub extern "C" fn tg_enc_account(buf: &[u8], w: Enc) -> Encoded
+    ensures { λ a. ⌜ sent (now (buf .entry)) a ≡ encTell (out (now (buf .entry)) w) ⌝ }
+{
+    entenc::ec_tell(buf, w)
+}
+
+#[no_mangle]
+pub extern "C" fn tg_enc_bit(buf: &mut [u8], w: Enc, value: u32, exponent: u32) -> Encoded
+    ensures { λ a. ⌜ sent (now (buf .exit)) a ≡ encSym (out (now (buf .entry)) w) (record { model = bit exponent; value = value }) ⌝ }
+{
+    entenc::ec_enc_bit_logp(buf, w, value, exponent)
+}
+
+#[no_mangle]
+pub extern "C" fn tg_enc_icdf(
+    buf: &mut [u8],
+    w: Enc,
+    symbol: u32,
+    table: &[u8],
+    scale: u32,
+) -> Encoded
+    ensures { λ a. ⌜ sent (now (buf .exit)) a ≡ encSym (out (now (buf .entry)) w) (record { model = tab scale (now (table .entry)); value = symbol }) ⌝ }
+{
+    entenc::ec_enc_icdf(buf, w, symbol, table, scale)
+}
+
+#[no_mangle]
+pub extern "C" fn tg_enc_uint(buf: &mut [u8], w: Enc, value: u32, total: u32) -> Encoded
+    ensures { λ a. ⌜ sent (now (buf .exit)) a ≡ encSym (out (now (buf .entry)) w) (record { model = num total; value = value }) ⌝ }
+{
+    entenc::ec_enc_uint(buf, w, value, total)
+}
+
+#[no_mangle]
+pub extern "C" fn tg_enc_bits(buf: &mut [u8], w: Enc, value: u32, bits: u32) -> Encoded
+    ensures { λ a. ⌜ sent (now (buf .exit)) a ≡ encSym (out (now (buf .entry)) w) (record { model = raw bits; value = value }) ⌝ }
+{
+    entenc::ec_enc_bits(buf, w, value, bits)
+}
+
+#[no_mangle]
+pub extern "C" fn tg_enc_done(buf: &mut [u8], w: Enc) -> Encoded
+    ensures { λ a. ⌜ sent (now (buf .exit)) a ≡ encDone (out (now (buf .entry)) w) ⌝ }
+{
+    entenc::ec_enc_done(buf, w)
+}
+
+// ---- side indices
+
+#[no_mangle]
+pub extern "C" fn tg_decode_indices(
+    packet: &[u8],
+    r: Dec,
+    record: Indices,
+    khz: u32,
+    subframes: u32,
+    active: u32,
+    mode: u32,
+    prevtype: u32,
+    prevlag: i16,
+) -> IndicesRead
+    ensures { λ a. ⌜ a ≡ decodeIndices (now (packet .entry)) r «record» (settingOf khz subframes active mode prevtype prevlag) ⌝ }
+{
+    decode_indices::silk_decode_indices(
+        packet,
+        r,
+        record,
+        khz,
+        subframes,
+        active,
+        mode,
+        prevtype,
+        prevlag,
+    )
+}
+
+// ---- pulses
+
+#[no_mangle]
+pub extern "C" fn tg_decode_pulses(
+    packet: &[u8],
+    r: Dec,
+    pulses: &mut [i16],
+    khz: u32,
+    subframes: u32,
+    signal: u32,
+    offset: u32,
+) -> Decoded
+    ensures { λ a. ⌜ pulsed (now (pulses .exit)) a ≡ decodePulses (now (packet .entry)) r (now (pulses .entry)) khz subframes signal offset ⌝ }
+{
+    decode_pulses::silk_decode_pulses(packet, r, pulses, khz, subframes, signal, offset)
+}
+
+// ---- line spectra
+
+#[no_mangle]
+pub extern "C" fn tg_nlsf_decode(vector: &mut [i16], indices: Spectrum, khz: u32) -> Moves
+    ensures { λ a. ⌜ record { vector = now (vector .exit); answer = a } ≡ decodeCall (now (vector .entry)) indices khz ⌝ }
+{
+    nlsf_decode::silk_NLSF_decode(vector, indices, khz)
+}
+
+#[no_mangle]
+pub extern "C" fn tg_nlsf_stabilise(vector: &mut [i16], gaps: &[i16]) -> Moves
+    ensures { λ a. ⌜ record { vector = now (vector .exit); answer = a } ≡ stabiliseCall (now (vector .entry)) (now (gaps .entry)) ⌝ }
+{
+    nlsf_stabilize::silk_NLSF_stabilize(vector, gaps)
 }

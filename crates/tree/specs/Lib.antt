@@ -1,5 +1,7 @@
+pub mod Always
 pub mod Asks
 pub mod AsksLaws
+pub mod Outcomes
+pub mod Telling
 pub mod Ran
-pub mod Always
 pub mod Through

@@ -1,0 +1,181 @@
+// The call that reads a frame's side indices (document 01; RFC 6716, section 4.2.7), as the crate's decode_indices.rs: it tests packet, state and
+// numbers once, and hands the record in and out by value.
+ghost use mathlib.Core.Path.{_≡_};
+ghost use mathlib.Core.Bool.{cond};
+ghost use Prim.Native.Nat.{_^_, _<_};
+ghost use Rattle.tree.specs.Asks.{got};
+ghost use Rattle.tree.specs.Ran.{Ran};
+ghost use Rattle.silk.specs.Record.{settingOf};
+ghost use Rattle.silk.specs.IndexRows.{Reading, Rate, Subframes};
+ghost use Rattle.silk.specs.IndexSyntax.{voicing, indices};
+ghost use Rattle.silk.specs.IndexParts.{Upto};
+ghost use Rattle.silk.specs.FrameCalls.{numbersOk, indicesGot, decodeIndices};
+use entcode::Dec;
+use index_gains::gains_run;
+use index_gains::interpolation_run;
+use index_gains::kind_run;
+use index_gains::seed_run;
+use index_pitch::pitch_run;
+use index_spectrum::spectrum_run;
+use silk::Indices;
+use silk::IndicesPart;
+use silk::IndicesRead;
+use tables::rows::index_rows;
+
+// ---- refusals
+
+// kHz 8, 12 or 16; 2 or 4 subframes; active 0 or 1; mode and previous type 0 to 2.
+fn numbers_ok(khz: u32, subframes: u32, active: u32, mode: u32, prevtype: u32) -> bool
+    ensures { λ b. ⌜ b ≡ numbersOk khz subframes active mode prevtype ⌝ }
+{
+    ((khz == 8) | ((khz == 12) | (khz == 16)))
+        & (((subframes == 2) | (subframes == 4))
+            & ((active <= 1) & ((mode <= 2) & (prevtype <= 2))))
+}
+
+fn numbers_rule(khz: u32, subframes: u32, active: u32, mode: u32, prevtype: u32) -> u32
+    ensures { λ n. ⌜ n ≡ cond (numbersOk khz subframes active mode prevtype) 0 4 ⌝ }
+{
+    if numbers_ok(khz, subframes, active, mode, prevtype) {
+        0
+    } else {
+        4
+    }
+}
+
+// ---- reading
+
+// The pitch of a voiced frame.
+fn voicing_index(
+    packet: &[u8],
+    d: Dec,
+    rows: &[u8],
+    x: Indices,
+    signal: u32,
+    relative: bool,
+    khz: u32,
+    subframes: u32,
+    mode: u32,
+    before: i16,
+) -> IndicesPart
+    requires { ⌜ Reading (now packet) d (now rows) (2 ^ 27) ⌝ }
+    requires { ⌜ Rate khz × Subframes subframes ⌝ }
+    ensures { λ a. ⌜ Ran (now (packet .entry)) d (voicing signal relative khz subframes mode before x) 160 (a .indices) (a .state) ⌝ }
+{
+    if signal == 2 {
+        return pitch_run(packet, d, rows, x, relative, khz, subframes, mode, before);
+    }
+    IndicesPart {
+        indices: x,
+        state: d,
+    }
+}
+
+// All of them, in order.
+fn all_indices(
+    packet: &[u8],
+    d: Dec,
+    rows: &[u8],
+    x: Indices,
+    khz: u32,
+    subframes: u32,
+    active: u32,
+    mode: u32,
+    prevtype: u32,
+    prevlag: i16,
+) -> IndicesPart
+    requires { ⌜ Reading (now packet) d (now rows) (2 ^ 26) ⌝ }
+    requires { ⌜ Rate khz × Subframes subframes × (active < 2) ⌝ }
+    ensures { λ a. ⌜ Ran (now (packet .entry)) d (indices (settingOf khz subframes active mode prevtype prevlag) x) 816 (a .indices) (a .state) ⌝ }
+{
+    let k = kind_run(packet, d, rows, active);
+    let signal = k.value / 2;
+    let mut out = x;
+    out.signal = signal as i8;
+    out.offset = (k.value % 2) as i8;
+    let g = gains_run(packet, k.state, rows, out, mode, subframes, signal);
+    let q = spectrum_run(packet, g.state, rows, g.indices, khz, signal);
+    let i = interpolation_run(packet, q.state, rows, q.indices, subframes);
+    let relative = (mode == 2) & (prevtype == 2);
+    let v = voicing_index(
+        packet,
+        i.state,
+        rows,
+        i.indices,
+        signal,
+        relative,
+        khz,
+        subframes,
+        mode,
+        prevlag,
+    );
+    seed_run(packet, v.state, rows, v.indices)
+}
+
+// ---- the call
+
+// The previous type is this frame's, the previous lag that of a voiced frame alone.
+fn accepted(state: Dec, x: Indices, before: i16) -> IndicesRead
+    requires { ⌜ Upto 2 (x .signal) ⌝ }
+    ensures { λ a. ⌜ a ≡ indicesGot before (got x state) ⌝ }
+{
+    let signal = x.signal as u32;
+    let lag = x.lag;
+    if signal == 2 {
+        return IndicesRead {
+            refusal: 0,
+            state,
+            indices: x,
+            prevtype: signal,
+            prevlag: lag,
+        };
+    }
+    IndicesRead {
+        refusal: 0,
+        state,
+        indices: x,
+        prevtype: signal,
+        prevlag: before,
+    }
+}
+
+pub fn silk_decode_indices(
+    packet: &[u8],
+    d: Dec,
+    record: Indices,
+    khz: u32,
+    subframes: u32,
+    active: u32,
+    mode: u32,
+    prevtype: u32,
+    prevlag: i16,
+) -> IndicesRead
+    ensures { λ a. ⌜ a ≡ decodeIndices (now (packet .entry)) d «record» (settingOf khz subframes active mode prevtype prevlag) ⌝ }
+{
+    let rule = numbers_rule(khz, subframes, active, mode, prevtype);
+    let n = refusals::first_refusal(entdec::gate(packet, d), rule);
+    if n == 0 {
+        let rows = index_rows();
+        let a = all_indices(
+            packet,
+            d,
+            &rows,
+            record,
+            khz,
+            subframes,
+            active,
+            mode,
+            prevtype,
+            prevlag,
+        );
+        accepted(a.state, a.indices, prevlag)
+    } else {
+        IndicesRead {
+            refusal: n,
+            state: d,
+            indices: record,
+            prevtype,
+            prevlag,
+        }
+    }
+}

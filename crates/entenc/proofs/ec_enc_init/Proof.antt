@@ -1,0 +1,20 @@
+-- `ec_enc_init` meets its contract: a fresh writer, or a refusal with the all-zero state. Assumes nothing.
+use borrow.Author.Needs.{needs}
+use borrow.Author.Tests.{le-leb, lt-leb}
+use Rattle.entcode.specs.Writing.{encOpen}
+use Rattle.entenc.proofs.ec_enc_init.Statement.{statement}
+use Rattle.entenc.proofs.ec_enc_init.Tie as tie
+
+cast-n : tie.Need-cast-n
+cast-n c = search needs
+
+returns : tie.Need-returns
+unfolding encOpen
+returns c = rw (le-leb _ _ (c .if1 .taken))
+
+returns-2 : tie.Need-returns-2
+unfolding encOpen
+returns-2 c = rw (lt-leb _ _ (c .if1 .left))
+
+pub ec-enc-init-spec : {M : Type 1} → statement M
+ec-enc-init-spec = tie.close (tie.spec cast-n returns returns-2)

@@ -1,0 +1,39 @@
+-- `gate` meets its contract: each return has the tests that led to it. Assumes nothing.
+use borrow.Author.Needs.{needs}
+use mathlib.Core.Path.{_∙_, sym}
+use borrow.Author.Tests.{le-leb, lt-leb}
+use Rattle.entcode.specs.Sound.{gateW}
+use Rattle.entenc.proofs.gate.gate.Statement.{statement}
+use Rattle.entenc.proofs.gate.gate.Tie as tie
+
+sound-requires : tie.Need-sound-requires
+sound-requires c κs = search needs
+
+returns : tie.Need-returns
+unfolding gateW
+returns c =
+    rw (
+      le-leb _ _ (c .before .before .before .before .if1 .taken),
+      sym (c .before .before .before .sound .ensures) ∙ c .before .before .if2 .taken,
+      le-leb _ _ (c .if3 .taken),
+    )
+
+returns-2 : tie.Need-returns-2
+unfolding gateW
+returns-2 c =
+    rw (
+      le-leb _ _ (c .before .before .before .before .if1 .taken),
+      sym (c .before .before .before .sound .ensures) ∙ c .before .before .if2 .taken,
+      lt-leb _ _ (c .if3 .left),
+    )
+
+returns-3 : tie.Need-returns-3
+unfolding gateW
+returns-3 c = rw (le-leb _ _ (c .before .before .if1 .taken), sym (c .before .sound .ensures) ∙ c .if2 .left)
+
+returns-4 : tie.Need-returns-4
+unfolding gateW
+returns-4 c = rw (lt-leb _ _ (c .if1 .left))
+
+pub gate-spec : {M : Type 1} → statement M
+gate-spec = tie.close (tie.spec sound-requires returns returns-2 returns-3 returns-4)

@@ -1,0 +1,19 @@
+-- `signs_ok` meets its contract: the two signed fields are read as they are. Assumes nothing.
+use borrow.Author.Needs.{needs}
+use mir.Syntax.{w32}
+use mir.Val.{SFits}
+use mir.Facts.{toZ-ofZ}
+use Rattle.entenc.proofs.gate.signs_ok.Statement.{statement}
+use Rattle.entenc.proofs.gate.signs_ok.Tie as tie
+
+rem-fits : (c : tie.Start) → SFits w32 (c .args .w .rem)
+rem-fits c = search needs
+
+error-fits : (c : tie.Start) → SFits w32 (c .args .w .error)
+error-fits c = search needs
+
+returns : tie.Need-returns
+returns c = let b = c .before .before .before .before .before .before .before .before in rw (toZ-ofZ (rem-fits b), toZ-ofZ (error-fits b))
+
+pub signs-ok-spec : {M : Type 1} → statement M
+signs-ok-spec = tie.close (tie.spec returns)

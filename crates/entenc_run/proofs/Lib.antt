@@ -1,0 +1,5 @@
+pub mod Placing
+pub mod Digits
+pub mod Window
+pub mod Parts
+pub mod Finishing

@@ -1,0 +1,121 @@
+// The writer of the range coder (RFC 6716, section 5.1): a state by value beside the buffer. The calls here ask for a state that a write may begin
+// with and test nothing again; each hands on what the next one asks. The calls that test are in the room `entenc`. Names as in the crate's entenc.rs;
+// its ec_write_byte is `put_byte`, its ec_write_byte_at_end `put_back`, its ec_enc_carry_out `carry_out`, its ec_enc_normalize `normalize`.
+ghost use mathlib.Core.Path.{_≡_};
+ghost use Prim.Native.Nat.{suc, _^_, _<_, _≤_};
+ghost use Rattle.icdf.specs.Rule.{Icdf, Writable};
+ghost use Rattle.entcode.specs.Models.{bit, raw, num, tab};
+ghost use Rattle.entcode.specs.Cuts.{upper, lower};
+ghost use Rattle.entcode.specs.Flat.{out};
+ghost use Rattle.entcode.specs.WriterFacts.{Core, Stepped, Wrote};
+ghost use Rattle.entcode.specs.WriterSteps.{cut};
+ghost use Rattle.entcode.specs.Writing.{finished};
+use crate::finish::close;
+use crate::finish::end_bits;
+use crate::finish::put_digits;
+use crate::finish::round_up;
+use crate::front::keep;
+use crate::tail::append;
+use crate::tail::flush_all;
+use entcode::Enc;
+
+mod room; // room.rt: bytes to the buffer's two ends
+mod front; // front.rt: cuts of the range, and digits
+mod tail; // tail.rt: raw bits
+mod finish; // finish.rt: the end of the coded part and of the raw bits
+
+// A bit that is 1 with probability 1 / 2^lp.
+pub fn ec_enc_bit_logp_run(buf: &mut [u8], w: Enc, v: u32, lp: u32) -> Enc
+    requires { ⌜ Core (out (now buf) w) ⌝ }
+    requires { ⌜ w .total ≤ 2 ^ 30 ⌝ }
+    requires { ⌜ (1 ≤ lp) × (lp ≤ 15) × (v ≤ 1) ⌝ }
+    ensures { λ r. ⌜ Wrote (out (now (buf .entry)) w) (record { model = bit lp; value = v }) (out (now (buf .exit)) r) ⌝ }
+{
+    let part = w.rng >> lp;
+    if v == 0 {
+        keep(buf, w, w.rng, part)
+    } else {
+        keep(buf, w, part, 0)
+    }
+}
+
+// Symbol k of an inverse table.
+pub fn ec_enc_icdf_run(buf: &mut [u8], w: Enc, k: u32, table: &[u8], scale: u32) -> Enc
+    requires { ⌜ Core (out (now buf) w) ⌝ }
+    requires { ⌜ w .total ≤ 2 ^ 30 ⌝ }
+    requires { ⌜ Icdf scale (now table) × Writable scale (now table) k ⌝ }
+    ensures { λ r. ⌜ Wrote (out (now (buf .entry)) w) (record { model = tab scale (now (table .entry)); value = k }) (out (now (buf .exit)) r) ⌝ }
+{
+    let unit = w.rng >> scale;
+    let i = k as usize;
+    let low = unit * (table[i] as u32);
+    if k == 0 {
+        keep(buf, w, w.rng, low)
+    } else {
+        let j = i - 1;
+        let top = unit * (table[j] as u32);
+        keep(buf, w, top, low)
+    }
+}
+
+// n raw bits.
+pub fn ec_enc_bits_run(buf: &mut [u8], w: Enc, v: u32, n: u32) -> Enc
+    requires { ⌜ Core (out (now buf) w) ⌝ }
+    requires { ⌜ w .total ≤ 2 ^ 30 ⌝ }
+    requires { ⌜ (1 ≤ n) × (n ≤ 25) × (v < 2 ^ n) ⌝ }
+    ensures { λ r. ⌜ Wrote (out (now (buf .entry)) w) (record { model = raw n; value = v }) (out (now (buf .exit)) r) ⌝ }
+{
+    append(buf, w, v, n)
+}
+
+// Part c of ft equal parts of the range, counted from its bottom.
+fn keep_part(buf: &mut [u8], w: Enc, c: u32, ft: u32) -> Enc
+    requires { ⌜ Core (out (now buf) w) ⌝ }
+    requires { ⌜ w .total ≤ 2 ^ 30 ⌝ }
+    requires { ⌜ (c < ft) × (ft ≤ 256) ⌝ }
+    ensures { λ r. ⌜ Stepped 16 (out (now (buf .entry)) w) (cut (out (now (buf .entry)) w) (upper (w .rng) c ft) (lower (w .rng) (suc c) ft)) (out (now (buf .exit)) r) ⌝ }
+{
+    let unit = w.rng / ft;
+    let rest = ft - c;
+    let low = unit * (rest - 1);
+    if c == 0 {
+        keep(buf, w, w.rng, low)
+    } else {
+        keep(buf, w, unit * rest, low)
+    }
+}
+
+// A number below ft: one of at most 256 equal parts, and the bits below the first eight raw.
+pub fn ec_enc_uint_run(buf: &mut [u8], w: Enc, v: u32, ft: u32) -> Enc
+    requires { ⌜ Core (out (now buf) w) ⌝ }
+    requires { ⌜ w .total ≤ 2 ^ 30 ⌝ }
+    requires { ⌜ (2 ≤ ft) × (v < ft) ⌝ }
+    ensures { λ r. ⌜ Wrote (out (now (buf .entry)) w) (record { model = num ft; value = v }) (out (now (buf .exit)) r) ⌝ }
+{
+    let last = ft - 1;
+    let digits = bitlen::ec_ilog(last);
+    if 8 < digits {
+        let n = digits - 8;
+        let parts = (last >> n) + 1;
+        let q = keep_part(buf, w, v >> n, parts);
+        append(buf, q, v % (1u32 << n), n)
+    } else {
+        keep_part(buf, w, v, ft)
+    }
+}
+
+// Finishing: the coded part, the window's bytes, and the bits left over. The window stays in the state as it was.
+pub fn ec_enc_done_run(buf: &mut [u8], w: Enc) -> Enc
+    requires { ⌜ Core (out (now buf) w) ⌝ }
+    ensures { λ r. ⌜ out (now (buf .exit)) r ≡ finished (out (now (buf .entry)) w) ⌝ }
+{
+    let bits = end_bits(w.rng, w.val);
+    let end = round_up(w.val, 31 - bits);
+    let digits = (bits + 7) / 8;
+    let a = put_digits(buf, w, end, digits);
+    let b = flush_all(buf, a);
+    let mut q = close(buf, b, 8 * digits - bits);
+    q.window = w.window;
+    q.wbits = w.wbits;
+    q
+}

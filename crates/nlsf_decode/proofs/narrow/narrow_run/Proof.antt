@@ -1,0 +1,117 @@
+-- `narrow_run` meets its contract. Assumes nothing.
+use Prim.Native.Nat.{ℕ}
+use mathlib.Core.Path.{refl, sym, ap₂, subst⁻¹, _∙_}
+use mathlib.Core.List.{List, [], _∷_}
+use borrow.Author.Needs.{needs}
+use lib.IntN.{ℤ}
+use Rattle.sheet.specs.Books.{narrowBook, narrow-shaped}
+use Rattle.spectrum.proofs.BookLaws.{narrow-usable}
+use Rattle.nlsf_stabilize.specs.Asked.{MoveOk}
+use Rattle.nlsf_places.specs.Asked.{Rows, rows}
+use Rattle.nlsf_decode.proofs.RowLaws.{RowsOf, both-lists, stabilised-by, places-ok, book-moves}
+use Rattle.nlsf_decode.specs.Asked.{Indexed}
+use Rattle.nlsf_decode.proofs.narrow.narrow_run.Statement.{statement}
+use Rattle.nlsf_decode.proofs.narrow.narrow_run.Tie as tie
+
+-- the rows that are lent, and that they are the book's
+abbrev lent : tie.After-predictors2 → Rows
+lent d =
+    rows 11796 (d .before .before .selectors .result) (d .before .predictors .result) (d .predictors2 .result)
+    (d .before .before .before .before .values .result) (d .before .before .before .weights .result)
+
+lent-are : (d : tie.After-predictors2) → RowsOf narrowBook (d .before .before .before .before .before .args .v) (lent d)
+unfolding narrowBook
+lent-are d =
+    record {
+      step = refl;
+      selectors = d .before .before .selectors .ensures;
+      predictors =
+          ap₂ (λ (p q : List ℕ). p ∷ q ∷ []) (d .before .predictors .ensures) (d .predictors2 .ensures)
+          ∙ both-lists (narrowBook .predictors) (narrow-shaped .predictors .count);
+      values = d .before .before .before .before .values .ensures;
+      weights = d .before .before .before .weights .ensures;
+    }
+
+values-requires : tie.Need-values-requires
+values-requires c κs = search needs
+
+weights-requires : tie.Need-weights-requires
+weights-requires c κs = search needs
+
+selectors-requires : tie.Need-selectors-requires
+selectors-requires c κs = search needs
+
+predictors-requires : tie.Need-predictors-requires
+predictors-requires c κs = search needs
+
+predictors-requires-2 : tie.Need-predictors-requires-2
+predictors-requires-2 c κs = search needs
+
+slice-aggregate-places-run : tie.Need-slice-aggregate-places-run
+slice-aggregate-places-run c = search needs
+
+slice-aggregate-places-run-2 : tie.Need-slice-aggregate-places-run-2
+slice-aggregate-places-run-2 c = search needs
+
+slice-aggregate-places-run-3 : tie.Need-slice-aggregate-places-run-3
+slice-aggregate-places-run-3 c = search needs
+
+slice-aggregate-places-run-4 : tie.Need-slice-aggregate-places-run-4
+slice-aggregate-places-run-4 c = search needs
+
+slice-aggregate-places-run-5 : tie.Need-slice-aggregate-places-run-5
+slice-aggregate-places-run-5 c = search needs
+
+places-run-requires : tie.Need-places-run-requires
+places-run-requires c κs =
+    let d = c .before .before .before .before .before .before in
+    let s = d .before .before .before .before .before in
+    places-ok narrowBook (s .args .v) (lent d) (lent-are d) narrow-usable (s .args .vector .now) (s .args .xs .now)
+    (subst⁻¹ (λ (n : ℕ). Indexed n (s .args .vector .now) (s .args .v) (s .args .xs .now)) (narrow-shaped .order) (s .pre))
+
+narrow-gaps-requires : tie.Need-narrow-gaps-requires
+narrow-gaps-requires c κs = search needs
+
+slice-aggregate-stabilise-run : tie.Need-slice-aggregate-stabilise-run
+slice-aggregate-stabilise-run c = search needs
+
+stabilise-run-requires : tie.Need-stabilise-run-requires
+stabilise-run-requires c κs =
+    let p = c .before .before .before .before in
+    let s = p .before .before .before .before .before .before .before .before .before .before .before .before in
+    let u = p .places-run .last .0 in
+    subst⁻¹ (λ (g : List ℤ). MoveOk g u 0) (c .before .before .narrow-gaps .ensures)
+    (book-moves narrowBook narrow-usable u (p .places-run .kept .0 ∙ s .pre .long ∙ sym (narrow-shaped .order)))
+
+same-length : tie.Need-same-length
+same-length c = search needs
+
+returns : tie.Need-returns
+returns c =
+    let p = c .before .before .before .before .before .before in
+    let d = p .before .before .before .before .before .before .before in
+    let s = d .before .before .before .before .before in
+    stabilised-by narrowBook (s .args .v) (lent d) (lent-are d) (s .args .xs .now) (c .before .stabilise-run .ensures)
+    (c .before .before .before .before .narrow-gaps .ensures)
+    (p .places-run .ensures)
+
+pub narrow-run-spec : {M : Type 1} → statement M
+narrow-run-spec =
+    tie.close
+    (tie.spec
+    values-requires
+    weights-requires
+    selectors-requires
+    predictors-requires
+    predictors-requires-2
+    slice-aggregate-places-run
+    slice-aggregate-places-run-2
+    slice-aggregate-places-run-3
+    slice-aggregate-places-run-4
+    slice-aggregate-places-run-5
+    places-run-requires
+    narrow-gaps-requires
+    slice-aggregate-stabilise-run
+    stabilise-run-requires
+    same-length
+    returns)

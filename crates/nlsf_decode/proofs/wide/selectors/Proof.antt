@@ -1,0 +1,24 @@
+-- `selectors` meets its contract. Assumes nothing.
+use Prim.Native.Nat.{ℕ}
+use mathlib.Core.Path.{ap}
+use mathlib.Core.List.{List, []}
+use borrow.Author.Needs.{needs}
+use lib.ListN.{getD}
+use Rattle.nlsf_decode.proofs.wide.selectors.Statement.{statement}
+use Rattle.nlsf_decode.proofs.wide.selectors.Tie as tie
+
+wide-selectors-requires : tie.Need-wide-selectors-requires
+wide-selectors-requires c κs = search needs
+
+mul-result : tie.Need-mul-result
+mul-result c = search needs
+
+array-copy-out-result : tie.Need-array-copy-out-result
+array-copy-out-result c = search needs
+
+returns : tie.Need-returns
+returns c = ap (λ (t : List (List ℕ)). getD t (c .before .before .args .v) []) (c .before .wide-selectors .ensures)
+
+pub selectors-spec : {M : Type 1} → statement M
+selectors-spec =
+    tie.close (tie.spec wide-selectors-requires mul-result array-copy-out-result returns)

@@ -1,0 +1,93 @@
+// Decoding of a line spectrum (RFC 6716, section 4.2.7.5): a book's vector moved by residuals, then stabilised. Names as in the crate's
+// NLSF_decode.rs.
+ghost use mathlib.Core.Path.{_≡_};
+ghost use lib.IntN.{pos, negsuc};
+ghost use Rattle.lists.specs.Every.{every};
+ghost use Rattle.spectrum.specs.Stabilising.{kept16};
+ghost use Rattle.spectrum.specs.Calls.{inRange, bookOf, numbersOk, decodeRefusal, decoded, decodeCall};
+use narrow::narrow_run;
+use spectrum::Moves;
+use spectrum::Spectrum;
+use wide::wide_run;
+
+mod narrow; // narrow.rt: the book of 8 and 12 kHz
+mod wide; // wide.rt: the book of 16 kHz
+
+// ---- refusals
+
+fn order_of(khz: u32) -> usize
+    ensures { λ n. ⌜ n ≡ bookOf khz .order ⌝ }
+{
+    if khz == 16 { 16 } else { 10 }
+}
+
+// Each index lies in -10 to 10.
+fn all_small(xs: &[i8]) -> bool
+    ensures { λ b. ⌜ b ≡ every (inRange (negsuc 9) (pos 10)) (now (xs .entry)) ⌝ }
+{
+    let mut ok = true;
+    let mut k: usize = xs.len();
+    while k > 0 {
+        let j = k - 1;
+        let x = xs[j];
+        ok = ((-10 <= x) & (x <= 10)) & ok;
+        k = j;
+    }
+    ok
+}
+
+fn numbers_ok(index: [i8; 17], khz: u32) -> bool
+    ensures { λ b. ⌜ b ≡ numbersOk khz index ⌝ }
+{
+    let n = order_of(khz);
+    let e = n + 1;
+    let small = all_small(&index[1..e]);
+    let first = index[0];
+    let rate = (khz == 8) | ((khz == 12) | (khz == 16));
+    rate & (((0 <= first) & (first <= 31)) & small)
+}
+
+// Refusals 4 and 6, or 0.
+fn refusal(vector: &[i16], index: [i8; 17], khz: u32) -> u32
+    ensures { λ n. ⌜ n ≡ decodeRefusal (now (vector .entry)) index khz ⌝ }
+{
+    if numbers_ok(index, khz) {
+        if vector.len() == order_of(khz) { 0 } else { 6 }
+    } else {
+        4
+    }
+}
+
+// ---- the call
+
+// The spectrum of the indices, stabilised, with the number of moves.
+fn decode(vector: &mut [i16], index: [i8; 17], khz: u32) -> u32
+    requires { ⌜ decodeRefusal (now vector) index khz ≡ 0 ⌝ }
+    ensures { λ m. ⌜ record { vector = now (vector .exit); moves = m } ≡ decoded kept16 (bookOf khz) index ⌝ }
+{
+    let v = index[0] as usize;
+    if khz == 16 {
+        return wide_run(vector, v, &index[1..17]);
+    }
+    narrow_run(vector, v, &index[1..11])
+}
+
+// Decoded and stabilised, with the number of moves; a refusal leaves the vector as it is.
+pub fn silk_NLSF_decode(vector: &mut [i16], indices: Spectrum, khz: u32) -> Moves
+    ensures { λ a. ⌜ record { vector = now (vector .exit); answer = a } ≡ decodeCall (now (vector .entry)) indices khz ⌝ }
+{
+    let index = indices.index;
+    let n = refusal(vector, index, khz);
+    if n == 0 {
+        let m = decode(vector, index, khz);
+        Moves {
+            refusal: 0,
+            moves: m,
+        }
+    } else {
+        Moves {
+            refusal: n,
+            moves: 0,
+        }
+    }
+}

@@ -1,0 +1,44 @@
+-- What placing a vector asks of its rows, and what it leaves in the vector. Assumes nothing.
+use Prim.Native.Nat.{ℕ, _*_, _≤_, _<_}
+use mathlib.Core.Path.{_≡_}
+use mathlib.Core.List.{List, [], _∷_}
+use lib.IntN.{ℤ}
+use lib.ListN.{length, getD}
+use Rattle.spectrum.specs.Places.{placedAll}
+use Rattle.spectrum.specs.Residuals.{residuals, predictorIn}
+use Rattle.spectrum.specs.Values.{Within}
+
+-- a book's step, and what it has for one vector: selectors, both lists of predictors, values and weights
+pub record Rows : Type 0 where
+  pub step : ℕ
+  pub selectors : List ℕ
+  pub first : List ℕ
+  pub second : List ℕ
+  pub values : List ℕ
+  pub weights : List ℕ
+
+abbrev pub rows : ℕ → List ℕ → List ℕ → List ℕ → List ℕ → List ℕ → Rows
+rows s e p q b w = record { step = s; selectors = e; first = p; second = q; values = b; weights = w }
+
+abbrev pub predictorBy : Rows → ℕ → ℕ
+predictorBy t = predictorIn (t .selectors) (t .first ∷ t .second ∷ [])
+
+-- the residuals of indices under these rows, and the places
+abbrev pub residualsBy : Rows → List ℤ → List ℤ
+residualsBy t xs = residuals (t .step) (predictorBy t) 0 xs
+
+abbrev pub placesBy : Rows → List ℤ → List ℤ
+placesBy t xs = placedAll (t .values) (t .weights) (residualsBy t xs)
+
+-- at most 16 values, rows as long, indices from -10 to 10, weights above 0, a selector for each two places, predictors that are bytes
+pub record PlacesOk (t : Rows) (v xs : List ℤ) : Type 0 where
+  pub few : length v ≤ 16
+  pub indices : length xs ≡ length v
+  pub tens : Within 10 10 xs
+  pub small : t .step ≤ 11796
+  pub pairs : length v ≤ 2 * length (t .selectors)
+  pub lists : length (t .first) ≡ length (t .second)
+  pub bytes : (i : ℕ) → predictorBy t i ≤ 256
+  pub book : length (t .values) ≡ length v
+  pub weighed : length (t .weights) ≡ length v
+  pub heavy : (i : ℕ) → i < length v → 1 ≤ getD (t .weights) i 0

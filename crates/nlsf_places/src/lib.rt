@@ -1,0 +1,127 @@
+// Residuals and places of a line spectrum (RFC 6716, sections 4.2.7.5.2 and 4.2.7.5.3): the first half of the crate's NLSF_decode.rs, with the
+// predictors of its NLSF_unpack.rs.
+ghost use mathlib.Core.Path.{_≡_};
+ghost use Prim.Native.Nat.{_*_, _/_, _≤_, _<_};
+ghost use mathlib.Core.List.{[], _∷_};
+ghost use lib.ListN.{length};
+ghost use lib.IntN.{pos, _+ℤ_, _*ℤ_};
+ghost use lib.Signed.{quotZ};
+ghost use Rattle.spectrum.specs.Values.{Mag};
+ghost use Rattle.spectrum.specs.Residuals.{nudged, scaled, predicted, listOf, predictorIn};
+ghost use Rattle.spectrum.specs.Places.{placed};
+ghost use Rattle.nlsf_places.specs.Asked.{rows, placesBy, PlacesOk};
+
+// ---- predictors
+
+// The list that a selector byte names for place i.
+fn list_of(e: u8, i: usize) -> u8
+    ensures { λ r. ⌜ r ≡ listOf e i ⌝ }
+{
+    if i % 2 == 0 { e % 2 } else { e / 16 % 2 }
+}
+
+// The predictor of place i, and 0 past the lists.
+fn predictor(selectors: &[u8], first: &[u8], second: &[u8], i: usize) -> u8
+    requires { ⌜ (i / 2 < length (now selectors)) × (length (now first) ≡ length (now second)) ⌝ }
+    ensures { λ p. ⌜ p ≡ predictorIn (now (selectors .entry)) (now (first .entry) ∷ now (second .entry) ∷ []) i ⌝ }
+{
+    if i >= first.len() {
+        return 0;
+    }
+    let e = selectors[i / 2];
+    if list_of(e, i) == 0 {
+        return first[i];
+    }
+    second[i]
+}
+
+// ---- residuals
+
+// An index x 1024, moved 102 toward zero.
+fn nudge(x: i8) -> i32
+    ensures { λ r. ⌜ r ≡ nudged x ⌝ }
+{
+    if x > 0 {
+        return (x as i32) * 1024 - 102;
+    }
+    if x < 0 {
+        return (x as i32) * 1024 + 102;
+    }
+    0
+}
+
+// Times the step, shifted right 16 with floor.
+fn scale(x: i8, step: u16) -> i32
+    requires { ⌜ Mag 10 x × (step ≤ 11796) ⌝ }
+    ensures { λ r. ⌜ r ≡ scaled step x ⌝ }
+{
+    (nudge(x) * (step as i32)) >> 16
+}
+
+// What the residual behind adds, through a predictor, with floor.
+fn predict(p: u8, r: i32) -> i32
+    requires { ⌜ Mag 29200 r ⌝ }
+    ensures { λ s. ⌜ s ≡ predicted p r ⌝ }
+{
+    (r * (p as i32)) >> 8
+}
+
+// The residual of a place.
+fn residual(x: i8, step: u16, p: u8, behind: i32) -> i32
+    requires { ⌜ (Mag 10 x × (step ≤ 11796)) × Mag 29200 behind ⌝ }
+    ensures { λ r. ⌜ r ≡ predicted p behind +ℤ scaled step x ⌝ }
+{
+    predict(p, behind) + scale(x, step)
+}
+
+// ---- places
+
+// Book value x 128 plus residual x 16,384 divided by its weight, toward zero.
+fn moved(value: u8, weight: u16, r: i32) -> i32
+    requires { ⌜ Mag 29200 r × (1 ≤ weight) ⌝ }
+    ensures { λ z. ⌜ z ≡ quotZ (r *ℤ pos 16384) (pos weight) +ℤ pos (value * 128) ⌝ }
+{
+    (r * 16384) / (weight as i32) + (value as i32) * 128
+}
+
+// The place of a value: that, held between 0 and 32,767.
+fn place(value: u8, weight: u16, r: i32) -> i16
+    requires { ⌜ Mag 29200 r × (1 ≤ weight) ⌝ }
+    ensures { λ z. ⌜ z ≡ placed value weight r ⌝ }
+{
+    let z = moved(value, weight, r);
+    if z > 32767 {
+        return 32767;
+    }
+    if z < 0 {
+        return 0;
+    }
+    z as i16
+}
+
+// ---- the vector
+
+// Every place of a vector, from the last down.
+pub fn places_run(
+    vector: &mut [i16],
+    xs: &[i8],
+    step: u16,
+    selectors: &[u8],
+    first: &[u8],
+    second: &[u8],
+    values: &[u8],
+    weights: &[u16],
+)
+    requires { ⌜ PlacesOk (rows step (now selectors) (now first) (now second) (now values) (now weights)) (now vector) (now xs) ⌝ }
+    ensures { λ _. ⌜ now (vector .exit) ≡ placesBy (rows step (now (selectors .entry)) (now (first .entry)) (now (second .entry)) (now (values .entry)) (now (weights .entry))) (now (xs .entry)) ⌝ }
+{
+    let mut r: i32 = 0;
+    let mut k: usize = vector.len();
+    while k > 0 {
+        let j = k - 1;
+        let p = predictor(selectors, first, second, j);
+        r = residual(xs[j], step, p, r);
+        vector[j] = place(values[j], weights[j], r);
+        k = j;
+    }
+}

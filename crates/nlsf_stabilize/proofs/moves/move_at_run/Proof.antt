@@ -1,0 +1,238 @@
+-- `move_at_run` meets its contract. Assumes nothing.
+use Prim.Native.Nat.{suc, _-_}
+use mathlib.Core.Path.{_≡_, _∙_}
+use native.Mathlib.Omega.{arith}
+use borrow.Author.Needs.{needs, sfits-of}
+use lib.IntN.{pos, _+ℤ_, _-ℤ_}
+use lib.ListN.{length, take, drop, length-set}
+use mir.Syntax.{w16, w32}
+use mir.Val.{SFits, toZ, ofZ}
+use mir.Facts.{toZ-ofZ}
+use Rattle.ints.specs.Wrap.{wrap16}
+use Rattle.spectrum.specs.Values.{at, top, held, half, total}
+use Rattle.nlsf_stabilize.proofs.MoveLaws.{part-before, part-behind, pair-ok, move-first, last-fits, move-last, move-between}
+use Rattle.nlsf_stabilize.proofs.Widened.{wide}
+use Rattle.nlsf_stabilize.proofs.moves.move_at_run.Statement.{statement}
+use Rattle.nlsf_stabilize.proofs.moves.move_at_run.Tie as tie
+
+shared-slice-copy-out-v : tie.Need-shared-slice-copy-out-v
+shared-slice-copy-out-v c = search needs
+
+slice-set-from-v : tie.Need-slice-set-from-v
+slice-set-from-v c = search needs
+
+same-length : tie.Need-same-length
+same-length c = search needs
+
+returns : tie.Need-returns
+returns c =
+    let b = c .before .before in
+    let k : SFits w16 (at (b .args .g .now) 0) = sfits-of (c .v .given) in
+    rw (toZ-ofZ k) (move-first (b .args .g .now) (b .args .v .now) (b .args .i) (c .before .if1 .taken) (b .pre))
+
+mul-v : tie.Need-mul-v
+mul-v c = search needs
+
+shared-slice-copy-out-v-2 : tie.Need-shared-slice-copy-out-v-2
+shared-slice-copy-out-v-2 c = search needs
+
+cast-v : tie.Need-cast-v
+cast-v c =
+    let b = c .before .before .before in
+    let k : SFits w16 (at (b .args .g .now) (b .args .i)) = sfits-of (c .v2 .given) in rw (toZ-ofZ k) (wide k)
+
+sub-v : tie.Need-sub-v
+sub-v c =
+    let b = c .before .before .before in
+    let k : SFits w16 (at (b .args .g .now) (b .args .i)) = sfits-of (c .v2 .given) in
+    rw (toZ-ofZ k, toZ-ofZ (wide k)) (wide (last-fits (b .args .g .now) (b .args .v .now) (b .args .i) (c .before .if2 .taken) (b .pre)))
+
+cast-v-2 : tie.Need-cast-v-2
+cast-v-2 c =
+    let b = c .before .before .before in
+    let k : SFits w16 (at (b .args .g .now) (b .args .i)) = sfits-of (c .v2 .given) in
+    let o = last-fits (b .args .g .now) (b .args .v .now) (b .args .i) (c .before .if2 .taken) (b .pre) in
+    rw (toZ-ofZ k, toZ-ofZ (wide k), toZ-ofZ (wide o)) o
+
+sub-t19 : tie.Need-sub-t19
+sub-t19 c = search needs
+
+mul-t20 : tie.Need-mul-t20
+mul-t20 c = search needs
+
+slice-set-from-v-2 : tie.Need-slice-set-from-v-2
+slice-set-from-v-2 c = search needs
+
+same-length-2 : tie.Need-same-length-2
+same-length-2 c = search needs
+
+returns-2 : tie.Need-returns-2
+returns-2 c =
+    let b = c .before .before .before in
+    let k : SFits w16 (at (b .args .g .now) (b .args .i)) = sfits-of (c .v2 .given) in
+    let o = last-fits (b .args .g .now) (b .args .v .now) (b .args .i) (c .before .if2 .taken) (b .pre) in
+    rw (toZ-ofZ k, toZ-ofZ (wide k), toZ-ofZ (wide o), toZ-ofZ o) (move-last (b .args .g .now) (b .args .v .now) (b .args .i) (c .before .if2 .taken) (omega arith) (b .pre))
+
+sub-gap-sum-run : tie.Need-sub-gap-sum-run
+sub-gap-sum-run c = search needs
+
+part-gap-sum-run-start : tie.Need-part-gap-sum-run-start
+part-gap-sum-run-start c = search needs
+
+part-gap-sum-run-end : tie.Need-part-gap-sum-run-end
+part-gap-sum-run-end c = search needs
+
+gap-sum-run-requires : tie.Need-gap-sum-run-requires
+gap-sum-run-requires c κs = search needs
+
+add-gap-sum-run : tie.Need-add-gap-sum-run
+add-gap-sum-run c = search needs
+
+add-gap-sum-run-2 : tie.Need-add-gap-sum-run-2
+add-gap-sum-run-2 c = search needs
+
+mul-gap-sum-run : tie.Need-mul-gap-sum-run
+mul-gap-sum-run c = search needs
+
+sub-gap-sum-run-2 : tie.Need-sub-gap-sum-run-2
+sub-gap-sum-run-2 c = search needs
+
+part-gap-sum-run-start-2 : tie.Need-part-gap-sum-run-start-2
+part-gap-sum-run-start-2 c = search needs
+
+part-gap-sum-run-end-2 : tie.Need-part-gap-sum-run-end-2
+part-gap-sum-run-end-2 c = search needs
+
+gap-sum-run-requires-2 : tie.Need-gap-sum-run-requires-2
+gap-sum-run-requires-2 c κs = search needs
+
+sub-pair-low : tie.Need-sub-pair-low
+sub-pair-low c = search needs
+
+mul-pair-low : tie.Need-mul-pair-low
+mul-pair-low c = search needs
+
+slice-copy-out-pair-low : tie.Need-slice-copy-out-pair-low
+slice-copy-out-pair-low c = search needs
+
+mul-pair-low-2 : tie.Need-mul-pair-low-2
+mul-pair-low-2 c = search needs
+
+slice-copy-out-pair-low-2 : tie.Need-slice-copy-out-pair-low-2
+slice-copy-out-pair-low-2 c = search needs
+
+mul-pair-low-3 : tie.Need-mul-pair-low-3
+mul-pair-low-3 c = search needs
+
+shared-slice-copy-out-pair-low : tie.Need-shared-slice-copy-out-pair-low
+shared-slice-copy-out-pair-low c = search needs
+
+pair-low-requires : tie.Need-pair-low-requires
+pair-low-requires c κs =
+    let d = c .before .before .before .before .before .before .before in
+    let b = d .before .before in
+    let g = b .args .g .now in
+    let v = b .args .v .now in
+    let i = b .args .i in
+    let k : SFits w16 (at g i) = sfits-of (c .pair-low-arg3 .given) in
+    let s1 : toZ w32 (ofZ w32 (c .before .before .before .before .before .gap-sum-run .result)) ≡ total (take i g) = toZ-ofZ {w = w32} (sfits-of (c .before .before .before .before .before .gap-sum-run .ok)) ∙ c .before .before .before .before .before .gap-sum-run .ensures ∙ part-before g i in
+    let s2 : toZ w32 (ofZ w32 (c .before .before .before .gap-sum-run2 .result)) ≡ total (drop (suc i) g) = toZ-ofZ {w = w32} (sfits-of (c .before .before .before .gap-sum-run2 .ok)) ∙ c .before .before .before .gap-sum-run2 .ensures ∙ part-behind g (length v) i (b .pre .long) in
+    rw (toZ-ofZ k, s1, s2) (pair-ok g v i (b .pre) (d .if2 .left))
+
+mul-add16 : tie.Need-mul-add16
+mul-add16 c = search needs
+
+shared-slice-copy-out-add16 : tie.Need-shared-slice-copy-out-add16
+shared-slice-copy-out-add16 c = search needs
+
+add16-requires : tie.Need-add16-requires
+add16-requires c κs = search needs
+
+sub-a : tie.Need-sub-a
+sub-a c = search needs
+
+mul-a : tie.Need-mul-a
+mul-a c = search needs
+
+slice-set-from-a : tie.Need-slice-set-from-a
+slice-set-from-a c = search needs
+
+mul-b : tie.Need-mul-b
+mul-b c = search needs
+
+slice-set-from-b : tie.Need-slice-set-from-b
+slice-set-from-b c =
+    let d = c .before .before .before .before .before .before .before .before .before .before in
+    let b = d .before .before in rw length-set (omega (arith, b .pre .place))
+
+same-length-3 : tie.Need-same-length-3
+same-length-3 c = search needs
+
+returns-3 : tie.Need-returns-3
+returns-3 c =
+    let d = c .before .before .before .before .before .before .before .before .before .before in
+    let b = d .before .before in
+    let g = b .args .g .now in
+    let v = b .args .v .now in
+    let i = b .args .i in
+    let p = c .before .before in
+    let k : SFits w16 (at g i) = sfits-of (p .before .pair-low-arg3 .given) in
+    let k2 : SFits w16 (at g i) = sfits-of (c .before .add16-arg .given) in
+    let f1 : SFits w16 (at v i) = sfits-of (p .before .before .pair-low-arg2 .given) in
+    let f0 : SFits w16 (at v (i - 1)) = sfits-of (p .before .before .before .pair-low-arg .given) in
+    let q = p .before .before .before .before in
+    let s1 : toZ w32 (ofZ w32 (q .before .before .gap-sum-run .result)) ≡ total (take i g) = toZ-ofZ {w = w32} (sfits-of (q .before .before .gap-sum-run .ok)) ∙ q .before .before .gap-sum-run .ensures ∙ part-before g i in
+    let s2 : toZ w32 (ofZ w32 (q .gap-sum-run2 .result)) ≡ total (drop (suc i) g) = toZ-ofZ {w = w32} (sfits-of (q .gap-sum-run2 .ok)) ∙ q .gap-sum-run2 .ensures ∙ part-behind g (length v) i (b .pre .long) in
+    let x : SFits w16 (p .pair-low .result) = sfits-of (p .pair-low .ok) in
+    let y : SFits w16 (c .add16 .result) = sfits-of (c .add16 .ok) in
+    let e : p .pair-low .result ≡ held (total (take i g) +ℤ half (at g i)) ((top -ℤ total (drop (suc i) g)) -ℤ half (at g i)) (half (at v (i - 1) +ℤ at v i +ℤ pos 1)) -ℤ half (at g i) = rw (toZ-ofZ k, toZ-ofZ f0, toZ-ofZ f1, s1, s2) at (p .pair-low .ensures) in
+    let w : c .add16 .result ≡ wrap16 (p .pair-low .result +ℤ at g i) = rw (toZ-ofZ x, toZ-ofZ k2) at (c .add16 .ensures) in
+    rw (toZ-ofZ x, toZ-ofZ y) (move-between g v i (p .pair-low .result) (c .add16 .result) (d .if2 .left) (omega arith) (b .pre) e w)
+
+pub move-at-run-spec : {M : Type 1} → statement M
+move-at-run-spec =
+    tie.close
+    (tie.spec
+    shared-slice-copy-out-v
+    slice-set-from-v
+    same-length
+    returns
+    mul-v
+    shared-slice-copy-out-v-2
+    cast-v
+    sub-v
+    cast-v-2
+    sub-t19
+    mul-t20
+    slice-set-from-v-2
+    same-length-2
+    returns-2
+    sub-gap-sum-run
+    part-gap-sum-run-start
+    part-gap-sum-run-end
+    gap-sum-run-requires
+    add-gap-sum-run
+    add-gap-sum-run-2
+    mul-gap-sum-run
+    sub-gap-sum-run-2
+    part-gap-sum-run-start-2
+    part-gap-sum-run-end-2
+    gap-sum-run-requires-2
+    sub-pair-low
+    mul-pair-low
+    slice-copy-out-pair-low
+    mul-pair-low-2
+    slice-copy-out-pair-low-2
+    mul-pair-low-3
+    shared-slice-copy-out-pair-low
+    pair-low-requires
+    mul-add16
+    shared-slice-copy-out-add16
+    add16-requires
+    sub-a
+    mul-a
+    slice-set-from-a
+    mul-b
+    slice-set-from-b
+    same-length-3
+    returns-3)

@@ -1,0 +1,83 @@
+// The stabiliser of line spectra (RFC 6716, section 4.2.7.5.4): at most 20 moves, then the fallback. Names as in the crate's NLSF_stabilize.rs.
+ghost use mathlib.Core.Path.{_≡_};
+ghost use Rattle.spectrum.specs.Stabilising.{kept16, stabilise};
+ghost use Rattle.spectrum.specs.Calls.{lengthsOk, stabiliseRefusal, stabiliseCall};
+ghost use Rattle.nlsf_stabilize.specs.Asked.{MoveOk};
+use distances::diff_at_run;
+use distances::smallest_run;
+use fallback::fall_back_run;
+use gaps::gaps_ok_run;
+use moves::move_at_run;
+use spectrum::Moves;
+
+mod distances; // distances.rt: which gap is mended
+mod fallback; // fallback.rt: what follows the last move
+mod gaps; // gaps.rt: the gap set's rule
+mod moves; // moves.rt: one move
+mod sort; // sort.rt: sorting
+
+// Stabilised, with the number of moves.
+pub fn stabilise_run(v: &mut [i16], g: &[i16]) -> u32
+    requires { ⌜ MoveOk (now g) (now v) 0 ⌝ }
+    ensures { λ r. ⌜ record { vector = now (v .exit); moves = r } ≡ stabilise kept16 (now (g .entry)) (now (v .entry)) ⌝ }
+{
+    let mut m: u32 = 0;
+    while m < 20 {
+        let i = smallest_run(v, g);
+        let d = diff_at_run(v, g, i);
+        if d >= 0 {
+            return m;
+        }
+        move_at_run(v, g, i);
+        m += 1;
+    }
+    fall_back_run(v, g);
+    m
+}
+
+// ---- the call
+
+fn lengths_ok(vector: &[i16], gaps: &[i16]) -> bool
+    ensures { λ b. ⌜ b ≡ lengthsOk (now (vector .entry)) (now (gaps .entry)) ⌝ }
+{
+    let n = vector.len();
+    if (2 <= n) & (n <= 16) {
+        gaps.len() == n + 1
+    } else {
+        false
+    }
+}
+
+// Refusals 6 and 7, or 0.
+fn refusal(vector: &[i16], gaps: &[i16]) -> u32
+    ensures { λ n. ⌜ n ≡ stabiliseRefusal (now (vector .entry)) (now (gaps .entry)) ⌝ }
+{
+    if lengths_ok(vector, gaps) {
+        if gaps_ok_run(gaps, vector.len()) {
+            0
+        } else {
+            7
+        }
+    } else {
+        6
+    }
+}
+
+// Stabilised, with the number of moves; a refusal leaves the vector as it is.
+pub fn silk_NLSF_stabilize(vector: &mut [i16], gaps: &[i16]) -> Moves
+    ensures { λ a. ⌜ record { vector = now (vector .exit); answer = a } ≡ stabiliseCall (now (vector .entry)) (now (gaps .entry)) ⌝ }
+{
+    let n = refusal(vector, gaps);
+    if n == 0 {
+        let m = stabilise_run(vector, gaps);
+        Moves {
+            refusal: 0,
+            moves: m,
+        }
+    } else {
+        Moves {
+            refusal: n,
+            moves: 0,
+        }
+    }
+}

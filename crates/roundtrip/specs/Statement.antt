@@ -1,0 +1,107 @@
+-- What "written reads back" means, said of the public calls as document 01 has them, refusals included: `encOpen`, `encSym` and `encDone` of a writer,
+-- `decOpen` and `decSym` of a reader. The theorems are in `proofs/Theorems`. Assumes nothing.
+use Prim.Native.Nat.{ℕ, _≤_}
+use mathlib.Core.Path.{_≡_}
+use mathlib.Core.List.{List, [], _∷_}
+use lib.IntN.{pos}
+use lib.ListN.{length}
+use Rattle.entcode.specs.declared.Dec.{Dec}
+use Rattle.entcode.specs.declared.Decoded.{Decoded}
+use Rattle.entcode.specs.Models.{Model, Sym, rawN, Allowed}
+use Rattle.entcode.specs.Cuts.{account}
+use Rattle.entcode.specs.Flat.{Out, out}
+use Rattle.entcode.specs.ReaderLaws.{Bytes}
+use Rattle.entcode.specs.Reading.{decSym}
+use Rattle.entcode.specs.Writing.{Sent, encOpen, encSym, encDone}
+
+-- ---- writing
+
+-- every symbol of a list may be written: its model is in order, its value one of the model's
+abbrev pub AllAllowed : List Sym → Type 0
+AllAllowed [] = Unit {0}
+AllAllowed (s ∷ ss) = Allowed (s .model) (s .value) × AllAllowed ss
+
+-- the buffer and the state after a call
+abbrev pub after : Sent → Out
+after x = out (x .buf) (x .answer .state)
+
+-- the calls that write the symbols ss, one after the other, are all accepted, and lead from o to q
+abbrev pub Sends : Out → List Sym → Out → Type 0
+Sends o [] q = o ≡ q
+Sends o (s ∷ ss) q = (encSym o s .answer .refusal ≡ 0) × Sends (after (encSym o s)) ss q
+
+-- the symbols ss were written into the buffer b from opening on, and finished without error; q is the state before finishing
+pub record Written (b : List ℕ) (ss : List Sym) (q : Out) : Type 0 where
+  pub bytes : Bytes b
+  pub short : length b ≤ 1275
+  pub sends : Sends (after (encOpen b)) ss q
+  pub accepted : encDone q .answer .refusal ≡ 0
+  pub error : encDone q .answer .state .error ≡ pos 0
+
+-- ---- reading
+
+-- a reader's state shows the account of a writer's
+abbrev pub SameAccount : Dec → Out → Type 0
+SameAccount d o = account (d .total) (d .rng) ≡ account (o .state .total) (o .state .rng)
+
+-- a reader's answer is right: accepted, the value v, the account that the writer had at o, and no error
+pub record Right (a : Decoded) (v : ℕ) (o : Out) : Type 0 where
+  pub refusal : a .refusal ≡ 0
+  pub value : a .value ≡ v
+  pub account : SameAccount (a .state) o
+  pub error : a .state .error ≡ 0
+
+-- the calls that read with the models of ss from the reader d over the packet b are all right, o being the writer before ss
+abbrev pub Reads : List ℕ → Dec → Out → List Sym → Type 0
+Reads b d o [] = Unit {0}
+Reads b d o (s ∷ ss) =
+    Right (decSym b d (s .model)) (s .value) (after (encSym o s)) × Reads b (decSym b d (s .model) .state) (after (encSym o s)) ss
+
+-- ---- questions that depend on answers
+
+-- nothing more to ask, or a model to read with, and what to ask next for each value
+pub data Questions : Type 0 where
+  done : Questions
+  ask : Model → (ℕ → Questions) → Questions
+
+-- the list ss is one way through the questions
+abbrev pub Leads : Questions → List Sym → Type 0
+Leads done [] = Unit {0}
+Leads done (s ∷ ss) = ⊥
+Leads (ask m next) [] = ⊥
+Leads (ask m next) (s ∷ ss) = (s .model ≡ m) × Leads (next (s .value)) ss
+
+-- asked from the reader d on, each next question by the value just read, the questions are all answered right, with the values of ss
+abbrev pub Answers : List ℕ → Dec → Out → Questions → List Sym → Type 0
+Answers b d o done [] = Unit {0}
+Answers b d o done (s ∷ ss) = ⊥
+Answers b d o (ask m next) [] = ⊥
+Answers b d o (ask m next) (s ∷ ss) =
+    Right (decSym b d m) (s .value) (after (encSym o s))
+    × Answers b (decSym b d m .state) (after (encSym o s)) (next (decSym b d m .value)) ss
+
+-- ---- range and total
+
+-- a reader and a writer have the same
+pub record SamePace (d : Dec) (o : Out) : Type 0 where
+  pub rng : d .rng ≡ o .state .rng
+  pub total : d .total ≡ o .state .total
+
+-- they do before the first symbol of ss, and after each
+abbrev pub InStep : List ℕ → Dec → Out → List Sym → Type 0
+InStep b d o [] = SamePace d o
+InStep b d o (s ∷ ss) = SamePace d o × InStep b (decSym b d (s .model) .state) (after (encSym o s)) ss
+
+-- ---- packets that agree with the finished buffer in its coded bytes only
+
+-- accepted, with the writer's account; and the value, if the symbol has no raw bits
+pub record CodedRight (a : Decoded) (s : Sym) (o : Out) : Type 0 where
+  pub refusal : a .refusal ≡ 0
+  pub account : SameAccount (a .state) o
+  pub value : rawN (s .model) ≡ 0 → a .value ≡ s .value
+
+-- the calls that read with the models of ss answer so
+abbrev pub CodedReads : List ℕ → Dec → Out → List Sym → Type 0
+CodedReads b d o [] = Unit {0}
+CodedReads b d o (s ∷ ss) =
+    CodedRight (decSym b d (s .model)) s (after (encSym o s)) × CodedReads b (decSym b d (s .model) .state) (after (encSym o s)) ss

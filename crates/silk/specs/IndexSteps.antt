@@ -1,0 +1,58 @@
+-- One turn of each loop over the side indices: the rest of its tree, run on what a turn left, gives what it gave before. Counted as code counts,
+-- by k + 1. Assumes nothing.
+use Prim.Native.Nat.{ℕ, suc, _+_, _-_, _≤_, _<_}
+use mathlib.Core.Path.{_≡_, _∙_}
+use mathlib.Core.List.{List}
+use native.Mathlib.Numerals.{add-one}
+use native.Mathlib.Omega.{arith}
+use lib.IntN.{ℤ, pos}
+use lib.ListN.{getD}
+use Rattle.sheet.specs.Directory.{deltaGainRow, residualRow, filterRow}
+use Rattle.entcode.specs.declared.Dec.{Dec}
+use Rattle.entcode.specs.declared.Decoded.{Decoded}
+use Rattle.entcode.specs.Models.{tab}
+use Rattle.entcode.specs.ReadLaws.{Took}
+use Rattle.tree.specs.Asks.{run, got, of}
+use Rattle.tree.specs.AsksLaws.{run-of}
+use Rattle.tree.specs.Ran.{asked, ran-then}
+use Rattle.silk.specs.declared.Indices.{Indices}
+use Rattle.silk.specs.Record.{withGain, withNlsf, withFilter}
+use Rattle.silk.specs.IndexSyntax.{saidAt, moreGains, residualPick, residual, residuals, filters}
+
+-- a number that is not yet reached has a step to it
+less-suc : (n k : ℕ) → k < n → n - k ≡ suc (n - suc k)
+less-suc n k h = omega arith
+
+module _ (b : List ℕ) (d : Dec) (n k : ℕ) (x : Indices) where
+  pub gains-end : n ≤ k → run b d (moreGains (n - k) k x) ≡ got x d
+  unfolding run moreGains
+  gains-end h = let e : n - k ≡ 0 = omega arith in rw e
+
+  pub gains-next : (t : List ℕ) (a : Decoded) → t ≡ deltaGainRow → Took b (tab 8 t) d a → k < n
+      → run b (a .state) (moreGains (n - (k + 1)) (k + 1) (withGain x k (a .value))) ≡ run b d (moreGains (n - k) k x)
+  unfolding moreGains
+  gains-next t a e h l =
+      rw (add-one, less-suc n k l) (asked b d t deltaGainRow (λ y. saidAt (y .gains) k) (λ v. moreGains (n - suc k) (suc k) (withGain x k v)) a e h)
+
+  pub filters-end : (p : ℕ) → n ≤ k → run b d (filters p (n - k) k x) ≡ got x d
+  unfolding run filters
+  filters-end p h = let e : n - k ≡ 0 = omega arith in rw e
+
+  pub filters-next : (p : ℕ) (t : List ℕ) (a : Decoded) → t ≡ filterRow p → Took b (tab 8 t) d a → k < n
+      → run b (a .state) (filters p (n - (k + 1)) (k + 1) (withFilter x k (a .value))) ≡ run b d (filters p (n - k) k x)
+  unfolding filters
+  filters-next p t a e h l =
+      rw (add-one, less-suc n k l) (asked b d t (filterRow p) (λ y. saidAt (y .ltp) k) (λ v. filters p (n - suc k) (suc k) (withFilter x k v)) a e h)
+
+  pub residuals-end : (khz : ℕ) (s : List ℕ) → n ≤ k → run b d (residuals khz s (n - k) k x) ≡ got x d
+  unfolding run residuals
+  residuals-end khz s h = let e : n - k ≡ 0 = omega arith in rw e
+
+  pub residuals-next : (khz : ℕ) (s : List ℕ) (z : ℤ) (q : Dec) → k < n → run b d (residual (residualRow khz (residualPick s k))) ≡ got z q
+      → run b q (residuals khz s (n - (k + 1)) (k + 1) (withNlsf x (k + 1) z)) ≡ run b d (residuals khz s (n - k) k x)
+  unfolding residuals
+  residuals-next khz s z q l e =
+      let r = residual (residualRow khz (residualPick s k)) in
+      rw (add-one, less-suc n k l)
+      (ran-then b d q (of (λ y. getD (y .nlsf) (suc k) (pos 0)) r) (λ z. residuals khz s (n - suc k) (suc k) (withNlsf x (suc k) z)) z
+      (run-of b d (λ y. getD (y .nlsf) (suc k) (pos 0)) r ∙ e))

@@ -1,0 +1,14 @@
+pub mod Extremes
+pub mod Kept
+pub mod Results
+pub mod SameStores
+pub mod MoveBounds
+pub mod Sorting
+pub mod FirstSmallest
+pub mod WholeMoves
+pub mod ResidualBounds
+pub mod CallLaws
+pub mod PlaceLaws
+pub mod Passes
+pub mod BookLaws
+pub mod Promises

@@ -1,0 +1,11 @@
+pub mod Values
+pub mod Gaps
+pub mod Residuals
+pub mod Places
+pub mod Distances
+pub mod Fallback
+pub mod Stabilising
+pub mod Stores
+pub mod Order
+pub mod Calls
+pub mod Cases

@@ -1,0 +1,156 @@
+//! The one comparing step: a call is put to two sides, and all that they answer and leave is equal.
+
+use crate::bytes::Bytes;
+use crate::counters::Counters;
+use crate::domain::LONGEST;
+use crate::models::Model;
+use crate::report;
+use std::fmt::Debug;
+use std::panic::{catch_unwind, AssertUnwindSafe};
+
+/// What a call answers: document 01's number of the refusal or 0, the value, the state.
+#[repr(C)]
+#[derive(Clone, Copy, Debug, PartialEq, Eq)]
+pub struct Answer<S> {
+    pub refusal: u32,
+    pub value: u32,
+    pub state: S,
+}
+
+/// A kind of coder: its states, and what is asked of them.
+pub trait Kind: Sized {
+    type State: Copy + PartialEq + Debug;
+    type Ask<'a>: Copy + Debug;
+
+    const NAME: &'static str;
+    /// Each call with the refusals that it can answer.
+    const CALLS: &'static [(&'static str, &'static [usize])];
+    /// The place of the account in `CALLS`.
+    const ACCOUNT: usize = 1;
+    /// Ways that an accepted call can take, besides those of its symbol.
+    const BRANCHES: &'static [&'static str];
+
+    /// The place of the call in `CALLS`.
+    fn call(ask: Self::Ask<'_>) -> usize;
+    /// Lends the symbol that an accepted call read or wrote, if it did.
+    fn symbol(ask: Self::Ask<'_>, answer: &Answer<Self::State>, lend: impl FnOnce(Model, u32));
+    /// Marks the places in `BRANCHES` of the ways that an accepted call took.
+    fn took(
+        length: usize,
+        before: &Self::State,
+        ask: Self::Ask<'_>,
+        answer: &Answer<Self::State>,
+        mark: impl FnMut(usize),
+    );
+    /// Where in the bytes the state reads or writes next, for a report.
+    fn places(state: &Self::State) -> [usize; 2];
+}
+
+/// An implementation of a kind's calls, on bytes that it may write.
+pub type Side<K> =
+    for<'a> fn(&mut [u8], <K as Kind>::State, <K as Kind>::Ask<'a>) -> Answer<<K as Kind>::State>;
+
+/// The sides of a comparison: our exported calls, and the crate's and libopus's behind document 01's
+/// table of refusals.
+pub trait Sides: Kind {
+    fn ours(bytes: &mut [u8], state: Self::State, ask: Self::Ask<'_>) -> Answer<Self::State>;
+    fn unopus(bytes: &mut [u8], state: Self::State, ask: Self::Ask<'_>) -> Answer<Self::State>;
+    #[cfg(libopus)]
+    fn libopus(bytes: &mut [u8], state: Self::State, ask: Self::Ask<'_>) -> Answer<Self::State>;
+    /// The number of document 01's table that refuses the call, or 0.
+    fn refusal(bytes: &[u8], state: &Self::State, ask: Self::Ask<'_>) -> u32;
+}
+
+/// Where the calls of a plan go: to a comparison or into a record.
+pub trait Sink<K: Kind> {
+    /// The answer, with what it leaves in the bytes; or a difference, which ends the plan.
+    fn put(
+        &mut self,
+        bytes: &mut [u8],
+        state: K::State,
+        ask: K::Ask<'_>,
+    ) -> Result<Answer<K::State>, String>;
+
+    fn counters(&self) -> &Counters<K>;
+}
+
+/// Two sides, and what was counted of the calls on which they agree.
+pub struct Pair<K: Kind> {
+    ours: Side<K>,
+    theirs: Side<K>,
+    counters: Counters<K>,
+    our_bytes: Bytes,
+    their_bytes: Bytes,
+}
+
+impl<K: Kind> Pair<K> {
+    pub fn new(ours: Side<K>, theirs: Side<K>) -> Self {
+        Pair {
+            ours,
+            theirs,
+            counters: Counters::new(),
+            our_bytes: [0; LONGEST + 1],
+            their_bytes: [0; LONGEST + 1],
+        }
+    }
+}
+
+impl<K: Kind> Sink<K> for Pair<K> {
+    fn put(
+        &mut self,
+        bytes: &mut [u8],
+        state: K::State,
+        ask: K::Ask<'_>,
+    ) -> Result<Answer<K::State>, String> {
+        let our_bytes = &mut self.our_bytes[..bytes.len()];
+        let their_bytes = &mut self.their_bytes[..bytes.len()];
+        our_bytes.copy_from_slice(bytes);
+        their_bytes.copy_from_slice(bytes);
+        let ours = (self.ours)(our_bytes, state, ask);
+        let theirs = self.theirs;
+        // The crate panics where an index or, with overflow checks, a sum leaves its range.
+        let theirs = catch_unwind(AssertUnwindSafe(|| theirs(their_bytes, state, ask))).ok();
+        if theirs != Some(ours) || our_bytes != their_bytes {
+            let (ours, theirs) = ((Some(ours), &*our_bytes), (theirs, &*their_bytes));
+            return Err(report::difference::<K>(bytes, state, ask, ours, theirs));
+        }
+        bytes.copy_from_slice(our_bytes);
+        self.counters.count(bytes.len(), &state, ask, &ours);
+        Ok(ours)
+    }
+
+    fn counters(&self) -> &Counters<K> {
+        &self.counters
+    }
+}
+
+/// A comparison with libopus, which refuses nothing: our side answers alone what document 01 refuses,
+/// and the account, since libopus's ec_tell is inline.
+#[cfg(libopus)]
+pub struct Accepted<K: Kind>(Pair<K>);
+
+#[cfg(libopus)]
+impl<K: Sides> Default for Accepted<K> {
+    fn default() -> Self {
+        Accepted(Pair::new(K::ours, K::libopus))
+    }
+}
+
+#[cfg(libopus)]
+impl<K: Sides> Sink<K> for Accepted<K> {
+    fn put(
+        &mut self,
+        bytes: &mut [u8],
+        state: K::State,
+        ask: K::Ask<'_>,
+    ) -> Result<Answer<K::State>, String> {
+        if K::call(ask) == K::ACCOUNT || K::refusal(bytes, &state, ask) != 0 {
+            return Ok(K::ours(bytes, state, ask));
+        }
+        self.0.put(bytes, state, ask)
+    }
+
+    fn counters(&self) -> &Counters<K> {
+        self.0.counters()
+    }
+}

@@ -1,0 +1,78 @@
+#!/usr/bin/env python3
+"""Wrong definitions that the round trip must refuse.
+
+Each edit changes one definition of the coder (crates/entcode/specs) in a copy of the crates, and the check of `roundtrip` has to be refused by the
+law that the edit names, there or in a crate below it. One line per edit: the crate, and the laws that are no longer proved (not those that only cite
+them). Fails if an edit is accepted, does not apply, or is refused otherwise.  Usage: tests/wrong_definitions.py
+"""
+import os
+import re
+import shutil
+import subprocess
+import sys
+import tempfile
+
+ROOT = os.path.dirname(os.path.dirname(os.path.abspath(__file__)))
+SPECS = os.path.join("crates", "entcode", "specs")
+
+# what is wrong, a law that it must break, the file, the right text, the wrong one
+EDITS = [
+    ("a carry is lost at a held byte", "swept-carry", "Front.antt", "(b + k) % 256 ∷ []", "b % 256 ∷ []"),
+    ("255s stay 255 behind a carry", "carry-number", "Front.antt", "replicate x ((255 + c / 256) % 256)", "replicate x 255"),
+    ("one bit too few at finishing", "bits-enough", "Finish.antt", "(suc (leadingZeros 32 r))\n", "(leadingZeros 32 r)\n"),
+    ("left-over bits a byte too low", "or-tidy", "Finish.antt",
+     "set (r .buf) (length (r .buf) - suc (r .end)) (bitOr (getD (r .buf) (length (r .buf) - suc (r .end)) 0) x)",
+     "set (r .buf) (length (r .buf) - suc (suc (r .end))) (bitOr (getD (r .buf) (length (r .buf) - suc (suc (r .end))) 0) x)"),
+    ("the reader's bit test is off by one", "bit-holds", "Reader.antt", "cond (ltb val (rng / 2 ^ lp)) 1 0", "cond (ltb val (suc (rng / 2 ^ lp))) 1 0"),
+    ("the writer's total does not count a turn", "loose-shift", "Writer.antt", "(shiftOut (w .front))) (w .total + 8)", "(shiftOut (w .front))) (w .total)"),
+    ("a dropped byte is no error", "put-full", "Room.antt", "end = r .end; err = 1 }", "end = r .end; err = r .err }"),
+    ("the middle is not cleared", "clear-tidy", "Finish.antt", "replicate (length (r .buf) - r .end - r .offs) 0 ++",
+     "drop (r .offs) (take (length (r .buf) - r .end) (r .buf)) ++"),
+]
+
+
+REFUSED = re.compile(r"crates/(\w+)/\S+\.antt:\d+:\d+: (?:error: )?`([^`]+)`(?: is not admitted|: (?!`[^`]+` was not admitted))")
+
+
+def check(tree):
+    """Whether roundtrip is proved; the crates and laws that are refused; all that was said."""
+    run = subprocess.run(["rt", "dev", "roundtrip"], cwd=tree, capture_output=True, text=True, env=dict(os.environ, RT_JOBS="1", RT_CUT="0"))
+    said = run.stdout + run.stderr
+    return run.returncode == 0, list(dict.fromkeys(REFUSED.findall(said))), said
+
+
+def main():
+    failed = 0
+    with tempfile.TemporaryDirectory() as tmp:
+        tree = os.path.join(tmp, "tree")
+        shutil.copytree(os.path.join(ROOT, "crates"), os.path.join(tree, "crates"))
+        shutil.copy(os.path.join(ROOT, "crates.txt"), tree)
+        ok, laws, said = check(tree)
+        if not ok:
+            print("the tree as it stands is refused:\n" + said)
+            return 1
+        for name, law, file, right, wrong in EDITS:
+            path = os.path.join(tree, SPECS, file)
+            with open(path) as f:
+                text = f.read()
+            if text.count(right) != 1:
+                print("DOES NOT APPLY  %s" % name, flush=True)
+                failed += 1
+                continue
+            with open(path, "w") as f:
+                f.write(text.replace(right, wrong))
+            ok, laws, said = check(tree)
+            with open(path, "w") as f:
+                f.write(text)
+            names = [refused for _, refused in laws]
+            if ok or law not in names:
+                print("%s  %s" % ("ACCEPTED" if ok else "NOT REFUSED BY " + law, name), flush=True)
+                failed += 1
+            else:
+                print("refused  %s: %s %s" % (name, laws[0][0], ", ".join(names)), flush=True)
+    print("%d edits, %d not refused" % (len(EDITS), failed))
+    return 1 if failed else 0
+
+
+if __name__ == "__main__":
+    sys.exit(main())
