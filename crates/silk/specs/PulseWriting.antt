@@ -1,16 +1,24 @@
 -- What the pulse writer writes (document 01): pulses, a rate level and each block's shift make an excitation, whose symbols along the syntax are
 -- written; the shift of a block is the smallest that its symbols allow. Assumes nothing.
-use Prim.Native.Nat.{ℕ, zero, suc, _+_, _*_, _/_, _^_}
-use mathlib.Core.Bool.{Bool, true, _&&_, cond}
+use Prim.Native.Nat.{ℕ, zero, suc, _*_, _/_, _^_}
+use mathlib.Core.Bool.{Bool, _&&_, cond}
 use mathlib.Core.List.{List, [], _∷_, _++_, map}
 use lib.Dec.{eqb, leb}
 use lib.IntN.{ℤ, pos, natAbs}
+use lib.ListN.{length}
 use Rattle.lists.specs.Every.{every}
+use Rattle.refusals.specs.First.{firstOf}
 use Rattle.sheet.specs.Directory.{rateRow}
 use Rattle.entcode.specs.Models.{Sym}
+use Rattle.entcode.specs.Flat.{Out}
+use Rattle.entcode.specs.Sound.{gateW}
 use Rattle.entcode.specs.Rules.{sayRule}
+use Rattle.entcode.specs.Writing.{Sent, answered}
 use Rattle.tree.specs.Asks.{symbols}
+use Rattle.tree.specs.Telling.{writtenAll, allSaid}
 use Rattle.silk.specs.PulseSyntax.{row, Block, Excitation, each, count, total, shell, lowBits, signRowOf, sign, excitation}
+use Rattle.silk.specs.PulseBlocks.{rows16}
+use Rattle.silk.specs.FrameCalls.{pulseNumbersOk, blocksOf}
 
 -- ---- a block with j low bits
 
@@ -29,13 +37,9 @@ blockSays level signal offset j p =
     ++ (symbols (map natAbs p) (each 0 (lowBits j) (shiftedBy j p))
     ++ symbols p (each (pos 0) (sign (signRowOf signal offset (total (shiftedBy j p)))) (map natAbs p))))
 
--- a symbol that has a probability
-abbrev pub sayable : Sym → Bool
-sayable s = eqb (sayRule (s .model) (s .value)) 0
-
 -- the shifted magnitudes total at most 16, and every symbol has a probability
 unfoldable pub shiftOk : ℕ → ℕ → ℕ → List ℤ → ℕ → Bool
-shiftOk level signal offset p j = leb (total (shiftedBy j p)) 16 && every sayable (blockSays level signal offset j p)
+shiftOk level signal offset p j = leb (total (shiftedBy j p)) 16 && allSaid (blockSays level signal offset j p)
 
 -- the first of n numbers from j on that passes a test, or the one behind them
 unfoldable pub firstFrom : (ℕ → Bool) → ℕ → ℕ → ℕ
@@ -61,7 +65,32 @@ excited rate shifts ps = record { rate = rate; blocks = blocksBy shifts ps; puls
 abbrev pub pulsesSay : ℕ → ℕ → ℕ → ℕ → List ℕ → List (List ℤ) → List Sym
 pulsesSay signal offset n rate shifts ps = symbols (excited rate shifts ps) (excitation signal offset n)
 
+-- each block's smallest shift
+abbrev pub shiftsOf : ℕ → ℕ → ℕ → List (List ℤ) → List ℕ
+shiftsOf rate signal offset ps = map (smallest rate signal offset) ps
+
 -- 8 exactly if some block has no shift or the rate level no probability
 unfoldable pub writeRule : ℕ → ℕ → ℕ → List (List ℤ) → ℕ
 writeRule signal offset rate ps =
     cond (eqb (sayRule (row (rateRow signal)) rate) 0 && every (λ p. leb (smallest rate signal offset p) 10) ps) 0 8
+
+-- ---- the call
+
+-- 4 for a number, the rate level among them, then 6 for a slice that is not exactly 16 x blocks long
+unfoldable pub writeNumbers : ℕ → ℕ → ℕ → ℕ → ℕ → ℕ → ℕ
+writeNumbers n khz subframes signal offset rate =
+    cond (pulseNumbersOk khz subframes signal offset && leb rate 8) (cond (eqb n (16 * blocksOf khz subframes)) 0 6) 4
+
+abbrev pub pulseBlocks : List ℤ → ℕ → ℕ → List (List ℤ)
+pulseBlocks p khz subframes = rows16 (blocksOf khz subframes) p
+
+abbrev pub encodeRule : Out → List ℤ → ℕ → ℕ → ℕ → ℕ → ℕ → ℕ
+encodeRule o p khz subframes signal offset rate =
+    firstOf (gateW (o .buf) (o .state))
+    (firstOf (writeNumbers (length p) khz subframes signal offset rate) (writeRule signal offset rate (pulseBlocks p khz subframes)))
+
+unfoldable pub encodePulses : Out → List ℤ → ℕ → ℕ → ℕ → ℕ → ℕ → Sent
+encodePulses o p khz subframes signal offset rate =
+    answered (encodeRule o p khz subframes signal offset rate) o 0
+    (writtenAll o
+    (pulsesSay signal offset (blocksOf khz subframes) rate (shiftsOf rate signal offset (pulseBlocks p khz subframes)) (pulseBlocks p khz subframes)))

@@ -1,21 +1,25 @@
 -- What a pulse writer says means the same pulses to a reader: each part of the syntax, said by what it is to give, gives that. Assumes nothing.
 use Prim.Native.Nat.{ℕ, zero, suc, _+_, _-_, _*_, _/_, _%_, _^_, _<_, _≤_}
 use mathlib.Core.Path.{_≡_, refl, sym, ap, _∙_}
-use mathlib.Core.Bool.{false}
+use mathlib.Core.Bool.{Bool, true, false}
 use mathlib.Core.List.{List, [], _∷_, _++_, map}
 use native.Mathlib.Nat.{pow-suc, div-one, div-div-eq-div-mul}
 use native.Mathlib.Omega.{arith}
-use borrow.Author.Tests.{lt-ltb, le-ltb, ne-eqb}
-use lib.Dec.{ltb}
+use borrow.Author.Tests.{lt-ltb, le-ltb, ne-eqb, leb-true}
+use lib.Dec.{leb, ltb}
 use lib.IntN.{ℤ, pos, negsuc, natAbs}
 use lib.ListN.{length, take, drop, length-drop, length-map, take-append-drop}
 use lib.Seq.{length-take-le}
-use Rattle.tests.specs.Choice.{by-lt}
+use Rattle.tests.specs.Both.{and-both}
+use Rattle.tests.specs.Choice.{chosen, by-lt}
+use Rattle.lists.specs.Every.{every}
+use Rattle.lists.specs.All.{All}
 use Rattle.entcode.specs.declared.Dec.{Dec}
 use Rattle.tree.specs.Asks.{Asks, done, then, of, Got, got, run, meant, Gives}
 use Rattle.tree.specs.AsksLaws.{meant-then, meant-of, written-reads-back}
 use Rattle.silk.specs.PulseSyntax.{Block, Excitation, headOf, tailOf, each, countSaid, lowCounts, count, counts, total, split, shell, lowBits, blockLows, signRowOf, sign, blockSigns, magnitudes, shifted, excitation}
-use Rattle.silk.specs.PulseWriting.{shiftedBy, blockBy, blocksBy, excited, pulsesSay}
+use Rattle.silk.specs.PulseBlocks.{Sixteen}
+use Rattle.silk.specs.PulseWriting.{shiftedBy, blockBy, shiftOk, firstFrom, smallest, blocksBy, excited, pulsesSay, shiftsOf}
 
 -- ---- counts
 
@@ -162,6 +166,34 @@ signs-meant signal offset (j ∷ js) [] a = absurd a
 signs-meant signal offset (j ∷ js) (p ∷ ps) a =
     cons-meant [] p ps (each (pos 0) (sign (signRowOf signal offset (total (shiftedBy j p)))) (map natAbs p)) (blockSigns signal offset (blocksBy js ps) (whole ps))
     (each-meant (pos 0) (sign (signRowOf signal offset (total (shiftedBy j p)))) natAbs (sign-meant (signRowOf signal offset (total (shiftedBy j p)))) p) (signs-meant signal offset js ps (a .1))
+
+-- the first number that passes a test passes it, and none before it does
+first-passes : (ok : ℕ → Bool) (n j : ℕ) → firstFrom ok n j < n + j → ok (firstFrom ok n j) ≡ true
+unfolding firstFrom
+first-passes ok zero j = λ h. absurd (omega arith)
+first-passes ok (suc n) j =
+    chosen (λ (k : ℕ). k < suc n + j → ok k ≡ true) (ok j) (λ t h. t) (λ t h. first-passes ok n (suc j) (omega arith))
+
+pub first-least : (ok : ℕ → Bool) (n j i : ℕ) → j ≤ i → i < firstFrom ok n j → ok i ≡ false
+unfolding firstFrom
+first-least ok zero j i l = λ h. absurd (omega arith)
+first-least ok (suc n) j i l =
+    chosen (λ (k : ℕ). i < k → ok i ≡ false) (ok j) (λ t h. absurd (omega arith))
+    (λ t h. by-lt j i (λ p. first-least ok n (suc j) i p h) (λ p. let e : i ≡ j = omega arith in rw e t))
+
+-- a shift of at most 10 that was found suits its block
+smallest-suits : (rate signal offset : ℕ) (p : List ℤ) → length p ≡ 16 → smallest rate signal offset p ≤ 10 → Suits (smallest rate signal offset p) p
+unfolding shiftOk
+smallest-suits rate signal offset p e h =
+    let t = first-passes (shiftOk rate signal offset p) 11 0 (omega arith) in
+    record { size = e; few = h; most = leb-true _ _ (and-both (leb (total (shiftedBy (smallest rate signal offset p) p)) 16) _ t .0) }
+
+pub shifts-suit : (rate signal offset : ℕ) (ps : List (List ℤ)) → All Sixteen ps → every (λ p. leb (smallest rate signal offset p) 10) ps ≡ true
+    → AllSuit (shiftsOf rate signal offset ps) ps
+shifts-suit rate signal offset [] w t = tt
+shifts-suit rate signal offset (p ∷ ps) w t =
+    let q = and-both (leb (smallest rate signal offset p) 10) (every (λ p. leb (smallest rate signal offset p) 10) ps) t in
+    (smallest-suits rate signal offset p (w .0) (leb-true _ _ (q .0)), shifts-suit rate signal offset ps (w .1) (q .1))
 
 -- what the writer says of pulses means these pulses, at the rate level and with the shifts given
 module _ (signal offset rate : ℕ) (js : List ℕ) (ps : List (List ℤ)) (a : AllSuit js ps) where
