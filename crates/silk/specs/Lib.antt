@@ -16,3 +16,5 @@ pub mod IndexCalls
 pub mod IndexCases
 pub mod IndexWriting
 pub mod PulseCallLaws
+pub mod PulseWriting
+pub mod PulseWritten
