@@ -90,6 +90,35 @@ tg_written tg_enc_bits(uint8_t *buf, size_t len, tg_writer w, uint32_t value, ui
  * Refusals 1 to 3. */
 tg_written tg_enc_done(uint8_t *buf, size_t len, tg_writer w);
 
+/* The side indices of a frame. */
+typedef struct {
+    int8_t gains[4], ltp[4], nlsf[17];
+    int16_t lag;
+    int8_t contour, signal_type, offset_type, interp, period, ltp_scale, seed;
+} tg_indices;
+
+typedef struct {
+    uint32_t refusal;
+    tg_reader state;
+    tg_indices record;
+    uint32_t prev_type;
+    int16_t prev_lag;
+} tg_indices_read;
+
+/* The side indices of a frame: khz 8, 12 or 16; 2 or 4 subframes; active 0 or 1; mode 0 independent,
+ * 1 independent without a scale of its own, 2 conditional; prev_type and prev_lag of the frame before,
+ * answered anew for the next. Fields of the record that the frame does not code stay as they were.
+ * Refusals 1 to 4; a refusal answers record, prev_type and prev_lag as they came. */
+tg_indices_read tg_decode_indices(const uint8_t *packet, size_t len, tg_reader r, tg_indices record, uint32_t khz,
+                                  uint32_t subframes, uint32_t active, uint32_t mode, uint32_t prev_type,
+                                  int16_t prev_lag);
+
+/* The pulses of a frame: n is 16 x its blocks, (5 x khz x subframes + 15) / 16 of them; signal_type 0
+ * to 2, offset_type 0 or 1. Whatever the pulses held does not matter. Refusals 1 to 4, and 6 (n); a
+ * refusal leaves the pulses as they are. */
+tg_read tg_decode_pulses(const uint8_t *packet, size_t len, tg_reader r, int16_t *pulses, size_t n, uint32_t khz,
+                         uint32_t subframes, uint32_t signal_type, uint32_t offset_type);
+
 /* The spectrum indices of a frame: index[0] picks a book's vector, the others one residual each. */
 typedef struct {
     int8_t index[17];

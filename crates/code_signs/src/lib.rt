@@ -1,7 +1,7 @@
 // The signs of a block's pulses (RFC 6716, section 4.2.7.8.5): one for each place that is not 0; symbol 0 is minus. Names as in the crate's
 // code_signs.rs. The block's row is lent.
 ghost use mathlib.Core.Path.{_≡_};
-ghost use Prim.Native.Nat.{_+_, _^_, _<_, _≤_};
+ghost use Prim.Native.Nat.{_^_, _<_, _≤_};
 ghost use lib.IntN.{pos, natAbs};
 ghost use lib.ListN.{length};
 ghost use Rattle.icdf.specs.Rule.{Icdf};
@@ -26,10 +26,7 @@ fn decode_sign(packet: &[u8], d: Dec, row: &[u8], m: i16) -> SignRead
     ensures { λ a. ⌜ Ran (now (packet .entry)) d (sign (now (row .entry)) (natAbs m)) 16 (a .pulse) (a .state) ⌝ }
 {
     if m == 0 {
-        return SignRead {
-            pulse: 0,
-            state: d,
-        };
+        return SignRead { pulse: 0, state: d };
     }
     let a = entdec_run::ec_dec_icdf8_run(packet, d, row);
     let state = a.state;

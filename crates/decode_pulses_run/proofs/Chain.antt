@@ -1,5 +1,5 @@
 -- The parts of an excitation, read one after the other, are the excitation (RFC 6716, section 4.2.7.8). Assumes nothing.
-use Prim.Native.Nat.{ℕ, _+_, _*_, _≤_}
+use Prim.Native.Nat.{ℕ, _*_, _≤_}
 use mathlib.Core.Path.{_≡_, subst, _∙_}
 use mathlib.Core.List.{List, flatten, map-id}
 use native.Mathlib.Omega.{arith}
@@ -23,13 +23,13 @@ module _ (b r : List ℕ) (d : Dec) (a : Decoded) (signal offset n : ℕ) (c l :
   unfolding excitation
   chain e h f t u v =
       let lowered : Ran b z₂ (blockLows (blocksFrom c l 0 n) (t .results)) 51200 (u .results) z₃ =
-          ran-within (omega arith)
-          (subst (λ (m : List (List ℕ)). Ran b z₂ (blockLows (blocksFrom c l 0 n) m) (2560 * n) (u .results) z₃)
-          (turned-rows Small (λ w k. k .size) b z₁ _ 240 p z₂ n t) (u .ran)) in
+      ran-within (omega arith)
+      (subst (λ (m : List (List ℕ)). Ran b z₂ (blockLows (blocksFrom c l 0 n) m) (2560 * n) (u .results) z₃)
+      (turned-rows Small (λ w k. k .size) b z₁ _ 240 p z₂ n t) (u .ran)) in
       let signed : Ran b z₃ (blockSigns signal offset (blocksFrom c l 0 n) (u .results)) 5120 (v .results) z₄ =
-          ran-within (omega arith)
-          (subst (λ (m : List (List ℕ)). Ran b z₃ (blockSigns signal offset (blocksFrom c l 0 n) m) (256 * n) (v .results) z₄)
-          (turned-rows Sixteen (λ w k. k) b z₂ _ 2560 q z₃ n u) (v .ran)) in
+      ran-within (omega arith)
+      (subst (λ (m : List (List ℕ)). Ran b z₃ (blockSigns signal offset (blocksFrom c l 0 n) m) (256 * n) (v .results) z₄)
+      (turned-rows Sixteen (λ w k. k) b z₂ _ 2560 q z₃ n u) (v .ran)) in
       record {
         value = record { rate = a .value; blocks = blocksFrom c l 0 n; pulses = v .results };
         ran = ran-ask e h

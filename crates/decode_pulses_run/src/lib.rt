@@ -33,14 +33,7 @@ fn shells(packet: &[u8], rows: &[u8], x: BlocksRead, pulses: &mut [i16], n: usiz
 }
 
 // The low bits of n blocks.
-fn lows(
-    packet: &[u8],
-    from: Dec,
-    rows: &[u8],
-    x: BlocksRead,
-    pulses: &mut [i16],
-    n: usize,
-) -> Dec
+fn lows(packet: &[u8], from: Dec, rows: &[u8], x: BlocksRead, pulses: &mut [i16], n: usize) -> Dec
     requires { ⌜ Core (now packet) from ⌝ }
     requires { ⌜ from .total ≤ 2 ^ 26 ⌝ }
     requires { ⌜ PulseRows (now rows) ⌝ }

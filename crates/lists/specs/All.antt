@@ -9,3 +9,7 @@ module _ {A : Type 0} (P : A → Type 0) where
   pub all-snoc : (xs : List A) (x : A) → All xs → P x → All (xs ++ (x ∷ []))
   all-snoc [] x h p = (p, tt)
   all-snoc (y ∷ xs) x h p = (h .0, all-snoc xs x (h .1) p)
+
+  pub all-append : (xs ys : List A) → All xs → All ys → All (xs ++ ys)
+  all-append [] ys h k = k
+  all-append (x ∷ xs) ys h k = (h .0, all-append xs ys (h .1) k)

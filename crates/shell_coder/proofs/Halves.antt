@@ -1,11 +1,11 @@
 -- Two halves of a slice, lent one after the other: the second is as long as the first, and what comes back is both. Assumes nothing.
-use Prim.Native.Nat.{ℕ, _+_, _-_}
-use mathlib.Core.Path.{_≡_, sym, ap, _∙_}
-use mathlib.Core.List.{List, [], _∷_, _++_, append-nil}
+use Prim.Native.Nat.{ℕ, _+_}
+use mathlib.Core.Path.{_≡_, ap}
+use mathlib.Core.List.{List, _++_, append-nil}
 use native.Mathlib.Omega.{arith}
 use lib.IntN.{ℤ}
 use lib.ListN.{length, take, drop, length-drop, drop-of-length-le}
-use lib.Seq.{take-at, drop-at, length-take-le, take-all}
+use lib.Seq.{take-at, drop-at, length-take-le}
 
 module _ (h : ℕ) (s y z : List ℤ) (size : length s ≡ h + h) (left : length y ≡ h) where
   behind : drop h (y ++ drop h s) ≡ drop h s

@@ -76,13 +76,7 @@ fn shell_8(packet: &[u8], d: Dec, rows: &[u8], places: &mut [i16], p: u32) -> De
 }
 
 // The p pulses of a block of 16 places.
-pub fn silk_shell_decoder_run(
-    packet: &[u8],
-    d: Dec,
-    rows: &[u8],
-    places: &mut [i16],
-    p: u32,
-) -> Dec
+pub fn silk_shell_decoder_run(packet: &[u8], d: Dec, rows: &[u8], places: &mut [i16], p: u32) -> Dec
     requires { ⌜ Core (now packet) d ⌝ }
     requires { ⌜ d .total ≤ 2 ^ 27 ⌝ }
     requires { ⌜ PulseRows (now rows) ⌝ }

@@ -15,3 +15,4 @@ pub mod FrameCalls
 pub mod IndexCalls
 pub mod IndexCases
 pub mod IndexWriting
+pub mod PulseCallLaws

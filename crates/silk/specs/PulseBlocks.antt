@@ -1,6 +1,6 @@
 -- Loops over the blocks of a frame, 16 places each, in one slice: what was read stands in front, what is still to be worked on behind it, and the
 -- tree has come as far. Assumes nothing.
-use Prim.Native.Nat.{ℕ, zero, suc, _+_, _-_, _*_, _<_, _≤_}
+use Prim.Native.Nat.{ℕ, zero, suc, _+_, _-_, _*_, _≤_}
 use mathlib.Core.Path.{_≡_, refl, sym, ap, subst, _∙_}
 use mathlib.Core.List.{List, [], _∷_, _++_, map, flatten, map-append, append-assoc, append-nil}
 use native.Mathlib.Omega.{arith}

@@ -1,8 +1,8 @@
 -- Loops over the places of a block, and over blocks of 16 places, in one slice: what was read stands in front, what is still to be worked on
 -- behind it, and the tree has come as far. Assumes nothing.
-use Prim.Native.Nat.{ℕ, zero, suc, _+_, _-_, _*_, _<_, _≤_}
+use Prim.Native.Nat.{ℕ, suc, _+_, _*_, _<_, _≤_}
 use mathlib.Core.Path.{_≡_, refl, sym, ap, subst, _∙_}
-use mathlib.Core.List.{List, [], _∷_, _++_, map, flatten, map-append, append-assoc, append-nil}
+use mathlib.Core.List.{List, [], _∷_, _++_, map, map-append, append-assoc, append-nil}
 use native.Mathlib.Numerals.{add-one}
 use native.Mathlib.Omega.{arith}
 use lib.IntN.{ℤ, pos, natAbs}
@@ -10,9 +10,9 @@ use lib.ListN.{length, getD, drop, set, length-append, length-map}
 use lib.Seq.{drop-cons, set-at, getD-at}
 use Rattle.entcode.specs.declared.Dec.{Dec}
 use Rattle.entcode.specs.ReaderLaws.{Core}
-use Rattle.tree.specs.Asks.{Asks, got, run}
+use Rattle.tree.specs.Asks.{Asks, run}
 use Rattle.tree.specs.Ran.{Ran}
-use Rattle.tree.specs.Through.{Through, before, through-start, through-next, through-end}
+use Rattle.tree.specs.Through.{Through, through-start, through-next, through-end}
 use Rattle.silk.specs.PulseSyntax.{each}
 use Rattle.silk.specs.PulseSteps.{each-next, each-end}
 

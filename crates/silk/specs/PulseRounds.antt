@@ -1,5 +1,5 @@
 -- The three loops over the blocks of a frame, turn by turn: splits fill the slice, low bits and signs work on the magnitudes in it. Assumes nothing.
-use Prim.Native.Nat.{ℕ, zero, suc, _+_, _-_, _*_, _<_, _≤_}
+use Prim.Native.Nat.{ℕ, _+_, _-_, _*_, _<_, _≤_}
 use mathlib.Core.Path.{_≡_, refl, sym, ap, subst, _∙_}
 use mathlib.Core.List.{List, [], _∷_, _++_, map, flatten, map-append}
 use native.Mathlib.Nat.{sub-zero}
@@ -90,7 +90,7 @@ module _ (b : List ℕ) (d₀ : Dec) (c l : List ℕ) (n : ℕ) where
 module _ {Q T A : Type 0} (f : A → ℤ) (P : List ℕ → Type 0) (wide : (v : List ℕ) → P v → length v ≡ 16) (t : Block → List ℕ → Asks T (List A))
     (tree : List Block → List (List ℕ) → Asks Q (List (List A))) (w : ℕ)
     (one-more : (b : List ℕ) (d z : Dec) (k : Block) (bs : List Block) (v : List ℕ) (vs : List (List ℕ)) (x : List A)
-      → run b d (t k v) ≡ got x z → run b d (tree (k ∷ bs) (v ∷ vs)) ≡ before (x ∷ []) (run b z (tree bs vs)))
+    → run b d (t k v) ≡ got x z → run b d (tree (k ∷ bs) (v ∷ vs)) ≡ before (x ∷ []) (run b z (tree bs vs)))
     (no-block : (b : List ℕ) (d : Dec) (vs : List (List ℕ)) → run b d (tree [] vs) ≡ got [] d)
     (b : List ℕ) (d₀ : Dec) (c l : List ℕ) (ms : List (List ℕ)) (n : ℕ) where
   -- i blocks are worked on
@@ -150,7 +150,7 @@ module _ {Q T A : Type 0} (f : A → ℤ) (P : List ℕ → Type 0) (wide : (v :
   working-next s d i g h x y z k e q m r =
       let p = here s d i g h in
       let u : Ran b d (t (blockAt c l i) (p .value)) k x z =
-          subst (λ (v : List ℕ). Ran b d (t (blockAt c l i) v) k x z) (ap mags (here-part s d i g h) ∙ mags-pos (p .value)) r in
+      subst (λ (v : List ℕ). Ran b d (t (blockAt c l i) v) k x z) (ap mags (here-part s d i g h) ∙ mags-pos (p .value)) r in
       let next = tree (blocksFrom c l (i + 1) (n - (i + 1))) (p .others) in
       record {
         left = p .others;

@@ -3,19 +3,24 @@
 use Prim.Native.Nat.{ℕ, _+_, _-_, _*_, _≤_, _<_}
 use mathlib.Core.Path.{_≡_, refl, sym, ap, _∙_}
 use mathlib.Core.Bool.{Bool, true, false, cond}
-use mathlib.Core.List.{List, [], _∷_}
+use mathlib.Core.List.{List, [], _∷_, flatten}
 use native.Mathlib.Omega.{arith}
 use borrow.Author.Tests.{eq-eqb}
 use lib.Dec.{eqb}
 use lib.ListN.{length, take, drop}
 use lib.Seq.{drop-drop}
 use Rattle.icdf.specs.Rule.{Icdf}
+use Rattle.sheet.specs.Rows.{pulseRows}
 use Rattle.sheet.specs.Directory.{rowOf, countRow, lastCountRow, lowBitRow, signRow}
 use Rattle.sheet.specs.Places.{sizes, starts, row-size, stands-in, lent, pulse-stands}
 use Rattle.sheet.specs.Families.{rate-stands, count-stands, sign-stands}
 use Rattle.sheet.specs.SheetRule.{row-good, last-count-is}
 use Rattle.silk.specs.PulseSyntax.{laterRow}
 use Rattle.silk.specs.PulseSteps.{PulseRows}
+
+pub pulse-rows : (l : List ℕ) → l ≡ flatten pulseRows → PulseRows l
+unfolding pulseRows flatten
+pulse-rows l e = record { is = e; size = ap length e }
 
 -- ---- counts
 

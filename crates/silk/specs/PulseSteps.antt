@@ -15,7 +15,7 @@ use Rattle.entcode.specs.declared.Decoded.{Decoded}
 use Rattle.entcode.specs.Models.{tab}
 use Rattle.entcode.specs.ReaderLaws.{Core}
 use Rattle.entcode.specs.ReadLaws.{Took}
-use Rattle.tree.specs.Asks.{Asks, done, then, of, got, run}
+use Rattle.tree.specs.Asks.{Asks, got, run}
 use Rattle.tree.specs.Ran.{Ran, asked, ran-ask, ran-bind, ran-done, ran-within}
 use Rattle.tree.specs.Through.{before, run-cons, ran-of}
 use Rattle.silk.specs.PulseSyntax.{Block, headOf, tailOf, each, laterRow, countSaid, lowCounts, count, counts, split, shell, lowBits, blockLows, signRowOf, sign, blockSigns}

@@ -4,11 +4,15 @@ ghost use Rattle.entcode.specs.Models.{bit, raw, num, tab};
 ghost use Rattle.entcode.specs.Reading.{decSym, decTell, decOpen};
 ghost use Rattle.entcode.specs.Flat.{out};
 ghost use Rattle.entcode.specs.Writing.{sent, encSym, encTell, encDone, encOpen};
+ghost use Rattle.silk.specs.Record.{settingOf};
+ghost use Rattle.silk.specs.FrameCalls.{decodeIndices, pulsed, decodePulses};
 ghost use Rattle.spectrum.specs.Calls.{stabiliseCall, decodeCall};
 use entcode::Dec;
 use entcode::Decoded;
 use entcode::Enc;
 use entcode::Encoded;
+use silk::Indices;
+use silk::IndicesRead;
 use spectrum::Moves;
 use spectrum::Spectrum;
 
@@ -111,6 +115,52 @@ pub extern "C" fn tg_enc_done(buf: &mut [u8], w: Enc) -> Encoded
     ensures { λ a. ⌜ sent (now (buf .exit)) a ≡ encDone (out (now (buf .entry)) w) ⌝ }
 {
     entenc::ec_enc_done(buf, w)
+}
+
+// ---- side indices
+
+#[no_mangle]
+pub extern "C" fn tg_decode_indices(
+    packet: &[u8],
+    r: Dec,
+    record: Indices,
+    khz: u32,
+    subframes: u32,
+    active: u32,
+    mode: u32,
+    prevtype: u32,
+    prevlag: i16,
+) -> IndicesRead
+    ensures { λ a. ⌜ a ≡ decodeIndices (now (packet .entry)) r «record» (settingOf khz subframes active mode prevtype prevlag) ⌝ }
+{
+    decode_indices::silk_decode_indices(
+        packet,
+        r,
+        record,
+        khz,
+        subframes,
+        active,
+        mode,
+        prevtype,
+        prevlag,
+    )
+}
+
+// ---- pulses
+
+#[no_mangle]
+pub extern "C" fn tg_decode_pulses(
+    packet: &[u8],
+    r: Dec,
+    pulses: &mut [i16],
+    khz: u32,
+    subframes: u32,
+    signal: u32,
+    offset: u32,
+) -> Decoded
+    ensures { λ a. ⌜ pulsed (now (pulses .exit)) a ≡ decodePulses (now (packet .entry)) r (now (pulses .entry)) khz subframes signal offset ⌝ }
+{
+    decode_pulses::silk_decode_pulses(packet, r, pulses, khz, subframes, signal, offset)
 }
 
 // ---- line spectra

@@ -51,8 +51,7 @@ decode-sign-requires c κs =
     let l = c .before .before .loop in
     let g = l .inv .going in
     let f : SFits w16 (getD (l .places) (l .k) (pos 0)) = sfits-of (c .m .given) in
-    let n : length (mags (b .args .places .now)) ≡ 16 = length-map (b .args .places .now) natAbs ∙ b .pre .1 .1 .1 .1 in
-    (
+    let n : length (mags (b .args .places .now)) ≡ 16 = length-map (b .args .places .now) natAbs ∙ b .pre .1 .1 .1 .1 in (
       g .through .core,
       (
         omega (arith, g .through .most, b .pre .1 .0),

@@ -1,8 +1,8 @@
 -- `lows` meets its contract. The invariant: i blocks have their low bits, and the tree has come as far. Assumes nothing.
 use borrow.Author.Needs.{needs}
-use Prim.Native.Nat.{ℕ, _+_, _-_, _*_, _<_, _≤_}
+use Prim.Native.Nat.{_+_, _-_, _*_, _<_, _≤_}
 use native.Mathlib.Omega.{arith}
-use mathlib.Core.Path.{_≡_, sym, ap, subst, _∙_}
+use mathlib.Core.Path.{sym, ap, subst, _∙_}
 use lib.IntN.{pos}
 use lib.ListN.{length, length-map}
 use Rattle.lists.specs.AtMost.{AtMost}
@@ -66,8 +66,7 @@ block-lows-run-requires c κs =
     let b = c .before .before .before .before .before .before .before in
     let l = c .before .before .before .before .loop in
     let g = l .inv .turning .through in
-    let o = working-here _ _ _ _ _ _ _ _ _ _ _ _ _ _ (l .pulses) (l .d) (l .i) (l .inv) (omega arith) in
-    (
+    let o = working-here _ _ _ _ _ _ _ _ _ _ _ _ _ _ (l .pulses) (l .d) (l .i) (l .inv) (omega arith) in (
       g .core,
       (
         omega (arith, g .most, b .pre .1 .0, b .pre .1 .1 .1 .0),

@@ -1,10 +1,10 @@
 -- `shells` meets its contract. The invariant: i blocks are split, and the tree has come as far. Assumes nothing.
 use borrow.Author.Needs.{needs}
-use Prim.Native.Nat.{ℕ, _+_, _-_, _*_, _≤_}
+use Prim.Native.Nat.{_+_, _-_, _*_}
 use native.Mathlib.Omega.{arith}
 use mathlib.Core.Path.{_≡_, _∙_}
 use borrow.Rule.Slice.PartMut.{mid-len}
-use lib.ListN.{length, getD}
+use lib.ListN.{length}
 use Rattle.silk.specs.PulseRounds.{Splitting, splitting-start, splitting-size, splitting-next, splitting-end}
 use Rattle.decode_pulses_run.proofs.shells.Statement.{statement}
 use Rattle.decode_pulses_run.proofs.shells.Tie as tie

@@ -100,8 +100,7 @@ silk-decode-signs-run-requires c κs =
     let l = c .before .before .before .before .before .loop in
     let g = l .inv .turning .through in
     let r = c .before .before .sign-row-at in
-    let o = working-here _ _ _ _ _ _ _ _ _ _ _ _ _ _ (l .pulses) (l .d) (l .i) (l .inv) (omega arith) in
-    (
+    let o = working-here _ _ _ _ _ _ _ _ _ _ _ _ _ _ (l .pulses) (l .d) (l .i) (l .inv) (omega arith) in (
       g .core,
       (
         omega (arith, g .most, b .pre .1 .0, b .pre .1 .1 .1 .0),

@@ -1,8 +1,8 @@
 -- `silk_decode_pulses_run` meets its contract: the parts in order. Assumes nothing.
 use borrow.Author.Needs.{needs}
-use Prim.Native.Nat.{_+_, _*_, _/_, _<_}
+use Prim.Native.Nat.{_+_, _/_, _<_}
 use native.Mathlib.Omega.{arith}
-use mathlib.Core.Path.{_≡_, sym, ap, _∙_}
+use mathlib.Core.Path.{ap, _∙_}
 use lib.ListN.{length}
 use Rattle.sheet.specs.Families.{rate-stands}
 use Rattle.sheet.specs.SheetRule.{row-good}
@@ -44,8 +44,7 @@ counts-run-requires c κs =
     let b = c .before .before .before .before .before in
     let a = c .before .ec-dec-icdf8-run .ensures in
     let k : b .args .signal / 2 < 2 = omega (arith, b .pre .1 .1 .1 .2) in
-    let e = rate-in (b .args .rows .now) (b .args .signal / 2) (b .pre .1 .1 .0) k in
-    (
+    let e = rate-in (b .args .rows .now) (b .args .signal / 2) (b .pre .1 .1 .0) k in (
       a .core,
       (
         omega (arith, a .most, b .pre .1 .0),
@@ -57,8 +56,7 @@ shells-requires : tie.Need-shells-requires
 shells-requires c κs =
     let b = c .before .before .before .before .before .before .before in
     let a = c .before .before .before .ec-dec-icdf8-run .ensures in
-    let f = c .before .counts-run .ensures in
-    (
+    let f = c .before .counts-run .ensures in (
       f .0 .core,
       (omega (arith, a .most, f .0 .most, b .pre .1 .0), (b .pre .1 .1 .0, (b .pre .1 .1 .1 .0, b .pre .1 .1 .1 .1, f .1 .0))),
     )
@@ -68,8 +66,7 @@ lows-requires c κs =
     let b = c .before .before .before .before .before .before .before .before .before .before in
     let a = c .before .before .before .before .before .before .ec-dec-icdf8-run .ensures in
     let f = c .before .before .before .before .counts-run .ensures in
-    let t = c .before .before .shells in
-    (
+    let t = c .before .before .shells in (
       t .ensures .ran .core,
       (
         omega (arith, a .most, f .0 .most, t .ensures .ran .most, b .pre .1 .0, b .pre .1 .1 .1 .0),
@@ -90,8 +87,7 @@ signs-requires c κs =
     let a = c .before .before .before .before .before .before .before .before .before .ec-dec-icdf8-run .ensures in
     let f = c .before .before .before .before .before .before .before .counts-run .ensures in
     let t = c .before .before .before .before .before .shells in
-    let u = c .before .before .lows in
-    (
+    let u = c .before .before .lows in (
       u .ensures .ran .core,
       (
         omega (arith, a .most, f .0 .most, t .ensures .ran .most, u .ensures .ran .most, b .pre .1 .0, b .pre .1 .1 .1 .0),
@@ -102,7 +98,7 @@ signs-requires c κs =
             b .pre .1 .1 .1 .2,
             b .pre .1 .1 .1 .3,
             turned-held Sixteen (λ w k. k) _ _ _ _ (u .last .1 .1 .1 .1 .0) _ (b .args .n) (u .ensures)
-            (u .kept .1 .1 .1 .1 .0 ∙ t .kept .1 .1 .1 .0 ∙ b .pre .1 .1 .1 .1),
+                (u .kept .1 .1 .1 .1 .0 ∙ t .kept .1 .1 .1 .0 ∙ b .pre .1 .1 .1 .1),
           ),
         ),
       ),

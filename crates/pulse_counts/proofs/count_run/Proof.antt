@@ -6,7 +6,6 @@ use native.Mathlib.Decide.{decLe}
 use native.Mathlib.Omega.{arith}
 use mathlib.Core.Path.{_≡_, refl, sym, ap, _∙_}
 use mathlib.Core.List.{List}
-use denote.Ref.{now}
 use lib.ListN.{length}
 use Rattle.sheet.specs.Directory.{countRow}
 use Rattle.sheet.specs.SheetRule.{row-good}
@@ -63,8 +62,7 @@ part-ec-dec-icdf8-run-end c = search needs
 
 ec-dec-icdf8-run-requires : tie.Need-ec-dec-icdf8-run-requires Inv-loop μ-loop
 ec-dec-icdf8-run-requires c κs =
-    let z = c .before .before .before in
-    (
+    let z = c .before .before .before in (
       z .pre .0,
       (omega (arith, z .pre .1 .0), rw (count-in (z .args .rows .now) (z .args .level) (z .pre .1 .1 .0) (omega arith)) (row-good (48 + z .args .level) (omega arith))),
     )

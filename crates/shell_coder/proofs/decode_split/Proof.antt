@@ -5,7 +5,6 @@ use native.Mathlib.Nat.{mul-le-mul}
 use native.Mathlib.Omega.{arith}
 use mathlib.Core.Path.{refl, ap, _∙_}
 use lib.ListN.{length}
-use denote.Ref.{now}
 use Rattle.sheet.specs.Places.{Stands, stands-in, lent}
 use Rattle.sheet.specs.Families.{shell-stands}
 use Rattle.sheet.specs.SheetRule.{row-good}

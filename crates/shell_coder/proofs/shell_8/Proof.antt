@@ -1,6 +1,5 @@
 -- `shell_8` meets its contract: a split, then each half. Assumes nothing.
 use borrow.Author.Needs.{needs}
-use Prim.Native.Nat.{_-_}
 use native.Mathlib.Omega.{arith}
 use mathlib.Core.Path.{_∙_}
 use lib.Seq.{length-take-le}
@@ -45,8 +44,7 @@ shell-4-requires-2 : tie.Need-shell-4-requires-2
 shell-4-requires-2 c κs =
     let b = c .before .before .before .before .before .before .before in
     let a = c .before .before .before .before .decode-split .ensures in
-    let f = c .before .before .shell-4 in
-    (
+    let f = c .before .before .shell-4 in (
       f .ensures .ran .core,
       (
         omega (arith, a .0 .most, f .ensures .ran .most, b .pre .1 .0),
@@ -55,7 +53,7 @@ shell-4-requires-2 c κs =
           (
             omega (arith, b .pre .1 .1 .1 .0),
             second-half 4 (b .args .places .now) (f .last .1 .1 .1 .0) (f .last .1 .1 .1 .0) (b .pre .1 .1 .1 .1)
-            (f .kept .1 .1 .1 .0 ∙ length-take-le 4 (b .args .places .now) (omega (arith, b .pre .1 .1 .1 .1))),
+                (f .kept .1 .1 .1 .0 ∙ length-take-le 4 (b .args .places .now) (omega (arith, b .pre .1 .1 .1 .1))),
           ),
         ),
       ),
