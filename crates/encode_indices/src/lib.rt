@@ -1,1 +1,1 @@
-// Laws alone so far: which records the index writer accepts, field by field.
+// Laws alone so far: a record may be written exactly where each field of its frame lies in its range (document 01, "Side indices").

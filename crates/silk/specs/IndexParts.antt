@@ -181,7 +181,7 @@ pub record NlsfRead (order : ℕ) (l m : List ℤ) : Type 0 where
   pub residuals : (k : ℕ) → 1 ≤ k → k ≤ order → natAbs (getD m k (pos 0)) ≤ 10
   pub kept : (k : ℕ) → order < k → getD m k (pos 0) ≡ getD l k (pos 0)
 
-order-most : (khz : ℕ) → bookOf khz .order ≤ 16
+pub order-most : (khz : ℕ) → bookOf khz .order ≤ 16
 order-most khz = chosen (λ (b : Book). b .order ≤ 16) (eqb khz 16) (λ e. omega (arith, wide-shaped .order)) (λ e. omega (arith, narrow-shaped .order))
 
 pub spectrum-end : (khz signal : ℕ) (x : Indices) → Rate khz → signal < 3 → length (x .nlsf) ≡ 17
@@ -234,10 +234,10 @@ data Lagged (relative : Bool) (khz : ℕ) (x : Indices) : Indices → Type 0 whe
 all-rows : IndexRows (flatten indexRows)
 all-rows = index-rows (flatten indexRows) refl
 
-lag-low-size : (khz : ℕ) → Rate khz → length (rowOf (38 + khz / 2 - khz / 2 / 8)) ≡ khz / 2
+pub lag-low-size : (khz : ℕ) → Rate khz → length (rowOf (38 + khz / 2 - khz / 2 / 8)) ≡ khz / 2
 lag-low-size khz r = let t = lag-low-row all-rows khz (lagLowStart khz) r refl in sym (ap length (t .is)) ∙ t .size
 
-contour-size : (khz subframes : ℕ) → Rate khz → Subframes subframes → length (rowOf (31 + (khz / 12 * 2 + subframes / 2))) ≡ contourSize khz subframes
+pub contour-size : (khz subframes : ℕ) → Rate khz → Subframes subframes → length (rowOf (31 + (khz / 12 * 2 + subframes / 2))) ≡ contourSize khz subframes
 contour-size khz n r f =
     let t = contour-row all-rows khz n (contourStart khz n) (contourSize khz n) r f refl refl in sym (ap length (t .is)) ∙ t .size
 
@@ -246,12 +246,12 @@ lag-most khz h l eight p q = omega arith
 lag-most khz h l twelve p q = omega arith
 lag-most khz h l sixteen p q = omega arith
 
-low-index : {khz : ℕ} → Rate khz → 38 + khz / 2 - khz / 2 / 8 < 46
+pub low-index : {khz : ℕ} → Rate khz → 38 + khz / 2 - khz / 2 / 8 < 46
 low-index eight = omega arith
 low-index twelve = omega arith
 low-index sixteen = omega arith
 
-contour-index : {khz n : ℕ} → Rate khz → Subframes n → 31 + (khz / 12 * 2 + n / 2) < 46
+pub contour-index : {khz n : ℕ} → Rate khz → Subframes n → 31 + (khz / 12 * 2 + n / 2) < 46
 contour-index eight f = omega (arith, subframes-most f)
 contour-index twelve f = omega (arith, subframes-most f)
 contour-index sixteen f = omega (arith, subframes-most f)

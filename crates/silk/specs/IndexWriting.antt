@@ -2,14 +2,14 @@
 -- says along the frame's syntax, started from the record itself. Refused with 8 exactly if one of them cannot be written, or if they mean another
 -- record. Assumes nothing.
 use Prim.Native.Nat.{ℕ}
-use mathlib.Core.Path.{_≡_, refl, ap, subst, _∙_}
+use mathlib.Core.Path.{_≡_, refl, sym, ap, subst, _∙_}
 use mathlib.Core.Bool.{Bool, true, false, _&&_, cond}
 use mathlib.Core.List.{List, [], _∷_}
 use native.Mathlib.Omega.{arith}
 use borrow.Author.Tests.{eqb-true, eq-eqb, ne-eqb}
 use lib.Dec.{eqb}
 use lib.IntN.{ℤ, natAbs}
-use Rattle.tests.specs.Both.{and-both}
+use Rattle.tests.specs.Both.{and-both, both-and}
 use Rattle.ints.specs.Parts.{up, down}
 use Rattle.ints.specs.Order.{parts-same}
 use Rattle.refusals.specs.First.{firstOf, first-none}
@@ -91,6 +91,24 @@ same-numbers (a ∷ l) (b ∷ m) e =
     let u : a ≡ b = same-number a b (p .0) in
     let v : l ≡ m = same-numbers l m (p .1) in
     cc
+
+number-same : (a : ℤ) → sameZ a a ≡ true
+number-same a = both-and (eqb (up a) (up a)) (eqb (down a) (down a)) (eq-eqb (up a) (up a) refl) (eq-eqb (down a) (down a) refl)
+
+numbers-same : (l : List ℤ) → sameZs l l ≡ true
+numbers-same [] = refl
+numbers-same (a ∷ l) = both-and (sameZ a a) (sameZs l l) (number-same a) (numbers-same l)
+
+pub same-sure : (x y : Indices) → x ≡ y → sameIndices x y ≡ true
+unfolding sameIndices
+same-sure x y e = subst (λ (z : Indices). sameIndices z y ≡ true) (sym e) (itself y)
+  where
+    itself : (y : Indices) → sameIndices y y ≡ true
+    itself y =
+        both-and (sameZs (y .gains) (y .gains)) _ (numbers-same (y .gains)) (both-and (sameZs (y .ltp) (y .ltp)) _ (numbers-same (y .ltp)) (both-and (sameZs (y .nlsf) (y .nlsf)) _ (numbers-same (y .nlsf))
+        (both-and (sameZ (y .lag) (y .lag)) _ (number-same (y .lag)) (both-and (sameZ (y .contour) (y .contour)) _ (number-same (y .contour)) (both-and (sameZ (y .signal) (y .signal)) _ (number-same (y .signal))
+        (both-and (sameZ (y .offset) (y .offset)) _ (number-same (y .offset)) (both-and (sameZ (y .interp) (y .interp)) _ (number-same (y .interp)) (both-and (sameZ (y .period) (y .period)) _ (number-same (y .period))
+        (both-and (sameZ (y .scale) (y .scale)) (sameZ (y .seed) (y .seed)) (number-same (y .scale)) (number-same (y .seed)))))))))))
 
 -- a record by its fields, so that equal fields make equal records
 abbrev pub made : List ℤ → List ℤ → List ℤ → ℤ → ℤ → ℤ → ℤ → ℤ → ℤ → ℤ → ℤ → Indices

@@ -1,0 +1,115 @@
+-- And no other record may be written: the writer's lag is always absolute, so that a record that is accepted after a delta symbol is accepted without
+-- one too. With `fields-sayable`: refusal 8 is exactly a field outside its range. Assumes nothing.
+use Prim.Native.Nat.{ℕ, _/_}
+use mathlib.Core.Path.{_≡_, refl, sym, ap, subst, _∙_}
+use mathlib.Core.Bool.{Bool, true, false, _&&_, cond}
+use mathlib.Core.List.{List, [], _∷_, _++_}
+use native.Mathlib.Omega.{arith}
+use lib.Dec.{eqb}
+use lib.IntN.{ℤ}
+use Rattle.tests.specs.Both.{and-both, both-and}
+use Rattle.sheet.specs.Directory.{deltaLagRow}
+use Rattle.entcode.specs.Models.{Sym, tab}
+use Rattle.entcode.specs.Rules.{sayRule}
+use Rattle.tree.specs.Asks.{Asks, done, then, symbols, meant}
+use Rattle.tree.specs.AsksLaws.{meant-then, symbols-then}
+use Rattle.tree.specs.Telling.{allSaid}
+use Rattle.silk.specs.declared.Indices.{Indices}
+use Rattle.silk.specs.Record.{Setting, settingOf}
+use Rattle.silk.specs.IndexSyntax.{absoluteLag, lag, pitch, voicing, indices, relativeIn}
+use Rattle.silk.specs.IndexRanges.{Shape}
+use Rattle.silk.specs.IndexCalls.{Chosen}
+use Rattle.silk.specs.IndexWriting.{sayable, meant-is, same-sure, sayable-in-range}
+use Rattle.encode_indices.specs.Fields.{Writes}
+
+-- what y says along t it says along t', and means the same
+record Follows {R A : Type 0} (y : R) (t t' : Asks R A) : Type 0 where
+  pub means : meant y t ≡ meant y t'
+  pub said : allSaid (symbols y t) ≡ true → allSaid (symbols y t') ≡ true
+
+follows-itself : {R A : Type 0} {y : R} {t : Asks R A} → Follows y t t
+follows-itself = record { means = refl; said = λ e. e }
+
+said-front : (k l : List Sym) → allSaid (k ++ l) ≡ true → allSaid k ≡ true
+unfolding allSaid
+said-front [] l e = refl
+said-front (q ∷ k) l e =
+    let p = and-both (eqb (sayRule (q .model) (q .value)) 0) (allSaid (k ++ l)) e in both-and _ _ (p .0) (said-front k l (p .1))
+
+said-back : (k l : List Sym) → allSaid (k ++ l) ≡ true → allSaid l ≡ true
+unfolding allSaid
+said-back [] l e = e
+said-back (q ∷ k) l e = said-back k l (and-both (eqb (sayRule (q .model) (q .value)) 0) (allSaid (k ++ l)) e .1)
+
+said-both : (k l : List Sym) → allSaid k ≡ true → allSaid l ≡ true → allSaid (k ++ l) ≡ true
+unfolding allSaid
+said-both [] l a b = b
+said-both (q ∷ k) l a b =
+    let p = and-both (eqb (sayRule (q .model) (q .value)) 0) (allSaid k) a in both-and _ _ (p .0) (said-both k l (p .1) b)
+
+follows-then : {R A B : Type 0} (y : R) (t t' : Asks R A) (g g' : A → Asks R B) → Follows y t t' → ((r : A) → Follows y (g r) (g' r)) → Follows y (then t g) (then t' g')
+follows-then y t t' g g' f h =
+    record {
+      means = meant-then y t g ∙ h (meant y t) .means ∙ ap (λ r. meant y (g' r)) (f .means) ∙ sym (meant-then y t' g');
+      said = λ e.
+          let k : allSaid (symbols y t ++ symbols y (g (meant y t))) ≡ true = rw (symbols-then y t g) at e in
+          let a : allSaid (symbols y t') ≡ true = f .said (said-front (symbols y t) (symbols y (g (meant y t))) k) in
+          let b : allSaid (symbols y (g' (meant y t))) ≡ true = h (meant y t) .said (said-back (symbols y t) (symbols y (g (meant y t))) k) in
+          let c : allSaid (symbols y (g' (meant y t'))) ≡ true = rw (f .means) at b in
+          rw (symbols-then y t' g') (said-both (symbols y t') (symbols y (g' (meant y t'))) a c);
+    }
+
+-- a lag after delta symbol 0 is an absolute one
+lag-follows : (r : Bool) (khz : ℕ) (before : ℤ) (y x : Indices) → Follows y (lag r khz before x) (lag false khz before x)
+unfolding lag symbols meant allSaid
+lag-follows true khz before y x = record { means = refl; said = λ e. and-both (eqb (sayRule (tab 8 deltaLagRow) 0) 0) (allSaid (symbols y (absoluteLag khz x))) e .1 }
+lag-follows false khz before y x = follows-itself
+
+voicing-follows : (signal : ℕ) (r : Bool) (khz n mode : ℕ) (before : ℤ) (y x : Indices)
+    → Follows y (voicing signal r khz n mode before x) (voicing signal false khz n mode before x)
+unfolding voicing pitch
+voicing-follows signal r khz n mode before y x = go (eqb signal 2)
+  where
+    go : (t : Bool) → Follows y (cond t (pitch r khz n mode before x) (done x)) (cond t (pitch false khz n mode before x) (done x))
+    go true = follows-then y _ _ _ _ (lag-follows r khz before y x) (λ a. follows-itself)
+    go false = follows-itself
+
+-- ---- the same frame after one that was not voiced
+
+abbrev unvoicedBefore : Setting → Setting
+unvoicedBefore s = settingOf (s .khz) (s .subframes) (s .active) (s .mode) 0 (s .prevlag)
+
+not-relative : (mode : ℕ) → relativeIn mode 0 ≡ false
+not-relative mode = go (eqb mode 2)
+  where
+    go : (t : Bool) → t && false ≡ false
+    go true = refl
+    go false = refl
+
+indices-follows : (s : Setting) (x : Indices) → Follows x (indices s x) (indices (unvoicedBefore s) x)
+unfolding indices
+indices-follows s x =
+    follows-then x _ _ _ _ follows-itself (λ k.
+    follows-then x _ _ _ _ follows-itself (λ g.
+    follows-then x _ _ _ _ follows-itself (λ q.
+    follows-then x _ _ _ _ follows-itself (λ i.
+    follows-then x _ _ _ _
+    (subst (λ (r : Bool). Follows x (voicing (k / 2) (relativeIn (s .mode) (s .prevtype)) (s .khz) (s .subframes) (s .mode) (s .prevlag) i) (voicing (k / 2) r (s .khz) (s .subframes) (s .mode) (s .prevlag) i))
+    (sym (not-relative (s .mode)))
+    (voicing-follows (k / 2) (relativeIn (s .mode) (s .prevtype)) (s .khz) (s .subframes) (s .mode) (s .prevlag) x i))
+    (λ v. follows-itself)))))
+
+-- ---- what an accepted record is
+
+pub sayable-writes : (s : Setting) (x : Indices) → Chosen s → Shape x → sayable s x ≡ true → Writes s x
+unfolding sayable
+sayable-writes s x c h e =
+    let f = indices-follows s x in
+    let p = and-both (allSaid (symbols x (indices s x))) _ e in
+    let m : meant x (indices (unvoicedBefore s) x) ≡ x = sym (f .means) ∙ meant-is s x e in
+    let q : sayable (unvoicedBefore s) x ≡ true = both-and _ _ (f .said (p .0)) (same-sure _ _ m) in
+    let d : Chosen (unvoicedBefore s) = record { rate = c .rate; subframes = c .subframes; active = c .active; mode = c .mode; prevtype = omega arith } in
+    record {
+      range = sayable-in-range s x e c h;
+      lag = λ v. sayable-in-range (unvoicedBefore s) x q d h .voiced v .absolute (not-relative (s .mode));
+    }
