@@ -1,7 +1,9 @@
 //! The one comparing step: a call is put to two sides, and all that they answer and leave is equal.
 
+use crate::bytes::Bytes;
 use crate::counters::Counters;
 use crate::domain::LONGEST;
+use crate::models::Model;
 use crate::report;
 use std::fmt::Debug;
 use std::panic::{catch_unwind, AssertUnwindSafe};
@@ -16,17 +18,22 @@ pub struct Answer<S> {
 }
 
 /// A kind of coder: its states, and what is asked of them.
-pub trait Kind {
+pub trait Kind: Sized {
     type State: Copy + PartialEq + Debug;
     type Ask<'a>: Copy + Debug;
 
+    const NAME: &'static str;
     /// Each call with the refusals that it can answer.
     const CALLS: &'static [(&'static str, &'static [usize])];
-    /// Ways that an accepted call can take.
+    /// The place of the account in `CALLS`.
+    const ACCOUNT: usize = 1;
+    /// Ways that an accepted call can take, besides those of its symbol.
     const BRANCHES: &'static [&'static str];
 
     /// The place of the call in `CALLS`.
     fn call(ask: Self::Ask<'_>) -> usize;
+    /// Lends the symbol that an accepted call read or wrote, if it did.
+    fn symbol(ask: Self::Ask<'_>, answer: &Answer<Self::State>, lend: impl FnOnce(Model, u32));
     /// Marks the places in `BRANCHES` of the ways that an accepted call took.
     fn took(
         length: usize,
@@ -42,6 +49,17 @@ pub trait Kind {
 /// An implementation of a kind's calls, on bytes that it may write.
 pub type Side<K> =
     for<'a> fn(&mut [u8], <K as Kind>::State, <K as Kind>::Ask<'a>) -> Answer<<K as Kind>::State>;
+
+/// The sides of a comparison: our exported calls, and the crate's and libopus's behind document 01's
+/// table of refusals.
+pub trait Sides: Kind {
+    fn ours(bytes: &mut [u8], state: Self::State, ask: Self::Ask<'_>) -> Answer<Self::State>;
+    fn unopus(bytes: &mut [u8], state: Self::State, ask: Self::Ask<'_>) -> Answer<Self::State>;
+    #[cfg(libopus)]
+    fn libopus(bytes: &mut [u8], state: Self::State, ask: Self::Ask<'_>) -> Answer<Self::State>;
+    /// The number of document 01's table that refuses the call, or 0.
+    fn refusal(bytes: &[u8], state: &Self::State, ask: Self::Ask<'_>) -> u32;
+}
 
 /// Where the calls of a plan go: to a comparison or into a record.
 pub trait Sink<K: Kind> {
@@ -61,9 +79,8 @@ pub struct Pair<K: Kind> {
     ours: Side<K>,
     theirs: Side<K>,
     counters: Counters<K>,
-    // One byte more than any packet that is accepted.
-    our_bytes: [u8; LONGEST + 1],
-    their_bytes: [u8; LONGEST + 1],
+    our_bytes: Bytes,
+    their_bytes: Bytes,
 }
 
 impl<K: Kind> Pair<K> {
@@ -104,5 +121,36 @@ impl<K: Kind> Sink<K> for Pair<K> {
 
     fn counters(&self) -> &Counters<K> {
         &self.counters
+    }
+}
+
+/// A comparison with libopus, which refuses nothing: our side answers alone what document 01 refuses,
+/// and the account, since libopus's ec_tell is inline.
+#[cfg(libopus)]
+pub struct Accepted<K: Kind>(Pair<K>);
+
+#[cfg(libopus)]
+impl<K: Sides> Default for Accepted<K> {
+    fn default() -> Self {
+        Accepted(Pair::new(K::ours, K::libopus))
+    }
+}
+
+#[cfg(libopus)]
+impl<K: Sides> Sink<K> for Accepted<K> {
+    fn put(
+        &mut self,
+        bytes: &mut [u8],
+        state: K::State,
+        ask: K::Ask<'_>,
+    ) -> Result<Answer<K::State>, String> {
+        if K::call(ask) == K::ACCOUNT || K::refusal(bytes, &state, ask) != 0 {
+            return Ok(K::ours(bytes, state, ask));
+        }
+        self.0.put(bytes, state, ask)
+    }
+
+    fn counters(&self) -> &Counters<K> {
+        self.0.counters()
     }
 }

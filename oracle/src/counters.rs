@@ -1,6 +1,7 @@
 //! What the calls of a comparison were: a counter that stays 0 says that its way was never compared.
 
 use crate::compare::{Answer, Kind};
+use crate::models::SYMBOL_WAYS;
 use std::marker::PhantomData;
 
 /// Document 01's numbers, and 0 for an accepted call.
@@ -16,7 +17,7 @@ impl<K: Kind> Counters<K> {
     pub fn new() -> Self {
         Counters {
             answers: vec![[0; REFUSALS]; K::CALLS.len()],
-            branches: vec![0; K::BRANCHES.len()],
+            branches: vec![0; SYMBOL_WAYS.len() + K::BRANCHES.len()],
             kind: PhantomData,
         }
     }
@@ -29,9 +30,22 @@ impl<K: Kind> Counters<K> {
         answer: &Answer<K::State>,
     ) {
         self.answers[K::call(ask)][answer.refusal as usize] += 1;
-        if answer.refusal == 0 {
-            K::took(length, before, ask, answer, |way| self.branches[way] += 1);
+        if answer.refusal != 0 {
+            return;
         }
+        let (symbol, own) = self.branches.split_at_mut(SYMBOL_WAYS.len());
+        K::symbol(ask, answer, |model, value| {
+            model.ways(value, &mut |way, taken| {
+                symbol[way as usize] += u64::from(taken)
+            })
+        });
+        K::took(length, before, ask, answer, |way| own[way] += 1);
+    }
+
+    /// The ways, each with how often it was taken.
+    fn ways(&self) -> impl Iterator<Item = (&&'static str, &u64)> {
+        let names = SYMBOL_WAYS.iter().chain(K::BRANCHES);
+        names.zip(&self.branches)
     }
 
     /// How many calls of one kind there were.
@@ -58,8 +72,7 @@ impl<K: Kind> Counters<K> {
                 )
             })
             .collect();
-        let ways = K::BRANCHES.iter().zip(&self.branches);
-        let ways = ways.map(|(way, n)| format!("{way} {n}"));
+        let ways = self.ways().map(|(way, n)| format!("{way} {n}"));
         lines.push(ways.collect::<Vec<_>>().join(", "));
         lines
     }
@@ -76,7 +89,7 @@ impl<K: Kind> Counters<K> {
         let answers = answers
             .filter(|&(call, _, refusal)| wanted(call, refusal) && self.answers[call][refusal] == 0)
             .map(|(_, name, refusal)| format!("{name} answered with {refusal}"));
-        let ways = K::BRANCHES.iter().zip(&self.branches);
+        let ways = self.ways();
         let ways = ways
             .filter(|(_, &n)| n == 0)
             .map(|(way, _)| way.to_string());

@@ -1,8 +1,10 @@
 //! Document 01's domain: which numbers, tables and states are accepted, and the table of refusals.
 //! Written from its text alone, and put around the crate's calls, which refuse nothing.
 
+use crate::compare::Answer;
 use crate::models::Model;
-use crate::reader::{Ask, Reader};
+use crate::state::{Reader, State, Writer};
+use crate::{reader, writer};
 
 /// "Packet or buffer: 0 to 1,275 bytes."
 pub const LONGEST: usize = 1275;
@@ -13,16 +15,66 @@ pub const LAST_TOTAL: u32 = 1_000_000;
 /// The totals of sound states.
 pub const SOUND_TOTALS: std::ops::RangeInclusive<u32> = 33..=1_100_000;
 
+/// The totals at which an answer changes, and one to either side.
+pub const TOTALS: [u32; 9] = [
+    *SOUND_TOTALS.start() - 1,
+    *SOUND_TOTALS.start(),
+    *SOUND_TOTALS.start() + 1,
+    LAST_TOTAL - 1,
+    LAST_TOTAL,
+    LAST_TOTAL + 1,
+    *SOUND_TOTALS.end() - 1,
+    *SOUND_TOTALS.end(),
+    *SOUND_TOTALS.end() + 1,
+];
+
+/// The longest run of 255s in a sound writer.
+pub const LONGEST_RUN: u32 = 150_000;
+
 /// The number that refuses a call on a reader, or 0.
-pub fn reader_refusal(packet: &[u8], reader: &Reader, ask: Ask) -> u32 {
+pub fn reader_refusal(packet: &[u8], reader: &Reader, ask: reader::Ask) -> u32 {
     let length = packet.len();
+    let gate = || gate(length, sound_reader(length, reader), reader.nbits_total);
     match ask {
-        Ask::Open => first(&[(1, length > LONGEST)]),
-        Ask::Account => gate(length, sound_reader(length, reader), reader.nbits_total),
-        Ask::Read(model) => match gate(length, sound_reader(length, reader), reader.nbits_total) {
-            0 => model_refusal(model),
-            refusal => refusal,
-        },
+        reader::Ask::Open => first(&[(1, length > LONGEST)]),
+        reader::Ask::Account => gate(),
+        reader::Ask::Read(model) => or(gate(), || model_refusal(model)),
+    }
+}
+
+/// The number that refuses a call on a writer, or 0.
+pub fn writer_refusal(buffer: &[u8], writer: &Writer, ask: writer::Ask) -> u32 {
+    let length = buffer.len();
+    let gate = || gate(length, sound_writer(length, writer), writer.nbits_total);
+    match ask {
+        writer::Ask::Open => first(&[(1, length > LONGEST)]),
+        writer::Ask::Account | writer::Ask::Done { .. } => gate(),
+        writer::Ask::Write(model, value) => or(gate(), || {
+            or(model_refusal(model), || {
+                first(&[(8, !can_be_written(model, value))])
+            })
+        }),
+    }
+}
+
+/// What a call answers behind the table: "A refused call answers its number and value 0, hands the
+/// state back unchanged".
+pub fn guarded<S>(refusal: u32, unchanged: S, call: impl FnOnce() -> (u32, S)) -> Answer<S> {
+    let (value, state) = match refusal {
+        0 => call(),
+        _ => (0, unchanged),
+    };
+    Answer {
+        refusal,
+        value,
+        state,
+    }
+}
+
+fn or(refusal: u32, next: impl FnOnce() -> u32) -> u32 {
+    match refusal {
+        0 => next(),
+        _ => refusal,
     }
 }
 
@@ -41,21 +93,32 @@ fn gate(length: usize, sound: bool, total: u32) -> u32 {
 
 /// "A sound reader: .."
 fn sound_reader(length: usize, reader: &Reader) -> bool {
-    reader.storage as usize == length
-        && reader.rng > 1 << 23
-        && reader.rng <= 1 << 31
+    sound_state(length, reader)
         && reader.val < reader.rng
         && reader.offs as usize <= length
         && reader.end_offs as usize <= length
         && reader.rem <= 255
         && reader.error <= 1
-        && sound_window(reader.nend_bits, reader.end_window)
-        && SOUND_TOTALS.contains(&reader.nbits_total)
 }
 
-/// "Window bits 0 to 32 and window below 2^bits."
-fn sound_window(bits: u32, window: u32) -> bool {
-    bits <= 32 && u64::from(window) < 1 << bits
+/// "A sound writer: .."
+fn sound_writer(length: usize, writer: &Writer) -> bool {
+    sound_state(length, writer)
+        && u64::from(writer.val) + u64::from(writer.rng) < 1 << 32
+        && (-1..=255).contains(&writer.rem)
+        && u64::from(writer.offs) + u64::from(writer.end_offs) <= length as u64
+        && writer.ext <= LONGEST_RUN
+        && (-1..=0).contains(&writer.error)
+}
+
+/// "The same length, range, window and total rules."
+fn sound_state<T>(length: usize, state: &State<T>) -> bool {
+    state.storage as usize == length
+        && state.rng > 1 << 23
+        && state.rng <= 1 << 31
+        && state.nend_bits <= 32
+        && u64::from(state.end_window) < 1 << state.nend_bits
+        && SOUND_TOTALS.contains(&state.nbits_total)
 }
 
 /// Refusals 4 and 5: "Numbers a caller may bring".
@@ -81,5 +144,23 @@ fn table_kept(entries: &[u8], scale: u32) -> bool {
                 && last == 0
         }
         _ => false,
+    }
+}
+
+/// Refusal 8: "bit above 1, raw value of 2^bits or more, bounded value of total or more, table symbol
+/// not writable".
+fn can_be_written(model: Model, value: u32) -> bool {
+    match model {
+        Model::Bit(_) => value <= 1,
+        Model::Bits(bits) => value < 1 << bits,
+        Model::Number(total) => value < total,
+        Model::Table(entries, scale) => {
+            let above = match value {
+                0 => 1 << scale,
+                _ => entries.get(value as usize - 1).copied().unwrap_or(0).into(),
+            };
+            let entry = entries.get(value as usize).copied();
+            entry.is_some_and(|entry| u32::from(entry) < above)
+        }
     }
 }

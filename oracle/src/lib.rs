@@ -4,18 +4,23 @@
 
 include!(concat!(env!("OUT_DIR"), "/unopus.rs"));
 
+pub mod bytes;
 pub mod compare;
 pub mod counters;
 pub mod domain;
+pub mod hold;
 #[cfg(libopus)]
 pub mod libopus;
 pub mod models;
 pub mod ours;
-pub mod packets;
 pub mod reader;
 pub mod report;
 pub mod rng;
 pub mod row;
 pub mod shim;
+pub mod state;
+mod states;
 pub mod tables;
 pub mod unopus;
+mod ways;
+pub mod writer;

@@ -4,8 +4,10 @@
 //! ORACLE_SEED picks the calls at random. `record FOLDER` writes the recorded answers anew;
 //! `overflow`, built for debugging, holds that no accepted call overflows in the crate.
 
-use oracle::reader::{hold, record};
-use oracle::tables;
+use oracle::hold::Plans;
+use oracle::reader::{record, Reading};
+use oracle::writer::Writing;
+use oracle::{hold, tables};
 use std::path::Path;
 use std::process::ExitCode;
 use std::{env, fs};
@@ -30,29 +32,31 @@ fn main() -> ExitCode {
 fn compare() -> Result<(), String> {
     let seed = seed()?;
     tables::hold_all().map_err(|e| format!("tables: {e}"))?;
-    println!("reader: seed {seed}");
-    hold::to_the_crate(seed).map_err(|e| format!("reader: {e}"))?;
-    to_libopus(seed).map_err(|e| format!("reader, libopus: {e}"))?;
+    println!("calls: seed {seed}");
+    calls::<Reading>(seed)?;
+    calls::<Writing>(seed)?;
     read_record().map_err(|e| format!("record: {e}"))
 }
 
-#[cfg(libopus)]
-fn to_libopus(seed: u64) -> Result<(), String> {
-    hold::to_libopus(seed)
-}
-
-#[cfg(not(libopus))]
-fn to_libopus(_: u64) -> Result<(), String> {
-    println!("reader: no libopus.a; comparison with libopus left out");
-    Ok(())
+fn calls<K: Plans>(seed: u64) -> Result<(), String> {
+    hold::to_the_crate::<K>(seed).map_err(|e| format!("{}: {e}", K::NAME))?;
+    hold::to_libopus::<K>(seed).map_err(|e| format!("{}, libopus: {e}", K::NAME))
 }
 
 fn overflow() -> Result<(), String> {
     if !cfg!(debug_assertions) {
         return Err("overflow: built without overflow checks".to_string());
     }
-    let calls = hold::in_short(seed()?).map_err(|e| format!("overflow: {e}"))?;
-    println!("overflow: of {calls} calls, built with overflow checks, none overflows in the crate");
+    no_overflow::<Reading>()?;
+    no_overflow::<Writing>()
+}
+
+fn no_overflow<K: Plans>() -> Result<(), String> {
+    let calls = hold::in_short::<K>(seed()?).map_err(|e| format!("overflow: {e}"))?;
+    println!(
+        "overflow: of {calls} calls of the {}, built with overflow checks, none overflows in the crate",
+        K::NAME
+    );
     Ok(())
 }
 

@@ -1,6 +1,7 @@
 //! The four kinds of symbols that are read and written, and choices of them.
 
 use crate::rng::Rng;
+use crate::ways::ways;
 
 #[derive(Clone, Copy, Debug, PartialEq, Eq)]
 pub enum Model<'a> {
@@ -12,6 +13,18 @@ pub enum Model<'a> {
     Number(u32),
     /// So many raw bits.
     Bits(u32),
+}
+
+ways! { SymbolWay, SYMBOL_WAYS:
+    Zero "bit 0",
+    One "bit 1",
+    Only "only symbol",
+    First "first symbol",
+    Middle "middle symbol",
+    Last "last symbol",
+    Beside "symbol beside one of probability 0",
+    Coded "number without raw bits",
+    Split "number with raw bits",
 }
 
 impl Model<'_> {
@@ -29,9 +42,90 @@ impl Model<'_> {
         let unit = match self {
             Model::Bit(shift) | Model::Table(_, shift) => range.checked_shr(shift),
             Model::Number(0 | 1) | Model::Bits(_) => None,
-            Model::Number(total) => Some(range / (((total - 1) >> self.raw_bits()) + 1)),
+            Model::Number(total) => Some(range / self.parts(total)),
         };
         unit.filter(|&unit| unit > 0).unwrap_or(range)
+    }
+
+    /// Into how many parts a number of this total cuts the range.
+    fn parts(self, total: u32) -> u32 {
+        ((total - 1) >> self.raw_bits()) + 1
+    }
+
+    /// Where in the range the part of a value begins that can be written.
+    pub fn start(self, range: u32, value: u32) -> u32 {
+        let coded = value >> self.raw_bits();
+        if coded == 0 {
+            return 0;
+        }
+        let above = match self {
+            Model::Table(entries, _) => entries[coded as usize - 1].into(),
+            Model::Number(total) => self.parts(total) - coded,
+            Model::Bit(_) | Model::Bits(_) => 1,
+        };
+        range - self.unit(range) * above
+    }
+
+    /// A value that can be written: a symbol of a table as often as its probability says.
+    pub fn any_value(self, rng: &mut Rng) -> u32 {
+        match self {
+            Model::Bit(_) => rng.between(0, 1),
+            Model::Table(entries, scale) => {
+                let point = rng.between(0, (1 << scale) - 1);
+                let below = |&entry: &u8| u32::from(entry) <= point;
+                entries.iter().position(below).unwrap() as u32
+            }
+            Model::Number(total) if rng.one_in(4) => rng.or_end(0, total - 1),
+            Model::Number(total) => rng.between(0, total - 1),
+            Model::Bits(bits) => rng.between(0, (1 << bits) - 1),
+        }
+    }
+
+    /// The values at which a write's answer changes, and to either side; any model will do.
+    pub fn limit_values(self) -> Vec<u32> {
+        let end = match self {
+            Model::Bit(_) => 2,
+            Model::Table(entries, _) => entries.len() as u32,
+            Model::Number(total) => total,
+            Model::Bits(bits) => 1_u32.checked_shl(bits).unwrap_or(0),
+        };
+        let mut values = vec![
+            0,
+            1,
+            end.wrapping_sub(1),
+            end,
+            end.wrapping_add(1),
+            u32::MAX,
+        ];
+        values.sort_unstable();
+        values.dedup();
+        values
+    }
+
+    /// Marks the ways that a symbol of an accepted model is one.
+    pub fn ways(self, value: u32, mark: &mut impl FnMut(SymbolWay, bool)) {
+        match self {
+            Model::Bit(_) => {
+                mark(SymbolWay::Zero, value == 0);
+                mark(SymbolWay::One, value == 1);
+            }
+            Model::Table(entries, _) => {
+                let (symbol, last) = (value as usize, entries.len() - 1);
+                mark(SymbolWay::Only, last == 0);
+                mark(SymbolWay::First, symbol == 0 && last > 0);
+                mark(SymbolWay::Middle, 0 < symbol && symbol < last);
+                mark(SymbolWay::Last, symbol == last && last > 0);
+                // A symbol of probability 0 has the entry before it.
+                let empty = |k: usize| 0 < k && k <= last && entries[k] == entries[k - 1];
+                let beside = empty(symbol + 1) || 0 < symbol && empty(symbol - 1);
+                mark(SymbolWay::Beside, beside);
+            }
+            Model::Number(_) => {
+                mark(SymbolWay::Coded, self.raw_bits() == 0);
+                mark(SymbolWay::Split, self.raw_bits() > 0);
+            }
+            Model::Bits(_) => {}
+        }
     }
 }
 

@@ -1,7 +1,8 @@
 //! The exported calls of our proved libraries.
 
 use crate::compare::Answer;
-use crate::reader::Reader;
+use crate::models::Model;
+use crate::state::{Reader, Writer};
 
 /// What a table answers past its end, and what an unknown table answers everywhere.
 pub const END: u32 = 65536;
@@ -10,8 +11,9 @@ pub const END: u32 = 65536;
 pub const TABLES: u32 = 13;
 
 mod raw {
-    use super::{Answer, Reader};
+    use super::{Answer, Reader, Writer};
     type Read = Answer<Reader>;
+    type Written = Answer<Writer>;
 
     extern "C" {
         pub fn tg_table_entry(table: u32, place: usize) -> u32;
@@ -30,6 +32,22 @@ mod raw {
         ) -> Read;
         pub fn tg_dec_uint(packet: *const u8, len: usize, r: Reader, total: u32) -> Read;
         pub fn tg_dec_bits(packet: *const u8, len: usize, r: Reader, bits: u32) -> Read;
+
+        pub fn tg_enc_open(buf: *const u8, len: usize) -> Written;
+        pub fn tg_enc_account(buf: *const u8, len: usize, w: Writer) -> Written;
+        pub fn tg_enc_bit(buf: *mut u8, len: usize, w: Writer, value: u32, exp: u32) -> Written;
+        pub fn tg_enc_icdf(
+            buf: *mut u8,
+            len: usize,
+            w: Writer,
+            symbol: u32,
+            table: *const u8,
+            n: usize,
+            scale: u32,
+        ) -> Written;
+        pub fn tg_enc_uint(buf: *mut u8, len: usize, w: Writer, value: u32, total: u32) -> Written;
+        pub fn tg_enc_bits(buf: *mut u8, len: usize, w: Writer, value: u32, bits: u32) -> Written;
+        pub fn tg_enc_done(buf: *mut u8, len: usize, w: Writer) -> Written;
     }
 }
 
@@ -38,8 +56,8 @@ pub fn table_entry(table: u32, place: usize) -> u32 {
     unsafe { raw::tg_table_entry(table, place) }
 }
 
-// SAFETY of the reader's calls: each pointer comes with its slice's length, and they are defined for
-// all numbers, states and bytes.
+// SAFETY of the coder's calls: each pointer comes with its slice's length, a table is no part of the
+// bytes that are lent for writing, and the calls are defined for all numbers, states and bytes.
 
 pub fn dec_open(packet: &[u8]) -> Answer<Reader> {
     unsafe { raw::tg_dec_open(packet.as_ptr(), packet.len()) }
@@ -49,19 +67,42 @@ pub fn dec_account(packet: &[u8], r: Reader) -> Answer<Reader> {
     unsafe { raw::tg_dec_account(packet.as_ptr(), packet.len(), r) }
 }
 
-pub fn dec_bit(packet: &[u8], r: Reader, exponent: u32) -> Answer<Reader> {
-    unsafe { raw::tg_dec_bit(packet.as_ptr(), packet.len(), r, exponent) }
+pub fn dec(packet: &[u8], r: Reader, model: Model) -> Answer<Reader> {
+    let (bytes, len) = (packet.as_ptr(), packet.len());
+    unsafe {
+        match model {
+            Model::Bit(exponent) => raw::tg_dec_bit(bytes, len, r, exponent),
+            Model::Table(table, scale) => {
+                raw::tg_dec_icdf(bytes, len, r, table.as_ptr(), table.len(), scale)
+            }
+            Model::Number(total) => raw::tg_dec_uint(bytes, len, r, total),
+            Model::Bits(bits) => raw::tg_dec_bits(bytes, len, r, bits),
+        }
+    }
 }
 
-pub fn dec_icdf(packet: &[u8], r: Reader, table: &[u8], scale: u32) -> Answer<Reader> {
-    let (entries, n) = (table.as_ptr(), table.len());
-    unsafe { raw::tg_dec_icdf(packet.as_ptr(), packet.len(), r, entries, n, scale) }
+pub fn enc_open(buffer: &[u8]) -> Answer<Writer> {
+    unsafe { raw::tg_enc_open(buffer.as_ptr(), buffer.len()) }
 }
 
-pub fn dec_uint(packet: &[u8], r: Reader, total: u32) -> Answer<Reader> {
-    unsafe { raw::tg_dec_uint(packet.as_ptr(), packet.len(), r, total) }
+pub fn enc_account(buffer: &[u8], w: Writer) -> Answer<Writer> {
+    unsafe { raw::tg_enc_account(buffer.as_ptr(), buffer.len(), w) }
 }
 
-pub fn dec_bits(packet: &[u8], r: Reader, bits: u32) -> Answer<Reader> {
-    unsafe { raw::tg_dec_bits(packet.as_ptr(), packet.len(), r, bits) }
+pub fn enc(buffer: &mut [u8], w: Writer, model: Model, value: u32) -> Answer<Writer> {
+    let (bytes, len) = (buffer.as_mut_ptr(), buffer.len());
+    unsafe {
+        match model {
+            Model::Bit(exponent) => raw::tg_enc_bit(bytes, len, w, value, exponent),
+            Model::Table(table, scale) => {
+                raw::tg_enc_icdf(bytes, len, w, value, table.as_ptr(), table.len(), scale)
+            }
+            Model::Number(total) => raw::tg_enc_uint(bytes, len, w, value, total),
+            Model::Bits(bits) => raw::tg_enc_bits(bytes, len, w, value, bits),
+        }
+    }
+}
+
+pub fn enc_done(buffer: &mut [u8], w: Writer) -> Answer<Writer> {
+    unsafe { raw::tg_enc_done(buffer.as_mut_ptr(), buffer.len(), w) }
 }

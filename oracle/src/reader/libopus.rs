@@ -1,25 +1,15 @@
 //! libopus's reader: the static library's internal functions of celt/entdec.h.
 
-use super::{sides, Ask, Reader, Reading};
-use crate::compare::{Answer, Pair, Sink};
-use crate::counters::Counters;
-use crate::domain::reader_refusal;
+use super::Ask;
 use crate::models::Model;
-
-/// struct ec_ctx of celt/entcode.h: the buffer, and the fields of `Reader` in its order, of which
-/// nend_bits, nbits_total, rem and error are ints.
-#[repr(C)]
-struct EcCtx {
-    buf: *mut u8,
-    fields: Reader,
-}
+use crate::state::{EcCtx, Reader};
 
 extern "C" {
-    fn ec_dec_init(ctx: *mut EcCtx, buf: *mut u8, storage: u32);
-    fn ec_dec_bit_logp(ctx: *mut EcCtx, logp: u32) -> i32;
-    fn ec_dec_icdf(ctx: *mut EcCtx, icdf: *const u8, ftb: u32) -> i32;
-    fn ec_dec_uint(ctx: *mut EcCtx, ft: u32) -> u32;
-    fn ec_dec_bits(ctx: *mut EcCtx, bits: u32) -> u32;
+    fn ec_dec_init(ctx: *mut EcCtx<u32>, buf: *mut u8, storage: u32);
+    fn ec_dec_bit_logp(ctx: *mut EcCtx<u32>, logp: u32) -> i32;
+    fn ec_dec_icdf(ctx: *mut EcCtx<u32>, icdf: *const u8, ftb: u32) -> i32;
+    fn ec_dec_uint(ctx: *mut EcCtx<u32>, ft: u32) -> u32;
+    fn ec_dec_bits(ctx: *mut EcCtx<u32>, bits: u32) -> u32;
 }
 
 /// The value and state after a call that document 01 accepts.
@@ -47,33 +37,4 @@ pub fn read(packet: &mut [u8], reader: Reader, ask: Ask) -> (u32, Reader) {
         }
     };
     (value, ctx.fields)
-}
-
-/// A pair that is asked only what document 01 accepts; our side answers the rest alone, and the
-/// account, since libopus's ec_tell is inline.
-pub struct Accepted(Pair<Reading>);
-
-impl Default for Accepted {
-    fn default() -> Self {
-        Accepted(Pair::<Reading>::new(sides::ours, sides::libopus))
-    }
-}
-
-impl Sink<Reading> for Accepted {
-    fn put(
-        &mut self,
-        packet: &mut [u8],
-        reader: Reader,
-        ask: Ask,
-    ) -> Result<Answer<Reader>, String> {
-        let alone = matches!(ask, Ask::Account) || reader_refusal(packet, &reader, ask) != 0;
-        if alone {
-            return Ok(sides::ours(packet, reader, ask));
-        }
-        self.0.put(packet, reader, ask)
-    }
-
-    fn counters(&self) -> &Counters<Reading> {
-        self.0.counters()
-    }
 }

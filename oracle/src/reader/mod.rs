@@ -1,32 +1,16 @@
 //! The reader's calls: ours beside the crate's and libopus's.
 
-pub mod hold;
 #[cfg(libopus)]
-pub mod libopus;
-pub mod plans;
+mod libopus;
+mod plans;
 pub mod record;
-pub mod sides;
+mod sides;
 mod states;
 
 use crate::compare::{Answer, Kind};
 use crate::models::Model;
-
-/// The crate's `ec_ctx` without its buffer, as include/tignarops.h lays it out.
-#[repr(C)]
-#[derive(Clone, Copy, Debug, Default, PartialEq, Eq)]
-pub struct Reader {
-    pub storage: u32,
-    pub end_offs: u32,
-    pub end_window: u32,
-    pub nend_bits: u32,
-    pub nbits_total: u32,
-    pub offs: u32,
-    pub rng: u32,
-    pub val: u32,
-    pub ext: u32,
-    pub rem: u32,
-    pub error: u32,
-}
+use crate::state::Reader;
+use crate::ways::ways;
 
 #[derive(Clone, Copy, Debug)]
 pub enum Ask<'a> {
@@ -38,30 +22,7 @@ pub enum Ask<'a> {
 /// The reader as a kind of coder.
 pub struct Reading;
 
-impl Reading {
-    /// The place of the account in `CALLS`.
-    pub const ACCOUNT: usize = 1;
-}
-
-/// Declares the ways that a read can take, with their names.
-macro_rules! ways {
-    ($($way:ident $name:literal,)*) => {
-        #[derive(Clone, Copy)]
-        enum Way { $($way,)* }
-        const WAYS: &[&str] = &[$($name,)*];
-    };
-}
-
-ways! {
-    Zero "bit 0",
-    One "bit 1",
-    Only "only symbol",
-    First "first symbol",
-    Middle "middle symbol",
-    Last "last symbol",
-    Beside "symbol beside one of probability 0",
-    Coded "number without raw bits",
-    Split "number with raw bits",
+ways! { Way, WAYS:
     Clamped "number clamped",
     Errored "read under error 1",
     NoTurn "no turn",
@@ -77,6 +38,7 @@ impl Kind for Reading {
     type State = Reader;
     type Ask<'a> = Ask<'a>;
 
+    const NAME: &'static str = "reader";
     const CALLS: &'static [(&'static str, &'static [usize])] = &[
         ("open", &[1]),
         ("account", &[1, 2, 3]),
@@ -98,6 +60,12 @@ impl Kind for Reading {
         }
     }
 
+    fn symbol(ask: Ask, answer: &Answer<Reader>, lend: impl FnOnce(Model, u32)) {
+        if let Ask::Read(model) = ask {
+            lend(model, answer.value);
+        }
+    }
+
     fn took(
         length: usize,
         before: &Reader,
@@ -116,9 +84,9 @@ impl Kind for Reading {
             Ask::Account => {}
             Ask::Read(model) => {
                 mark(Way::Errored, before.error == 1);
+                mark(Way::Clamped, before.error < answer.state.error);
                 coded_part(before, model, answer, &mut mark);
                 raw_part(before, model, answer, &mut mark);
-                symbol(before, model, answer, &mut mark);
             }
         }
     }
@@ -142,7 +110,7 @@ fn coded_part(
         return;
     }
     let after = &answer.state;
-    let turns = (after.nbits_total - before.nbits_total - model.raw_bits()) / 8;
+    let turns = before.turns(model, after);
     mark(Way::NoTurn, turns == 0);
     mark(Way::OneTurn, turns == 1);
     mark(Way::TwoTurns, turns == 2);
@@ -168,37 +136,4 @@ fn raw_part(
         Way::PastBack,
         filled && answer.state.end_offs - before.end_offs < taken,
     );
-}
-
-fn symbol(
-    before: &Reader,
-    model: Model,
-    answer: &Answer<Reader>,
-    mark: &mut impl FnMut(Way, bool),
-) {
-    match model {
-        Model::Bit(_) => {
-            mark(Way::Zero, answer.value == 0);
-            mark(Way::One, answer.value == 1);
-        }
-        Model::Table(entries, _) => {
-            let (symbol, last) = (answer.value as usize, entries.len() - 1);
-            mark(Way::Only, last == 0);
-            mark(Way::First, symbol == 0 && last > 0);
-            mark(Way::Middle, 0 < symbol && symbol < last);
-            mark(Way::Last, symbol == last && last > 0);
-            // A symbol of probability 0 has the entry before it.
-            let empty = |k: usize| 0 < k && k <= last && entries[k] == entries[k - 1];
-            mark(
-                Way::Beside,
-                empty(symbol + 1) || 0 < symbol && empty(symbol - 1),
-            );
-        }
-        Model::Number(_) => {
-            mark(Way::Coded, model.raw_bits() == 0);
-            mark(Way::Split, model.raw_bits() > 0);
-            mark(Way::Clamped, before.error < answer.state.error);
-        }
-        Model::Bits(_) => {}
-    }
 }

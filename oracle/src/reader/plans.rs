@@ -1,30 +1,54 @@
 //! Which calls are compared. A plan puts its calls to a sink, which compares or records them.
 
-use super::states::{at_cut, sound, BREAKS};
-use super::{Ask, Reader, Reading};
+use super::states::{at_cut, breaks, sound};
+use super::{Ask, Reading};
+use crate::bytes::{fill, Bytes, Fill, FILLS, LENGTHS};
 use crate::compare::Sink;
-use crate::domain::{LAST_TOTAL, LONGEST, SOUND_TOTALS};
+use crate::domain::{LONGEST, TOTALS};
+use crate::hold::{Outcome, Plans};
 use crate::models::{self, Entries, Model};
-use crate::packets::{fill, Fill, Packet, FILLS};
 use crate::rng::Rng;
+use crate::state::Reader;
 use crate::unopus;
 
-pub const LENGTHS: [usize; 7] = [0, 1, 2, 3, LONGEST - 1, LONGEST, LONGEST + 1];
+impl Plans for Reading {
+    fn run(
+        sink: &mut impl Sink<Reading>,
+        rng: &mut Rng,
+        share: u32,
+        mut said: impl FnMut(u64, &str),
+    ) -> Outcome {
+        let tables = models::limit_tables();
+        let limits = models::at_limits(&tables);
+        let lengths = (0..=LONGEST).step_by(share as usize);
+        along(sink, rng, lengths, 400)?;
+        let plan = "along packets of every length from their opening";
+        said(sink.counters().all(), plan);
 
-/// The totals at which an answer changes, and one to either side.
-pub const TOTALS: [u32; 9] = [
-    *SOUND_TOTALS.start() - 1,
-    *SOUND_TOTALS.start(),
-    *SOUND_TOTALS.start() + 1,
-    LAST_TOTAL - 1,
-    LAST_TOTAL,
-    LAST_TOTAL + 1,
-    *SOUND_TOTALS.end() - 1,
-    *SOUND_TOTALS.end(),
-    *SOUND_TOTALS.end() + 1,
-];
+        speech(sink, rng, 4_000 / share)?;
+        let plan = "along packets by the tables of speech";
+        said(sink.counters().all(), plan);
 
-type Outcome = Result<(), String>;
+        to_the_end(sink, rng)?;
+        let plan = "along a packet until its total refuses more";
+        said(sink.counters().all(), plan);
+
+        on_sound(sink, rng, 8_000_000 / share)?;
+        said(sink.counters().all(), "on arbitrary sound states");
+
+        for _ in 0..(8 / share).max(1) {
+            on_unsound(sink, rng, &LENGTHS, &limits)?;
+        }
+        said(sink.counters().all(), "on states that break one rule");
+
+        for _ in 0..(16 / share).max(1) {
+            at_limits(sink, rng, (&LENGTHS, &FILLS), &TOTALS, &limits)?;
+        }
+        let plan = "at the limits of packets, totals, numbers and tables";
+        said(sink.counters().all(), plan);
+        Ok(())
+    }
+}
 
 /// Packets of these lengths, read from their opening until they and so many bits more are used up.
 pub fn along(
@@ -35,7 +59,7 @@ pub fn along(
 ) -> Outcome {
     let tables = models::limit_tables();
     let limits = models::at_limits(&tables);
-    let (mut packet, mut entries): (Packet, Entries) = ([0; LONGEST + 1], [0; 257]);
+    let (mut packet, mut entries): (Bytes, Entries) = ([0; LONGEST + 1], [0; 257]);
     for length in lengths {
         let packet = &mut packet[..length];
         for kind in FILLS {
@@ -60,7 +84,7 @@ pub fn along(
 
 /// One packet, read from its opening until its bit total refuses the next call.
 pub fn to_the_end(sink: &mut impl Sink<Reading>, rng: &mut Rng) -> Outcome {
-    let (mut packet, mut entries): (Packet, Entries) = ([0; LONGEST + 1], [0; 257]);
+    let (mut packet, mut entries): (Bytes, Entries) = ([0; LONGEST + 1], [0; 257]);
     let packet = &mut packet[..LONGEST];
     rng.fill(packet);
     let mut answer = sink.put(packet, Reader::default(), Ask::Open)?;
@@ -77,7 +101,7 @@ pub fn to_the_end(sink: &mut impl Sink<Reading>, rng: &mut Rng) -> Outcome {
 /// Packets that are read with the tables of speech, each in turn.
 pub fn speech(sink: &mut impl Sink<Reading>, rng: &mut Rng, packets: u32) -> Outcome {
     let tables = unopus::inverse_rows();
-    let mut packet: Packet = [0; LONGEST + 1];
+    let mut packet: Bytes = [0; LONGEST + 1];
     for _ in 0..packets {
         let length = rng.between(20, 120) as usize;
         let packet = &mut packet[..length];
@@ -93,7 +117,7 @@ pub fn speech(sink: &mut impl Sink<Reading>, rng: &mut Rng, packets: u32) -> Out
 
 /// Arbitrary sound readers, half of them with the value where the model cuts.
 pub fn on_sound(sink: &mut impl Sink<Reading>, rng: &mut Rng, calls: u32) -> Outcome {
-    let (mut packet, mut entries): (Packet, Entries) = ([0; LONGEST + 1], [0; 257]);
+    let (mut packet, mut entries): (Bytes, Entries) = ([0; LONGEST + 1], [0; 257]);
     let mut length = 0;
     for call in 0..calls {
         if call % 16 == 0 {
@@ -125,11 +149,11 @@ pub fn on_unsound(
     lengths: &[usize],
     models: &[Model],
 ) -> Outcome {
-    let mut packet: Packet = [0; LONGEST + 1];
+    let mut packet: Bytes = [0; LONGEST + 1];
     for &length in lengths {
         let packet = &mut packet[..length];
         rng.fill(packet);
-        for (number, break_rule) in BREAKS.iter().enumerate() {
+        for (number, break_rule) in breaks().enumerate() {
             let asks = models.iter().copied().map(Ask::Read);
             for ask in asks.chain([Ask::Account]) {
                 let mut reader = sound(rng, length);
@@ -154,7 +178,7 @@ pub fn at_limits(
     models: &[Model],
 ) -> Outcome {
     let (lengths, fills) = packets;
-    let mut packet: Packet = [0; LONGEST + 1];
+    let mut packet: Bytes = [0; LONGEST + 1];
     for (&length, &kind) in lengths
         .iter()
         .flat_map(|n| fills.iter().map(move |kind| (n, kind)))

@@ -1,13 +1,14 @@
 //! The fixed list of calls with the crate's answers that crates/reader_cases replays, in the layout
 //! of docs/RECORDED.md.
 
-use super::{plans, sides, Ask, Reader, Reading};
-use crate::compare::{Answer, Kind, Sink};
+use super::{plans, Ask, Reading};
+use crate::bytes::Fill;
+use crate::compare::{Answer, Kind, Sides, Sink};
 use crate::counters::Counters;
-use crate::domain::LONGEST;
+use crate::domain::{LONGEST, TOTALS};
 use crate::models::{self, Model};
-use crate::packets::Fill;
 use crate::rng::Rng;
+use crate::state::Reader;
 
 /// What crates/reader_cases reads, and what it prints where every call agrees.
 pub struct Files {
@@ -51,7 +52,7 @@ fn plan(list: &mut List) -> Result<(), String> {
     plans::speech(list, rng, 1)?;
     plans::at_limits(list, rng, (&[7], random), &[33], &limits)?;
     let (two, ends) = ([2, LONGEST + 1], [0, 1, LONGEST - 1, LONGEST]);
-    plans::at_limits(list, rng, (&two, random), &plans::TOTALS, &few)?;
+    plans::at_limits(list, rng, (&two, random), &TOTALS, &few)?;
     plans::at_limits(list, rng, (&ends, random), &[1000], &few)?;
     plans::on_unsound(list, rng, &[3], &few)?;
     plans::on_sound(list, rng, 300)
@@ -72,7 +73,7 @@ impl Sink<Reading> for List {
         reader: Reader,
         ask: Ask,
     ) -> Result<Answer<Reader>, String> {
-        let answer = sides::unopus(packet, reader, ask);
+        let answer = Reading::unopus(packet, reader, ask);
         self.counters.count(packet.len(), &reader, ask, &answer);
         if self.packet.as_deref() != Some(packet) {
             self.record(0, 0, packet);
@@ -85,10 +86,10 @@ impl Sink<Reading> for List {
         };
         let chained = self.handed_back == Some(reader);
         let mut rest = words(&[answer.refusal, answer.value]);
-        rest.extend(words(&fields(&answer.state)));
+        rest.extend(words(&answer.state.words()));
         rest.extend(words(&[number]));
         if !chained {
-            rest.extend(words(&fields(&reader)));
+            rest.extend(words(&reader.words()));
         }
         rest.extend(table);
         self.record(Reading::call(ask) as u8 + 1, chained.into(), &rest);
@@ -114,20 +115,4 @@ fn words(numbers: &[u32]) -> Vec<u8> {
         .iter()
         .flat_map(|number| number.to_le_bytes())
         .collect()
-}
-
-fn fields(r: &Reader) -> [u32; 11] {
-    [
-        r.storage,
-        r.end_offs,
-        r.end_window,
-        r.nend_bits,
-        r.nbits_total,
-        r.offs,
-        r.rng,
-        r.val,
-        r.ext,
-        r.rem,
-        r.error,
-    ]
 }

@@ -1,100 +1,66 @@
-//! The sides of a comparison: our exported calls, and the crate's and libopus's behind document
-//! 01's table of refusals.
+//! The reader's calls: ours, the crate's and libopus's.
 
-use super::{Ask, Reader};
-use crate::celt::entcode::{ec_ctx, ec_tell};
+use super::{Ask, Reading};
+use crate::celt::entcode::ec_tell;
 use crate::celt::entdec::{ec_dec_bit_logp, ec_dec_bits, ec_dec_icdf, ec_dec_init, ec_dec_uint};
-use crate::compare::Answer;
-use crate::domain::reader_refusal;
+use crate::compare::{Answer, Sides};
+use crate::domain;
 use crate::models::Model;
 use crate::ours;
+use crate::state::Reader;
 
-pub fn ours(packet: &mut [u8], reader: Reader, ask: Ask) -> Answer<Reader> {
-    match ask {
-        Ask::Open => ours::dec_open(packet),
-        Ask::Account => ours::dec_account(packet, reader),
-        Ask::Read(Model::Bit(exponent)) => ours::dec_bit(packet, reader, exponent),
-        Ask::Read(Model::Table(entries, scale)) => ours::dec_icdf(packet, reader, entries, scale),
-        Ask::Read(Model::Number(total)) => ours::dec_uint(packet, reader, total),
-        Ask::Read(Model::Bits(bits)) => ours::dec_bits(packet, reader, bits),
+impl Sides for Reading {
+    fn ours(packet: &mut [u8], reader: Reader, ask: Ask) -> Answer<Reader> {
+        match ask {
+            Ask::Open => ours::dec_open(packet),
+            Ask::Account => ours::dec_account(packet, reader),
+            Ask::Read(model) => ours::dec(packet, reader, model),
+        }
+    }
+
+    fn unopus(packet: &mut [u8], reader: Reader, ask: Ask) -> Answer<Reader> {
+        guarded(packet, reader, ask, |packet| match ask {
+            Ask::Open => (0, Reader::of_the_crate(&ec_dec_init(packet))),
+            Ask::Account => (ec_tell(&reader.beside(packet)) as u32, reader),
+            Ask::Read(model) => read(packet, reader, model),
+        })
+    }
+
+    #[cfg(libopus)]
+    fn libopus(packet: &mut [u8], reader: Reader, ask: Ask) -> Answer<Reader> {
+        guarded(packet, reader, ask, |packet| {
+            super::libopus::read(packet, reader, ask)
+        })
+    }
+
+    fn refusal(packet: &[u8], reader: &Reader, ask: Ask) -> u32 {
+        domain::reader_refusal(packet, reader, ask)
     }
 }
 
-pub fn unopus(packet: &mut [u8], reader: Reader, ask: Ask) -> Answer<Reader> {
-    guarded(packet, reader, ask, |packet| {
-        if let Ask::Open = ask {
-            return (0, held(&ec_dec_init(packet)));
-        }
-        let mut ctx = context(packet, reader);
-        let value = match ask {
-            Ask::Open => 0,
-            Ask::Account => ec_tell(&ctx) as u32,
-            Ask::Read(Model::Bit(exponent)) => ec_dec_bit_logp(&mut ctx, exponent) as u32,
-            Ask::Read(Model::Table(entries, scale)) => ec_dec_icdf(&mut ctx, entries, scale) as u32,
-            Ask::Read(Model::Number(total)) => ec_dec_uint(&mut ctx, total),
-            Ask::Read(Model::Bits(bits)) => ec_dec_bits(&mut ctx, bits),
-        };
-        (value, held(&ctx))
-    })
+/// The crate's value and state after a read that document 01 accepts.
+pub fn read(packet: &mut [u8], reader: Reader, model: Model) -> (u32, Reader) {
+    let mut ctx = reader.beside(packet);
+    let value = match model {
+        Model::Bit(exponent) => ec_dec_bit_logp(&mut ctx, exponent) as u32,
+        Model::Table(entries, scale) => ec_dec_icdf(&mut ctx, entries, scale) as u32,
+        Model::Number(total) => ec_dec_uint(&mut ctx, total),
+        Model::Bits(bits) => ec_dec_bits(&mut ctx, bits),
+    };
+    (value, Reader::of_the_crate(&ctx))
 }
 
-#[cfg(libopus)]
-pub fn libopus(packet: &mut [u8], reader: Reader, ask: Ask) -> Answer<Reader> {
-    guarded(packet, reader, ask, |packet| {
-        super::libopus::read(packet, reader, ask)
-    })
-}
-
-/// "A refused call answers its number and value 0, hands the state back unchanged; opening hands back
-/// the all-zero state."
+/// "Opening hands back the all-zero state."
 fn guarded(
     packet: &mut [u8],
     reader: Reader,
     ask: Ask,
     call: impl FnOnce(&mut [u8]) -> (u32, Reader),
 ) -> Answer<Reader> {
-    let refusal = reader_refusal(packet, &reader, ask);
-    let (value, state) = match (refusal, ask) {
-        (0, _) => call(packet),
-        (_, Ask::Open) => (0, Reader::default()),
-        _ => (0, reader),
+    let unchanged = match ask {
+        Ask::Open => Reader::default(),
+        _ => reader,
     };
-    Answer {
-        refusal,
-        value,
-        state,
-    }
-}
-
-fn context(packet: &mut [u8], reader: Reader) -> ec_ctx<'_> {
-    ec_ctx {
-        buf: packet,
-        storage: reader.storage,
-        end_offs: reader.end_offs,
-        end_window: reader.end_window,
-        nend_bits: reader.nend_bits as i32,
-        nbits_total: reader.nbits_total as i32,
-        offs: reader.offs,
-        rng: reader.rng,
-        val: reader.val,
-        ext: reader.ext,
-        rem: reader.rem as i32,
-        error: reader.error as i32,
-    }
-}
-
-fn held(ctx: &ec_ctx) -> Reader {
-    Reader {
-        storage: ctx.storage,
-        end_offs: ctx.end_offs,
-        end_window: ctx.end_window,
-        nend_bits: ctx.nend_bits as u32,
-        nbits_total: ctx.nbits_total as u32,
-        offs: ctx.offs,
-        rng: ctx.rng,
-        val: ctx.val,
-        ext: ctx.ext,
-        rem: ctx.rem as u32,
-        error: ctx.error as u32,
-    }
+    let refusal = domain::reader_refusal(packet, &reader, ask);
+    domain::guarded(refusal, unchanged, || call(packet))
 }
