@@ -18,6 +18,7 @@ pub mod report;
 pub mod rng;
 pub mod row;
 pub mod shim;
+pub mod spectra;
 pub mod state;
 mod states;
 pub mod tables;

@@ -6,6 +6,7 @@
 
 use oracle::hold::Plans;
 use oracle::reader::{record, Reading};
+use oracle::spectra::Spectra;
 use oracle::writer::Writing;
 use oracle::{hold, tables};
 use std::path::Path;
@@ -35,6 +36,7 @@ fn compare() -> Result<(), String> {
     println!("calls: seed {seed}");
     calls::<Reading>(seed)?;
     calls::<Writing>(seed)?;
+    calls::<Spectra>(seed)?;
     read_record().map_err(|e| format!("record: {e}"))
 }
 
@@ -48,7 +50,8 @@ fn overflow() -> Result<(), String> {
         return Err("overflow: built without overflow checks".to_string());
     }
     no_overflow::<Reading>()?;
-    no_overflow::<Writing>()
+    no_overflow::<Writing>()?;
+    no_overflow::<Spectra>()
 }
 
 fn no_overflow<K: Plans>() -> Result<(), String> {
