@@ -3,7 +3,7 @@
 use crate::bytes::Bytes;
 use crate::counters::Counters;
 use crate::domain::LONGEST;
-use crate::models::Model;
+use crate::models::{Model, SYMBOL_WAYS};
 use crate::report;
 use std::fmt::Debug;
 use std::panic::{catch_unwind, AssertUnwindSafe};
@@ -27,6 +27,8 @@ pub trait Kind: Sized {
     const CALLS: &'static [(&'static str, &'static [usize])];
     /// The place of the account in `CALLS`.
     const ACCOUNT: usize = 1;
+    /// Ways that the symbols of accepted calls can take.
+    const SYMBOLS: &'static [&'static str] = SYMBOL_WAYS;
     /// Ways that an accepted call can take, besides those of its symbol.
     const BRANCHES: &'static [&'static str];
 

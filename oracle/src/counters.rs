@@ -1,7 +1,6 @@
 //! What the calls of a comparison were: a counter that stays 0 says that its way was never compared.
 
 use crate::compare::{Answer, Kind};
-use crate::models::SYMBOL_WAYS;
 use std::marker::PhantomData;
 
 /// Document 01's numbers, and 0 for an accepted call.
@@ -17,7 +16,7 @@ impl<K: Kind> Counters<K> {
     pub fn new() -> Self {
         Counters {
             answers: vec![[0; REFUSALS]; K::CALLS.len()],
-            branches: vec![0; SYMBOL_WAYS.len() + K::BRANCHES.len()],
+            branches: vec![0; K::SYMBOLS.len() + K::BRANCHES.len()],
             kind: PhantomData,
         }
     }
@@ -33,7 +32,7 @@ impl<K: Kind> Counters<K> {
         if answer.refusal != 0 {
             return;
         }
-        let (symbol, own) = self.branches.split_at_mut(SYMBOL_WAYS.len());
+        let (symbol, own) = self.branches.split_at_mut(K::SYMBOLS.len());
         K::symbol(ask, answer, |model, value| {
             model.ways(value, &mut |way, taken| {
                 symbol[way as usize] += u64::from(taken)
@@ -44,7 +43,7 @@ impl<K: Kind> Counters<K> {
 
     /// The ways, each with how often it was taken.
     fn ways(&self) -> impl Iterator<Item = (&&'static str, &u64)> {
-        let names = SYMBOL_WAYS.iter().chain(K::BRANCHES);
+        let names = K::SYMBOLS.iter().chain(K::BRANCHES);
         names.zip(&self.branches)
     }
 

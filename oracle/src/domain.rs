@@ -4,7 +4,7 @@
 use crate::compare::Answer;
 use crate::models::Model;
 use crate::state::{Reader, State, Writer};
-use crate::{reader, writer};
+use crate::{reader, spectra, writer};
 
 /// "Packet or buffer: 0 to 1,275 bytes."
 pub const LONGEST: usize = 1275;
@@ -54,6 +54,19 @@ pub fn writer_refusal(buffer: &[u8], writer: &Writer, ask: writer::Ask) -> u32 {
                 first(&[(8, !can_be_written(model, value))])
             })
         }),
+    }
+}
+
+/// The number that refuses a call on a vector of so many values, or 0.
+pub fn spectra_refusal(length: usize, ask: spectra::Ask) -> u32 {
+    match ask {
+        spectra::Ask::Decode(indices, khz) => {
+            first(&[(4, !indices_kept(&indices, khz)), (6, length != order(khz))])
+        }
+        spectra::Ask::Stabilise(gaps) => first(&[
+            (6, !(2..=16).contains(&length) || gaps.len() != length + 1),
+            (7, !gaps_kept(gaps)),
+        ]),
     }
 }
 
@@ -163,4 +176,28 @@ fn can_be_written(model: Model, value: u32) -> bool {
             entry.is_some_and(|entry| u32::from(entry) < above)
         }
     }
+}
+
+/// "Order 10 (8, 12 kHz) or 16."
+pub fn order(khz: u32) -> usize {
+    match khz {
+        16 => 16,
+        _ => 10,
+    }
+}
+
+/// "First index 0 to 31, as many more as the order -10 to 10 (places past them are not looked at)."
+fn indices_kept(indices: &[i8; 17], khz: u32) -> bool {
+    [8, 12, 16].contains(&khz)
+        && (0..=31).contains(&indices[0])
+        && indices[1..=order(khz)]
+            .iter()
+            .all(|index| (-10..=10).contains(index))
+}
+
+/// "Gaps not negative, last at least 1, total at most 32,768."
+fn gaps_kept(gaps: &[i16]) -> bool {
+    gaps.iter().all(|&gap| gap >= 0)
+        && gaps.last().is_some_and(|&last| last >= 1)
+        && gaps.iter().map(|&gap| i32::from(gap)).sum::<i32>() <= 32768
 }

@@ -20,6 +20,7 @@ pub mod rng;
 pub mod roundtrip;
 pub mod row;
 pub mod shim;
+pub mod spectra;
 pub mod state;
 mod states;
 pub mod tables;

@@ -7,6 +7,7 @@
 use oracle::hold::Plans;
 use oracle::reader::Reading;
 use oracle::record::{self, Recorded};
+use oracle::spectra::Spectra;
 use oracle::writer::Writing;
 use oracle::{hold, roundtrip, tables};
 use std::path::{Path, PathBuf};
@@ -36,6 +37,7 @@ fn compare() -> Result<(), String> {
     println!("calls: seed {seed}");
     calls::<Reading>(seed)?;
     calls::<Writing>(seed)?;
+    calls::<Spectra>(seed)?;
     roundtrip::hold(seed).map_err(|e| format!("round trip: {e}"))?;
     read_record::<Reading>()?;
     read_record::<Writing>()
@@ -51,7 +53,8 @@ fn overflow() -> Result<(), String> {
         return Err("overflow: built without overflow checks".to_string());
     }
     no_overflow::<Reading>()?;
-    no_overflow::<Writing>()
+    no_overflow::<Writing>()?;
+    no_overflow::<Spectra>()
 }
 
 fn no_overflow<K: Plans>() -> Result<(), String> {

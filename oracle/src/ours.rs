@@ -2,6 +2,7 @@
 
 use crate::compare::Answer;
 use crate::models::Model;
+use crate::spectra::Vector;
 use crate::state::{Reader, Writer};
 
 /// What a table answers past its end, and what an unknown table answers everywhere.
@@ -10,8 +11,19 @@ pub const END: u32 = 65536;
 /// How many tables there are, numbered from 0.
 pub const TABLES: u32 = 13;
 
+#[repr(C)]
+struct Spectrum {
+    index: [i8; 17],
+}
+
+#[repr(C)]
+struct Moves {
+    refusal: u32,
+    moves: u32,
+}
+
 mod raw {
-    use super::{Answer, Reader, Writer};
+    use super::{Answer, Moves, Reader, Spectrum, Writer};
     type Read = Answer<Reader>;
     type Written = Answer<Writer>;
 
@@ -48,6 +60,9 @@ mod raw {
         pub fn tg_enc_uint(buf: *mut u8, len: usize, w: Writer, value: u32, total: u32) -> Written;
         pub fn tg_enc_bits(buf: *mut u8, len: usize, w: Writer, value: u32, bits: u32) -> Written;
         pub fn tg_enc_done(buf: *mut u8, len: usize, w: Writer) -> Written;
+
+        pub fn tg_nlsf_decode(vector: *mut i16, n: usize, indices: Spectrum, khz: u32) -> Moves;
+        pub fn tg_nlsf_stabilise(v: *mut i16, n: usize, gaps: *const i16, m: usize) -> Moves;
     }
 }
 
@@ -105,4 +120,28 @@ pub fn enc(buffer: &mut [u8], w: Writer, model: Model, value: u32) -> Answer<Wri
 
 pub fn enc_done(buffer: &mut [u8], w: Writer) -> Answer<Writer> {
     unsafe { raw::tg_enc_done(buffer.as_mut_ptr(), buffer.len(), w) }
+}
+
+// SAFETY of the calls on line spectra: the same, and no gap is a part of the vector.
+
+pub fn nlsf_decode(mut vector: Vector, index: [i8; 17], khz: u32) -> Answer<Vector> {
+    let lent = vector.values_mut();
+    let (values, n) = (lent.as_mut_ptr(), lent.len());
+    let moves = unsafe { raw::tg_nlsf_decode(values, n, Spectrum { index }, khz) };
+    left(moves, vector)
+}
+
+pub fn nlsf_stabilise(mut vector: Vector, gaps: &[i16]) -> Answer<Vector> {
+    let lent = vector.values_mut();
+    let (values, n) = (lent.as_mut_ptr(), lent.len());
+    let moves = unsafe { raw::tg_nlsf_stabilise(values, n, gaps.as_ptr(), gaps.len()) };
+    left(moves, vector)
+}
+
+fn left(answer: Moves, state: Vector) -> Answer<Vector> {
+    Answer {
+        refusal: answer.refusal,
+        value: answer.moves,
+        state,
+    }
 }

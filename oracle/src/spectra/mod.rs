@@ -1,0 +1,98 @@
+//! The calls on line spectra: ours beside the crate's and libopus's.
+
+#[cfg(libopus)]
+mod libopus;
+mod plans;
+mod sides;
+mod text;
+mod vectors;
+
+use crate::compare::{Answer, Kind};
+use crate::models::Model;
+use std::fmt;
+use text::{Way, WAYS};
+
+/// Room for the values of a vector, one more than document 01 allows.
+const ROOM: usize = 17;
+
+/// The lent vector; what stands past it belongs to it, so that a write there is a difference.
+#[derive(Clone, Copy, PartialEq, Eq)]
+pub struct Vector {
+    n: usize,
+    room: [i16; ROOM],
+}
+
+impl Vector {
+    pub fn new(n: usize) -> Self {
+        Vector { n, room: [0; ROOM] }
+    }
+
+    pub fn of(values: &[i16]) -> Self {
+        let mut vector = Vector::new(values.len());
+        vector.values_mut().copy_from_slice(values);
+        vector
+    }
+
+    pub fn values(&self) -> &[i16] {
+        &self.room[..self.n]
+    }
+
+    pub fn values_mut(&mut self) -> &mut [i16] {
+        &mut self.room[..self.n]
+    }
+}
+
+impl fmt::Debug for Vector {
+    fn fmt(&self, f: &mut fmt::Formatter) -> fmt::Result {
+        write!(f, "{:?}", self.values())?;
+        match self.room[self.n..].iter().any(|&past| past != 0) {
+            true => write!(f, ", past it {:?}", &self.room[self.n..]),
+            false => Ok(()),
+        }
+    }
+}
+
+#[derive(Clone, Copy, Debug)]
+pub enum Ask<'a> {
+    /// The indices and the rate in kHz.
+    Decode([i8; 17], u32),
+    /// The gaps.
+    Stabilise(&'a [i16]),
+}
+
+/// The calls on a lent vector as a kind: the vector is the state, the number of moves the value.
+pub struct Spectra;
+
+impl Kind for Spectra {
+    type State = Vector;
+    type Ask<'a> = Ask<'a>;
+
+    const NAME: &'static str = "spectra";
+    const CALLS: &'static [(&'static str, &'static [usize])] =
+        &[("decode", &[4, 6]), ("stabilise", &[6, 7])];
+    // There is none.
+    const ACCOUNT: usize = usize::MAX;
+    const SYMBOLS: &'static [&'static str] = &[];
+    const BRANCHES: &'static [&'static str] = WAYS;
+
+    fn call(ask: Ask) -> usize {
+        match ask {
+            Ask::Decode(..) => 0,
+            Ask::Stabilise(_) => 1,
+        }
+    }
+
+    fn symbol(_: Ask, _: &Answer<Vector>, _: impl FnOnce(Model, u32)) {}
+
+    fn took(_: usize, before: &Vector, ask: Ask, _: &Answer<Vector>, mut mark: impl FnMut(usize)) {
+        text::call(before.values(), ask, &mut |way: Way, taken| {
+            if taken {
+                mark(way as usize)
+            }
+        });
+    }
+
+    fn places(_: &Vector) -> [usize; 2] {
+        [0, 0]
+    }
+}
