@@ -31,6 +31,7 @@ struct Symbol<'a> {
 }
 
 pub fn hold(seed: u64) -> Outcome {
+    every_short_list()?;
     let mut rng = Rng::new(seed);
     let tables = tables(&mut rng);
     let mut buffer: Bytes = [0; LONGEST + 1];
@@ -50,6 +51,68 @@ pub fn hold(seed: u64) -> Outcome {
     }
     tally.show();
     tally.missing()
+}
+
+/// The alphabet of the short lists: the rarest and the likeliest bit, a byte, a number with raw bits,
+/// and raw bits that fill no byte and one byte.
+const ALPHABET: [(Model, u32); 9] = [
+    (Model::Bit(1), 0),
+    (Model::Bit(15), 0),
+    (Model::Bit(15), 1),
+    (Model::Number(256), 0),
+    (Model::Number(256), 255),
+    (Model::Number(1000), 999),
+    (Model::Table(&[250, 3, 0], 8), 1),
+    (Model::Bits(3), 5),
+    (Model::Bits(8), 255),
+];
+
+/// Symbols of a short list, at most.
+const SHORT: u32 = 5;
+
+/// Every list of the alphabet, over every buffer of at most 4 bytes.
+fn every_short_list() -> Outcome {
+    let mut ends = [0u64; 3];
+    for length in 0..=4 {
+        for symbols in 0..=SHORT {
+            for number in 0..ALPHABET.len().pow(symbols) {
+                let buffer = &mut [0xA5; 4][..length];
+                let (list, error) = write_numbered(buffer, symbols, number)?;
+                let end = check(buffer, &list, error)
+                    .map_err(|e| format!("{e}: {list:?} over {length} bytes"))?;
+                ends[end as usize] += 1;
+            }
+        }
+    }
+    let [by_account, beyond, lost] = ends;
+    println!(
+        "round trip: all lists of at most {SHORT} of {} symbols over 0 to 4 bytes: {by_account} fit by \
+         their account, {beyond} though it is above 8 x length, {lost} do not fit",
+        ALPHABET.len()
+    );
+    Ok(())
+}
+
+/// The list whose symbols are the number's digits to the base of the alphabet, written and finished.
+fn write_numbered(
+    buffer: &mut [u8],
+    symbols: u32,
+    number: usize,
+) -> Result<(Vec<Symbol<'static>>, i32), String> {
+    let mut list = Vec::new();
+    let mut writer = accepted(ours::enc_open(buffer))?.state;
+    for place in 0..symbols {
+        let (model, value) = ALPHABET[number / ALPHABET.len().pow(place) % ALPHABET.len()];
+        writer = accepted(ours::enc(buffer, writer, model, value))?.state;
+        let account = accepted(ours::enc_account(buffer, writer))?.value;
+        list.push(Symbol {
+            model,
+            value,
+            account,
+        });
+    }
+    let done = accepted(ours::enc_done(buffer, writer))?;
+    Ok((list, done.state.error))
 }
 
 fn tables(rng: &mut Rng) -> Vec<Table> {
