@@ -14,6 +14,7 @@ pub mod libopus;
 pub mod models;
 pub mod ours;
 pub mod reader;
+pub mod record;
 pub mod report;
 pub mod rng;
 pub mod row;

@@ -1,15 +1,16 @@
 //! Holds our calls and tables to the crate's and to libopus's: a line for each comparison that came
 //! out equal, or the first difference and status 1.
 //!
-//! ORACLE_SEED picks the calls at random. `record FOLDER` writes the recorded answers anew;
+//! ORACLE_SEED picks the calls at random. `record` writes the recorded answers anew;
 //! `overflow`, built for debugging, holds that no accepted call overflows in the crate.
 
 use oracle::hold::Plans;
-use oracle::reader::{record, Reading};
+use oracle::reader::Reading;
+use oracle::record::{self, Recorded};
 use oracle::spectra::Spectra;
 use oracle::writer::Writing;
 use oracle::{hold, tables};
-use std::path::Path;
+use std::path::{Path, PathBuf};
 use std::process::ExitCode;
 use std::{env, fs};
 
@@ -18,8 +19,8 @@ fn main() -> ExitCode {
     let outcome = match words.iter().map(String::as_str).collect::<Vec<_>>()[..] {
         [] => compare(),
         ["overflow"] => overflow(),
-        ["record", folder] => write_record(Path::new(folder)),
-        _ => Err("usage: oracle [overflow | record FOLDER]".to_string()),
+        ["record"] => write_record::<Reading>().and_then(|()| write_record::<Writing>()),
+        _ => Err("usage: oracle [overflow | record]".to_string()),
     };
     match outcome {
         Ok(()) => ExitCode::SUCCESS,
@@ -37,7 +38,8 @@ fn compare() -> Result<(), String> {
     calls::<Reading>(seed)?;
     calls::<Writing>(seed)?;
     calls::<Spectra>(seed)?;
-    read_record().map_err(|e| format!("record: {e}"))
+    read_record::<Reading>()?;
+    read_record::<Writing>()
 }
 
 fn calls<K: Plans>(seed: u64) -> Result<(), String> {
@@ -72,32 +74,41 @@ fn seed() -> Result<u64, String> {
 
 // ---- the recorded answers
 
-fn write_record(folder: &Path) -> Result<(), String> {
-    let files = record::files()?;
+fn folder<K: Recorded>() -> PathBuf {
+    let crates = Path::new(env!("CARGO_MANIFEST_DIR")).join("../crates");
+    crates.join(K::FOLDER)
+}
+
+fn write_record<K: Recorded>() -> Result<(), String> {
+    let files = record::files::<K>()?;
     let write = |name, bytes: &[u8]| {
-        fs::write(folder.join(name), bytes).map_err(|e| format!("record: {name}: {e}"))
+        fs::write(folder::<K>().join(name), bytes)
+            .map_err(|e| format!("record: {}/{name}: {e}", K::FOLDER))
     };
     write("stdin", &files.stdin)?;
     write("stdout", files.stdout.as_bytes())
 }
 
 /// That the files in the tree are what the crate answers today.
-fn read_record() -> Result<(), String> {
-    let folder = Path::new(env!("CARGO_MANIFEST_DIR")).join("../crates/reader_cases");
-    let files = record::files()?;
-    let same = |name: &str, bytes: &[u8]| match fs::read(folder.join(name)) {
+fn read_record<K: Recorded>() -> Result<(), String> {
+    let files = record::files::<K>().map_err(|e| format!("record: {}: {e}", K::FOLDER))?;
+    let same = |name: &str, bytes: &[u8]| match fs::read(folder::<K>().join(name)) {
         Ok(found) if found == bytes => Ok(()),
         Ok(found) => {
             let place = found.iter().zip(bytes).take_while(|(a, b)| a == b).count();
             Err(format!(
-                "{name} DIFFERS from what is recorded today, from byte {place} on"
+                "record: {}/{name} DIFFERS from what is recorded today, from byte {place} on",
+                K::FOLDER
             ))
         }
-        Err(e) => Err(format!("{name}: {e}")),
+        Err(e) => Err(format!("record: {}/{name}: {e}", K::FOLDER)),
     };
     same("stdin", &files.stdin)?;
     same("stdout", files.stdout.as_bytes())?;
     let all = files.stdout.lines().last().unwrap_or_default();
-    println!("record: crates/reader_cases has the crate's answers of today: {all}");
+    println!(
+        "record: crates/{} has the crate's answers of today: {all}",
+        K::FOLDER
+    );
     Ok(())
 }

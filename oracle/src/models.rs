@@ -28,6 +28,21 @@ ways! { SymbolWay, SYMBOL_WAYS:
 }
 
 impl Model<'_> {
+    /// The exponent, the scale, the total or the count of raw bits.
+    pub fn number(self) -> u32 {
+        match self {
+            Model::Bit(n) | Model::Table(_, n) | Model::Number(n) | Model::Bits(n) => n,
+        }
+    }
+
+    /// A table's entries.
+    pub fn entries(&self) -> &[u8] {
+        match self {
+            Model::Table(entries, _) => entries,
+            _ => &[],
+        }
+    }
+
     /// How many raw bits a symbol of an accepted model has (RFC 6716, sections 4.1.4 and 4.1.5).
     pub fn raw_bits(self) -> u32 {
         match self {
@@ -190,6 +205,15 @@ const TOTALS: [u32; 22] = [
     u32::MAX,
 ];
 const SCALES: [u32; 12] = [0, 1, 2, 3, 4, 5, 6, 7, 8, 9, 32, u32::MAX];
+
+/// One model of each kind, and one that is refused.
+pub const FEW: [Model; 5] = [
+    Model::Bit(3),
+    Model::Table(&[200, 90, 90, 7, 0], 8),
+    Model::Number(100_000),
+    Model::Bits(11),
+    Model::Bits(26),
+];
 
 /// Tables at the limits of document 01's rule, each with its scale.
 pub fn limit_tables() -> Vec<(Vec<u8>, u32)> {

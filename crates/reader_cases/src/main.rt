@@ -1,51 +1,33 @@
 // Replays recorded calls of the reader: each record of standard input has a call and the crate's answer (docs/RECORDED.md has the layout).
 // Prints how many calls of each kind agreed, and then that all did, or the number of the first that did not.
 ghost use Prim.Native.Nat.{_+_, _<_, _≤_};
-ghost use mathlib.Core.Path.{_≡_};
 ghost use lib.ListN.{length};
-ghost use Rattle.reader_cases.specs.Places.{Placed};
+ghost use Rattle.records.specs.Places.{Placed};
 use entcode::Dec;
 use entcode::Decoded;
 use libc::STDIN_FILENO;
-use libc::STDOUT_FILENO;
+use records::Place;
+use records::word_run;
 
-// ---- numbers of the file, low byte first
-
-fn wide(x: u8) -> u32
-    ensures { λ r. ⌜ r < 256 ⌝ }
-{
-    x as u32
-}
-
-fn half(low: u8, high: u8) -> usize {
-    (wide(low) + 256 * wide(high)) as usize
-}
-
-fn word(buf: &[u8], at: usize) -> u32
-    requires { ⌜ at + 4 ≤ length (now buf) ⌝ }
-{
-    wide(buf[at]) | (wide(buf[at + 1]) << 8) | (wide(buf[at + 2]) << 16) | (wide(buf[at + 3]) << 24)
-}
+// ---- one call
 
 fn state(buf: &[u8], at: usize) -> Dec
     requires { ⌜ at + 44 ≤ length (now buf) ⌝ }
 {
     Dec {
-        storage: word(buf, at),
-        endoffs: word(buf, at + 4),
-        window: word(buf, at + 8),
-        wbits: word(buf, at + 12),
-        total: word(buf, at + 16),
-        offs: word(buf, at + 20),
-        rng: word(buf, at + 24),
-        val: word(buf, at + 28),
-        ext: word(buf, at + 32),
-        rem: word(buf, at + 36),
-        error: word(buf, at + 40),
+        storage: word_run(buf, at),
+        endoffs: word_run(buf, at + 4),
+        window: word_run(buf, at + 8),
+        wbits: word_run(buf, at + 12),
+        total: word_run(buf, at + 16),
+        offs: word_run(buf, at + 20),
+        rng: word_run(buf, at + 24),
+        val: word_run(buf, at + 28),
+        ext: word_run(buf, at + 32),
+        rem: word_run(buf, at + 36),
+        error: word_run(buf, at + 40),
     }
 }
-
-// ---- one call
 
 // Calls 1 to 6.
 fn ask(call: u8, packet: &[u8], d: Dec, number: u32, table: &[u8]) -> Decoded {
@@ -85,35 +67,12 @@ fn same_state(a: Dec, b: Dec) -> bool {
 fn agrees(buf: &[u8], at: usize, a: Decoded) -> bool
     requires { ⌜ at + 52 ≤ length (now buf) ⌝ }
 {
-    (a.refusal == word(buf, at))
-        & (a.value == word(buf, at + 4))
+    (a.refusal == word_run(buf, at))
+        & (a.value == word_run(buf, at + 4))
         & same_state(a.state, state(buf, at + 8))
 }
 
 // ---- one record
-
-// Where the replay stands: the next record, the packet's two ends, the state that the last call handed back; then the call of the
-// record just read (0 for a packet) and whether it agreed.
-struct Place {
-    at: usize,
-    from: usize,
-    to: usize,
-    last: usize,
-    call: u8,
-    agrees: bool,
-}
-
-// The replay ends at a record that differs, or breaks the layout.
-fn differs(buf: &[u8], p: Place) -> Place
-    requires { ⌜ Placed (now buf) p ⌝ }
-    ensures { λ q. ⌜ Placed (now (buf .entry)) q × (q .at ≡ length (now (buf .entry))) ⌝ }
-{
-    let mut q = p;
-    q.at = buf.len();
-    q.call = 7;
-    q.agrees = false;
-    q
-}
 
 // The call whose record's numbers start at `at`, its table at `tail`; its state stands at `before`.
 fn run(buf: &[u8], p: Place, call: u8, at: usize, before: usize, tail: usize, end: usize) -> Place
@@ -125,7 +84,7 @@ fn run(buf: &[u8], p: Place, call: u8, at: usize, before: usize, tail: usize, en
     let from = p.from;
     let to = p.to;
     let d = state(buf, before);
-    let number = word(buf, at + 52);
+    let number = word_run(buf, at + 52);
     let a = ask(call, &buf[from..to], d, number, &buf[tail..end]);
     if agrees(buf, at, a) {
         let mut q = p;
@@ -134,7 +93,7 @@ fn run(buf: &[u8], p: Place, call: u8, at: usize, before: usize, tail: usize, en
         q.call = call;
         return q;
     }
-    differs(buf, p)
+    records::differs_run(buf, p)
 }
 
 // The record at p.
@@ -143,42 +102,32 @@ fn record(buf: &[u8], p: Place) -> Place
     ensures { λ q. ⌜ Placed (now (buf .entry)) q × (p .at < q .at) ⌝ }
 {
     let n = buf.len();
-    let head = p.at;
-    if n - head < 4 {
-        return differs(buf, p);
-    }
-    let size = half(buf[head], buf[head + 1]);
-    let call = buf[head + 2];
-    let at = head + 4;
-    if n - at < size {
-        return differs(buf, p);
-    }
-    let end = at + size;
+    let place = p.at;
+    let h = records::head_run(buf, place);
+    let call = h.call;
+    let at = h.at;
+    let end = h.end;
+    let size = end - at;
     if call == 0 {
-        let mut q = p;
-        q.at = end;
-        q.from = at;
-        q.to = end;
-        q.call = 0;
-        return q;
+        return records::given_run(buf, p, h);
     }
     if 6 < call {
-        return differs(buf, p);
+        return records::differs_run(buf, p);
     }
     if size < 56 {
-        return differs(buf, p);
+        return records::differs_run(buf, p);
     }
-    if buf[head + 3] == 0 {
+    if h.how == 0 {
         // its state stands in the record
         if size < 100 {
-            return differs(buf, p);
+            return records::differs_run(buf, p);
         }
         return run(buf, p, call, at, at + 56, at + 100, end);
     }
     // its state is what the call before handed back
     let last = p.last;
     if n - last < 44 {
-        return differs(buf, p);
+        return records::differs_run(buf, p);
     }
     run(buf, p, call, at, last, at + 56, end)
 }
@@ -196,44 +145,26 @@ struct Tally {
     bits: u32,
 }
 
-fn more(count: u32, counts: bool) -> u32 {
-    if counts {
-        std::num::wrapping_add_u32(count, 1)
-    } else {
-        count
-    }
-}
-
 fn counted(t: Tally, call: u8, agrees: bool) -> Tally {
     Tally {
-        calls: more(t.calls, call != 0),
-        open: more(t.open, agrees & (call == 1)),
-        account: more(t.account, agrees & (call == 2)),
-        bit: more(t.bit, agrees & (call == 3)),
-        table: more(t.table, agrees & (call == 4)),
-        number: more(t.number, agrees & (call == 5)),
-        bits: more(t.bits, agrees & (call == 6)),
+        calls: records::more(t.calls, call != 0),
+        open: records::more(t.open, agrees & (call == 1)),
+        account: records::more(t.account, agrees & (call == 2)),
+        bit: records::more(t.bit, agrees & (call == 3)),
+        table: records::more(t.table, agrees & (call == 4)),
+        number: records::more(t.number, agrees & (call == 5)),
+        bits: records::more(t.bits, agrees & (call == 6)),
     }
-}
-
-fn line(before: &[u8], number: u32, behind: &[u8]) {
-    io::write_all(STDOUT_FILENO, before);
-    io::print_decimal(STDOUT_FILENO, number as u64);
-    io::write_all(STDOUT_FILENO, behind);
 }
 
 fn report(t: Tally, all: bool) {
-    line(b"open ", t.open, b"\n");
-    line(b"account ", t.account, b"\n");
-    line(b"bit ", t.bit, b"\n");
-    line(b"table ", t.table, b"\n");
-    line(b"number ", t.number, b"\n");
-    line(b"bits ", t.bits, b"\n");
-    if all {
-        line(b"all ", t.calls, b" agree\n");
-    } else {
-        line(b"call ", t.calls, b" differs\n");
-    }
+    records::line(b"open ", t.open, b"\n");
+    records::line(b"account ", t.account, b"\n");
+    records::line(b"bit ", t.bit, b"\n");
+    records::line(b"table ", t.table, b"\n");
+    records::line(b"number ", t.number, b"\n");
+    records::line(b"bits ", t.bits, b"\n");
+    records::verdict(all, t.calls);
 }
 
 fn replay(buf: &[u8]) {

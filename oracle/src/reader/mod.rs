@@ -2,8 +2,8 @@
 
 #[cfg(libopus)]
 mod libopus;
+mod listed;
 mod plans;
-pub mod record;
 mod sides;
 mod states;
 

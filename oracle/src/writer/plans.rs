@@ -4,7 +4,7 @@ use super::states::{at_digit, breaks, sound};
 use super::{Ask, Writing};
 use crate::bytes::{fill, Bytes, Fill, FILLS, LENGTHS};
 use crate::compare::{Answer, Sink};
-use crate::domain::{LAST_TOTAL, LONGEST, TOTALS};
+use crate::domain::{LAST_TOTAL, LONGEST, LONGEST_RUN, TOTALS};
 use crate::hold::{Outcome, Plans};
 use crate::models::{self, Entries, Model};
 use crate::rng::Rng;
@@ -36,6 +36,11 @@ impl Plans for Writing {
 
         to_the_end(sink, rng)?;
         let plan = "along a buffer until its total refuses more";
+        said(sink.counters().all(), plan);
+
+        runs(sink, &[0, 3, LONGEST])?;
+        finishes(sink, rng, 1_000_000 / share)?;
+        let plan = "where a run is stored and where a finish all but fits";
         said(sink.counters().all(), plan);
 
         on_sound(sink, rng, 4_000_000 / share)?;
@@ -216,6 +221,58 @@ pub fn to_the_end(sink: &mut impl Sink<Writing>, rng: &mut Rng) -> Outcome {
         (3, 3) => Ok(()),
         refusals => Err(format!("past the last total: {refusals:?}")),
     }
+}
+
+/// Runs, short and as long as sound ones can be, that the next digit stores or makes longer.
+pub fn runs(sink: &mut impl Sink<Writing>, lengths: &[usize]) -> Outcome {
+    let mut buffer: Bytes = [0xA5; LONGEST + 1];
+    let asks = [Ask::Write(Model::Bit(1), 0), Ask::Done { again: false }];
+    for (&length, ext) in lengths
+        .iter()
+        .flat_map(|n| [1, 2, 124_996, LONGEST_RUN].map(|ext| (n, ext)))
+    {
+        let buffer = &mut buffer[..length];
+        let fresh = sink.put(buffer, Writer::default(), Ask::Open)?.state;
+        for (digit, rem) in [254, 255, 256, 510]
+            .into_iter()
+            .flat_map(|digit| [-1, 0, 255].map(|rem| (digit, rem)))
+        {
+            let writer = Writer {
+                rng: (1 << 23) + 2,
+                val: digit << 23,
+                ext,
+                rem,
+                nbits_total: LAST_TOTAL,
+                ..fresh
+            };
+            for ask in asks {
+                sink.put(buffer, writer, ask)?;
+            }
+        }
+    }
+    Ok(())
+}
+
+/// Writers without error over a few bytes, whose finish just fits or just does not; of some, all that
+/// was written is raw bits.
+pub fn finishes(sink: &mut impl Sink<Writing>, rng: &mut Rng, calls: u32) -> Outcome {
+    let mut buffer: Bytes = [0; LONGEST + 1];
+    for _ in 0..calls {
+        let length = rng.between(0, 7) as usize;
+        let buffer = &mut buffer[..length];
+        rng.fill(buffer);
+        let mut writer = sound(rng, length);
+        writer.nbits_total = LAST_TOTAL;
+        writer.ext = rng.pick(&[0, 0, 0, 1, 2]);
+        writer.error = 0;
+        if rng.one_in(4) {
+            (writer.rng, writer.val) = (1 << 31, 0);
+            (writer.ext, writer.rem) = (0, -1);
+            (writer.offs, writer.end_offs) = (0, rng.between(0, length as u32));
+        }
+        sink.put(buffer, writer, Ask::Done { again: false })?;
+    }
+    Ok(())
 }
 
 /// Arbitrary sound writers, half of them with the value where a digit ends.

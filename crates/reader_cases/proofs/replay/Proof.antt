@@ -2,7 +2,7 @@
 use Prim.Native.Nat.{_-_}
 use borrow.Author.Needs.{needs}
 use lib.ListN.{length}
-use Rattle.reader_cases.specs.Places.{Placed}
+use Rattle.records.specs.Places.{Placed}
 use Rattle.reader_cases.proofs.replay.Statement.{statement}
 use Rattle.reader_cases.proofs.replay.Tie as tie
 
