@@ -19,7 +19,7 @@ fn main() -> ExitCode {
     let outcome = match words.iter().map(String::as_str).collect::<Vec<_>>()[..] {
         [] => compare(),
         ["overflow"] => overflow(),
-        ["record"] => write_record::<Reading>().and_then(|()| write_record::<Writing>()),
+        ["record"] => write_records(),
         _ => Err("usage: oracle [overflow | record]".to_string()),
     };
     match outcome {
@@ -39,7 +39,8 @@ fn compare() -> Result<(), String> {
     calls::<Writing>(seed)?;
     calls::<Spectra>(seed)?;
     read_record::<Reading>()?;
-    read_record::<Writing>()
+    read_record::<Writing>()?;
+    read_record::<Spectra>()
 }
 
 fn calls<K: Plans>(seed: u64) -> Result<(), String> {
@@ -77,6 +78,12 @@ fn seed() -> Result<u64, String> {
 fn folder<K: Recorded>() -> PathBuf {
     let crates = Path::new(env!("CARGO_MANIFEST_DIR")).join("../crates");
     crates.join(K::FOLDER)
+}
+
+fn write_records() -> Result<(), String> {
+    write_record::<Reading>()?;
+    write_record::<Writing>()?;
+    write_record::<Spectra>()
 }
 
 fn write_record<K: Recorded>() -> Result<(), String> {
