@@ -2,7 +2,7 @@
 //! back: a line for each comparison that came out equal, or the first difference and status 1.
 //!
 //! ORACLE_SEED picks the calls at random. `record` writes the recorded answers anew;
-//! `overflow`, built with overflow checks, holds that no accepted call overflows in the crate.
+//! `overflow`, built for debugging, holds that no accepted call overflows in the crate.
 
 use oracle::hold::Plans;
 use oracle::reader::Reading;
@@ -19,7 +19,7 @@ fn main() -> ExitCode {
     let outcome = match words.iter().map(String::as_str).collect::<Vec<_>>()[..] {
         [] => compare(),
         ["overflow"] => overflow(),
-        ["record"] => write_record::<Reading>().and_then(|()| write_record::<Writing>()),
+        ["record"] => write_records(),
         _ => Err("usage: oracle [overflow | record]".to_string()),
     };
     match outcome {
@@ -40,7 +40,8 @@ fn compare() -> Result<(), String> {
     calls::<Spectra>(seed)?;
     roundtrip::hold(seed).map_err(|e| format!("round trip: {e}"))?;
     read_record::<Reading>()?;
-    read_record::<Writing>()
+    read_record::<Writing>()?;
+    read_record::<Spectra>()
 }
 
 fn calls<K: Plans>(seed: u64) -> Result<(), String> {
@@ -78,6 +79,12 @@ fn seed() -> Result<u64, String> {
 fn folder<K: Recorded>() -> PathBuf {
     let crates = Path::new(env!("CARGO_MANIFEST_DIR")).join("../crates");
     crates.join(K::FOLDER)
+}
+
+fn write_records() -> Result<(), String> {
+    write_record::<Reading>()?;
+    write_record::<Writing>()?;
+    write_record::<Spectra>()
 }
 
 fn write_record<K: Recorded>() -> Result<(), String> {

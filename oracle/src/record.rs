@@ -1,5 +1,5 @@
-//! The fixed lists of calls with the crate's answers that crates/reader_cases and crates/writer_cases
-//! replay, in the layout of docs/RECORDED.md.
+//! The fixed lists of calls with the crate's answers that the programs crates/.._cases replay, in the
+//! layout of docs/RECORDED.md.
 
 use crate::compare::{Answer, Sides, Sink};
 use crate::counters::Counters;

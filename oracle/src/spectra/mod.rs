@@ -2,6 +2,7 @@
 
 #[cfg(libopus)]
 mod libopus;
+mod listed;
 mod plans;
 mod sides;
 mod text;

@@ -21,18 +21,19 @@ impl Plans for Spectra {
         said(sink.counters().all(), plan);
 
         for _ in 0..(32 / share).max(1) {
-            lengths(sink, rng)?;
-            gap_rule(sink, rng)?;
+            lengths(sink, rng, 0..=ROOM)?;
+            gap_rule(sink, rng, 2..=16)?;
         }
         let plan = "of the stabiliser at the limits of lengths and gap sets";
         said(sink.counters().all(), plan);
 
-        decoded(sink, rng, 4_000 / share)?;
+        // As many for libopus, whose books are its own.
+        decoded(sink, rng, 4_000 / share.div_ceil(4))?;
         let plan = "decoding every first index at every rate";
         said(sink.counters().all(), plan);
 
         for _ in 0..(32 / share).max(1) {
-            numbers(sink, rng)?;
+            numbers(sink, rng, &RATES)?;
         }
         let plan = "decoding at the limits of rates, indices and lengths";
         said(sink.counters().all(), plan);
@@ -65,10 +66,15 @@ pub fn stabilised(sink: &mut impl Sink<Spectra>, rng: &mut Rng, calls: u32) -> O
     Ok(())
 }
 
-/// Every length of the vector beside every length of the gaps, whose rule is kept, or broken: 6 comes
+/// These lengths of the vector beside every length of the gaps, whose rule is kept, or broken: 6 comes
 /// before 7.
-pub fn lengths(sink: &mut impl Sink<Spectra>, rng: &mut Rng) -> Outcome {
-    for (n, m) in (0..=ROOM).flat_map(|n| (0..=ROOM + 1).map(move |m| (n, m))) {
+pub fn lengths(
+    sink: &mut impl Sink<Spectra>,
+    rng: &mut Rng,
+    lengths: impl IntoIterator<Item = usize>,
+) -> Outcome {
+    let lengths = lengths.into_iter();
+    for (n, m) in lengths.flat_map(|n| (0..=ROOM + 1).map(move |m| (n, m))) {
         let mut set = vec![rng.between(0, 1800) as i16; m];
         let full = Vector::of(&[rng.word() as i16; ROOM][..n]);
         if let Some(last) = set.last_mut() {
@@ -84,8 +90,12 @@ pub fn lengths(sink: &mut impl Sink<Spectra>, rng: &mut Rng) -> Outcome {
 }
 
 /// Gap sets that just keep their rule, and that break it by one or by much, at every place.
-pub fn gap_rule(sink: &mut impl Sink<Spectra>, rng: &mut Rng) -> Outcome {
-    for n in 2..=16 {
+pub fn gap_rule(
+    sink: &mut impl Sink<Spectra>,
+    rng: &mut Rng,
+    lengths: impl IntoIterator<Item = usize>,
+) -> Outcome {
+    for n in lengths {
         let small = parts(rng, n, 600);
         for place in 0..=n {
             for gap in [-1, i16::MIN, 0, 1] {
@@ -122,13 +132,13 @@ pub fn decoded(sink: &mut impl Sink<Spectra>, rng: &mut Rng, sets: u32) -> Outco
 
 /// Rates, indices and lengths at their limits and past them, one at a time, and with a length that is
 /// wrong too: 4 comes before 6.
-pub fn numbers(sink: &mut impl Sink<Spectra>, rng: &mut Rng) -> Outcome {
+pub fn numbers(sink: &mut impl Sink<Spectra>, rng: &mut Rng, rates: &[u32]) -> Outcome {
     for khz in [0, 7, 9, 10, 11, 13, 15, 17, 24, 48, 264, u32::MAX] {
         for n in [10, 16, 1] {
             decode(sink, n, indices(rng, 3, 16), khz)?;
         }
     }
-    for khz in RATES {
+    for &khz in rates {
         for n in 0..=ROOM {
             decode(sink, n, indices(rng, 31, khz), khz)?;
         }
