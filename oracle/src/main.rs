@@ -8,7 +8,7 @@ use oracle::hold::Plans;
 use oracle::reader::Reading;
 use oracle::record::{self, Recorded};
 use oracle::writer::Writing;
-use oracle::{hold, roundtrip, tables};
+use oracle::{frames, hold, roundtrip, tables};
 use std::path::{Path, PathBuf};
 use std::process::ExitCode;
 use std::{env, fs};
@@ -37,6 +37,7 @@ fn compare() -> Result<(), String> {
     calls::<Reading>(seed)?;
     calls::<Writing>(seed)?;
     roundtrip::hold(seed).map_err(|e| format!("round trip: {e}"))?;
+    frames::hold(seed)?;
     read_record::<Reading>()?;
     read_record::<Writing>()
 }
@@ -51,7 +52,8 @@ fn overflow() -> Result<(), String> {
         return Err("overflow: built without overflow checks".to_string());
     }
     no_overflow::<Reading>()?;
-    no_overflow::<Writing>()
+    no_overflow::<Writing>()?;
+    frames::no_overflow(seed()?).map_err(|e| format!("overflow: {e}"))
 }
 
 fn no_overflow<K: Plans>() -> Result<(), String> {
