@@ -2,6 +2,7 @@
 //! Written from its text alone, and put around the crate's calls, which refuse nothing.
 
 use crate::compare::Answer;
+use crate::frames::{indices, pulses};
 use crate::models::Model;
 use crate::state::{Reader, State, Writer};
 use crate::{reader, spectra, writer};
@@ -33,13 +34,42 @@ pub const LONGEST_RUN: u32 = 150_000;
 
 /// The number that refuses a call on a reader, or 0.
 pub fn reader_refusal(packet: &[u8], reader: &Reader, ask: reader::Ask) -> u32 {
-    let length = packet.len();
-    let gate = || gate(length, sound_reader(length, reader), reader.nbits_total);
     match ask {
-        reader::Ask::Open => first(&[(1, length > LONGEST)]),
-        reader::Ask::Account => gate(),
-        reader::Ask::Read(model) => or(gate(), || model_refusal(model)),
+        reader::Ask::Open => first(&[(1, packet.len() > LONGEST)]),
+        reader::Ask::Account => reader_gate(packet, reader),
+        reader::Ask::Read(model) => or(reader_gate(packet, reader), || model_refusal(model)),
     }
+}
+
+/// The number that refuses reading side indices, or 0.
+pub fn indices_refusal(packet: &[u8], reader: &Reader, call: &indices::Call) -> u32 {
+    let kept = frame_kept(call.khz, call.subframes)
+        && call.active <= 1
+        && call.mode <= 2
+        && call.held.prev_type <= 2;
+    or(reader_gate(packet, reader), || first(&[(4, !kept)]))
+}
+
+/// The number that refuses reading pulses, or 0.
+pub fn pulses_refusal(packet: &[u8], reader: &Reader, call: &pulses::Call) -> u32 {
+    let kept =
+        frame_kept(call.khz, call.subframes) && call.signal_type <= 2 && call.offset_type <= 1;
+    or(reader_gate(packet, reader), || {
+        first(&[
+            (4, !kept),
+            (6, call.pulses.len() != pulses_of(call.khz, call.subframes)),
+        ])
+    })
+}
+
+/// "8, 12 or 16 kHz; 2 or 4 subframes."
+fn frame_kept(khz: u32, subframes: u32) -> bool {
+    [8, 12, 16].contains(&khz) && [2, 4].contains(&subframes)
+}
+
+/// "Frame length is 5 x kHz x subframes .. Blocks of 16 .. The pulse buffer holds exactly 16 x blocks."
+pub fn pulses_of(khz: u32, subframes: u32) -> usize {
+    (5 * u64::from(khz) * u64::from(subframes)).next_multiple_of(16) as usize
 }
 
 /// The number that refuses a call on a writer, or 0.
@@ -102,6 +132,11 @@ fn first(checks: &[(u32, bool)]) -> u32 {
 /// Refusals 1 to 3, which every call on a state can answer.
 fn gate(length: usize, sound: bool, total: u32) -> u32 {
     first(&[(1, length > LONGEST), (2, !sound), (3, total > LAST_TOTAL)])
+}
+
+fn reader_gate(packet: &[u8], reader: &Reader) -> u32 {
+    let sound = sound_reader(packet.len(), reader);
+    gate(packet.len(), sound, reader.nbits_total)
 }
 
 /// "A sound reader: .."

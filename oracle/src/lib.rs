@@ -8,6 +8,7 @@ pub mod bytes;
 pub mod compare;
 pub mod counters;
 pub mod domain;
+pub mod frames;
 pub mod hold;
 #[cfg(libopus)]
 pub mod libopus;

@@ -9,7 +9,7 @@ use oracle::reader::Reading;
 use oracle::record::{self, Recorded};
 use oracle::spectra::Spectra;
 use oracle::writer::Writing;
-use oracle::{hold, roundtrip, tables};
+use oracle::{frames, hold, roundtrip, tables};
 use std::path::{Path, PathBuf};
 use std::process::ExitCode;
 use std::{env, fs};
@@ -39,6 +39,7 @@ fn compare() -> Result<(), String> {
     calls::<Writing>(seed)?;
     calls::<Spectra>(seed)?;
     roundtrip::hold(seed).map_err(|e| format!("round trip: {e}"))?;
+    frames::hold(seed)?;
     read_record::<Reading>()?;
     read_record::<Writing>()?;
     read_record::<Spectra>()
@@ -55,7 +56,8 @@ fn overflow() -> Result<(), String> {
     }
     no_overflow::<Reading>()?;
     no_overflow::<Writing>()?;
-    no_overflow::<Spectra>()
+    no_overflow::<Spectra>()?;
+    frames::no_overflow(seed()?).map_err(|e| format!("overflow: {e}"))
 }
 
 fn no_overflow<K: Plans>() -> Result<(), String> {

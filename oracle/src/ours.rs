@@ -1,6 +1,7 @@
 //! The exported calls of our proved libraries.
 
 use crate::compare::Answer;
+use crate::frames::{indices, pulses};
 use crate::models::Model;
 use crate::spectra::Vector;
 use crate::state::{Reader, Writer};
@@ -24,6 +25,7 @@ struct Moves {
 
 mod raw {
     use super::{Answer, Moves, Reader, Spectrum, Writer};
+    use crate::frames::indices::{IndicesRead, Record};
     type Read = Answer<Reader>;
     type Written = Answer<Writer>;
 
@@ -60,6 +62,30 @@ mod raw {
         pub fn tg_enc_uint(buf: *mut u8, len: usize, w: Writer, value: u32, total: u32) -> Written;
         pub fn tg_enc_bits(buf: *mut u8, len: usize, w: Writer, value: u32, bits: u32) -> Written;
         pub fn tg_enc_done(buf: *mut u8, len: usize, w: Writer) -> Written;
+
+        pub fn tg_decode_indices(
+            packet: *const u8,
+            len: usize,
+            r: Reader,
+            record: Record,
+            khz: u32,
+            subframes: u32,
+            active: u32,
+            mode: u32,
+            prev_type: u32,
+            prev_lag: i16,
+        ) -> IndicesRead;
+        pub fn tg_decode_pulses(
+            packet: *const u8,
+            len: usize,
+            r: Reader,
+            pulses: *mut i16,
+            n: usize,
+            khz: u32,
+            subframes: u32,
+            signal_type: u32,
+            offset_type: u32,
+        ) -> Read;
 
         pub fn tg_nlsf_decode(vector: *mut i16, n: usize, indices: Spectrum, khz: u32) -> Moves;
         pub fn tg_nlsf_stabilise(v: *mut i16, n: usize, gaps: *const i16, m: usize) -> Moves;
@@ -120,6 +146,42 @@ pub fn enc(buffer: &mut [u8], w: Writer, model: Model, value: u32) -> Answer<Wri
 
 pub fn enc_done(buffer: &mut [u8], w: Writer) -> Answer<Writer> {
     unsafe { raw::tg_enc_done(buffer.as_mut_ptr(), buffer.len(), w) }
+}
+
+pub fn decode_indices(packet: &[u8], r: Reader, call: &indices::Call) -> indices::IndicesRead {
+    unsafe {
+        raw::tg_decode_indices(
+            packet.as_ptr(),
+            packet.len(),
+            r,
+            call.held.record,
+            call.khz,
+            call.subframes,
+            call.active,
+            call.mode,
+            call.held.prev_type,
+            call.held.prev_lag,
+        )
+    }
+}
+
+/// The answer, and what it leaves in the call's pulses.
+pub fn decode_pulses(packet: &[u8], r: Reader, call: &pulses::Call) -> (Answer<Reader>, Vec<i16>) {
+    let mut pulses = call.pulses.clone();
+    let answer = unsafe {
+        raw::tg_decode_pulses(
+            packet.as_ptr(),
+            packet.len(),
+            r,
+            pulses.as_mut_ptr(),
+            pulses.len(),
+            call.khz,
+            call.subframes,
+            call.signal_type,
+            call.offset_type,
+        )
+    };
+    (answer, pulses)
 }
 
 // SAFETY of the calls on line spectra: the same, and no gap is a part of the vector.

@@ -38,11 +38,11 @@ pub fn difference<K: Kind>(
     lines.join("\n    ")
 }
 
-fn answer<S: std::fmt::Debug>(answer: Option<Answer<S>>) -> String {
+pub fn answer<S: std::fmt::Debug>(answer: Option<Answer<S>>) -> String {
     answer.map_or("panics".to_string(), |answer| format!("{answer:?}"))
 }
 
-fn hex(bytes: &[u8]) -> String {
+pub fn hex(bytes: &[u8]) -> String {
     let shown = bytes.iter().take(SHOWN).map(|byte| format!("{byte:02X} "));
     let more = if bytes.len() > SHOWN { ".." } else { "" };
     shown.collect::<String>() + more

@@ -12,6 +12,9 @@ use crate::models::Model;
 use crate::state::Reader;
 use crate::ways::ways;
 
+pub use sides::read;
+pub use states::{breaks, sound};
+
 #[derive(Clone, Copy, Debug)]
 pub enum Ask<'a> {
     Open,

@@ -1,0 +1,197 @@
+//! The pulses of a frame.
+
+use super::Frame;
+use crate::compare::Answer;
+use crate::domain::{pulses_of, pulses_refusal};
+use crate::models::Model;
+use crate::ours;
+use crate::reader::read;
+use crate::rng::Rng;
+use crate::silk::decode_pulses::silk_decode_pulses;
+use crate::silk::tables_pulses_per_block::{silk_pulses_per_block_iCDF, silk_rate_levels_iCDF};
+use crate::state::Reader;
+use crate::ways::ways;
+
+#[derive(Clone, Debug)]
+pub struct Call {
+    pub khz: u32,
+    pub subframes: u32,
+    pub signal_type: u32,
+    pub offset_type: u32,
+    pub pulses: Vec<i16>,
+}
+
+ways! { Way, WAYS:
+    Level0 "rate level 0",
+    Level1 "1",
+    Level2 "2",
+    Level3 "3",
+    Level4 "4",
+    Level5 "5",
+    Level6 "6",
+    Level7 "7",
+    Level8 "8",
+    NoLows "blocks without low bits",
+    OneLow "with 1",
+    MoreLows "2 to 9",
+    TenLows "10",
+    Empty "count 0",
+    EmptyLows "count 0 with low bits",
+    Full "count 16",
+    Split "count split among pulses",
+    AsOne "all on one pulse",
+    SignRow "sign row below 6",
+    LastSignRow "sign row 6",
+    Minus "pulse below 0",
+    Plus "above 0",
+    Large "above 16 or below -16",
+}
+
+/// The low bits and the count before them.
+type Block = (usize, u32);
+
+impl Frame for Call {
+    type Held = Vec<i16>;
+
+    const NAME: &'static str = "pulses";
+    const WAYS: &'static [&'static str] = WAYS;
+    const REFUSALS: &'static [usize] = &[1, 2, 3, 4, 6];
+    const EACH: u32 = 12_000;
+
+    fn all() -> Vec<Call> {
+        let mut all = Vec::new();
+        for (khz, subframes) in super::sizes() {
+            for signal_type in 0..3 {
+                all.extend((0..2).map(|offset_type| Call {
+                    khz,
+                    subframes,
+                    signal_type,
+                    offset_type,
+                    pulses: vec![0; pulses_of(khz, subframes)],
+                }));
+            }
+        }
+        all
+    }
+
+    fn outside() -> &'static [fn(&mut Call)] {
+        &[
+            |c| c.khz -= 1,
+            |c| c.khz += 1,
+            |c| c.khz = u32::MAX,
+            |c| c.subframes -= 1,
+            |c| c.subframes += 1,
+            |c| c.subframes = u32::MAX,
+            |c| c.signal_type = 3,
+            |c| c.signal_type = u32::MAX,
+            |c| c.offset_type = 2,
+            |c| c.offset_type = u32::MAX,
+            |c| c.pulses.truncate(c.pulses.len() - 1),
+            |c| c.pulses.push(-1),
+            |c| c.pulses.clear(),
+            // A frame of 120 pulses takes 128 places.
+            |c| c.pulses.truncate(c.pulses.len() - 8),
+            |c| {
+                c.offset_type = 2;
+                c.pulses.push(1);
+            },
+        ]
+    }
+
+    fn refill(&mut self, rng: &mut Rng) {
+        self.pulses.fill_with(|| rng.word() as i16);
+    }
+
+    fn held(&self) -> &Vec<i16> {
+        &self.pulses
+    }
+
+    fn refusal(&self, packet: &[u8], reader: &Reader) -> u32 {
+        pulses_refusal(packet, reader, self)
+    }
+
+    fn ours(&self, packet: &mut [u8], reader: Reader) -> Answer<(Reader, Vec<i16>)> {
+        let (answer, pulses) = ours::decode_pulses(packet, reader, self);
+        Answer {
+            refusal: answer.refusal,
+            value: answer.value,
+            state: (answer.state, pulses),
+        }
+    }
+
+    fn unopus(&self, packet: &mut [u8], reader: Reader) -> (Reader, Vec<i16>) {
+        let mut pulses = self.pulses.clone();
+        let mut ctx = reader.beside(packet);
+        // SAFETY: an accepted call has 16 pulses for each block.
+        unsafe {
+            silk_decode_pulses(
+                &mut ctx,
+                pulses.as_mut_ptr(),
+                self.signal_type as i32,
+                self.offset_type as i32,
+                (5 * self.khz * self.subframes) as i32,
+            )
+        };
+        (Reader::of_the_crate(&ctx), pulses)
+    }
+
+    #[cfg(libopus)]
+    fn libopus(&self, packet: &mut [u8], reader: Reader) -> (Reader, Vec<i16>) {
+        super::libopus::pulses(self, packet, reader)
+    }
+
+    fn took(
+        &self,
+        packet: &mut [u8],
+        before: Reader,
+        after: &Vec<i16>,
+        mut mark: impl FnMut(usize, bool),
+    ) {
+        let (level, blocks) = self.counts(packet, before);
+        mark(Way::Level0 as usize + level, true);
+        for (block, pulses) in blocks.into_iter().zip(after.chunks(16)) {
+            block_ways(block, pulses, &mut |way, taken| mark(way as usize, taken));
+        }
+    }
+}
+
+impl Call {
+    /// The rate level and the blocks, which are read before all pulses.
+    fn counts(&self, packet: &mut [u8], mut reader: Reader) -> (usize, Vec<Block>) {
+        let mut next = |row: &[u8]| {
+            let (symbol, after) = read(packet, reader, Model::Table(row, 8));
+            reader = after;
+            symbol
+        };
+        let level = next(&silk_rate_levels_iCDF[self.signal_type as usize >> 1]) as usize;
+        let block = |_| {
+            let (mut lows, mut count) = (0, next(&silk_pulses_per_block_iCDF[level]));
+            while count == 17 {
+                lows += 1;
+                count = next(&silk_pulses_per_block_iCDF[9][usize::from(lows == 10)..]);
+            }
+            (lows, count)
+        };
+        (level, (0..self.pulses.len() / 16).map(block).collect())
+    }
+}
+
+fn block_ways((lows, count): Block, pulses: &[i16], mark: &mut impl FnMut(Way, bool)) {
+    mark(Way::NoLows, lows == 0);
+    mark(Way::OneLow, lows == 1);
+    mark(Way::MoreLows, (2..10).contains(&lows));
+    mark(Way::TenLows, lows == 10);
+    mark(Way::Empty, count == 0 && lows == 0);
+    mark(Way::EmptyLows, count == 0 && lows > 0);
+    mark(Way::Full, count == 16);
+    let sized = pulses.iter().filter(|p| p.unsigned_abs() >> lows != 0);
+    let sized = sized.count();
+    mark(Way::Split, count > 1 && sized > 1);
+    mark(Way::AsOne, count > 1 && sized == 1);
+    let signed = pulses.iter().any(|&p| p != 0);
+    mark(Way::SignRow, signed && count < 6);
+    mark(Way::LastSignRow, signed && count >= 6);
+    mark(Way::Minus, pulses.iter().any(|&p| p < 0));
+    mark(Way::Plus, pulses.iter().any(|&p| p > 0));
+    mark(Way::Large, pulses.iter().any(|&p| p.abs() > 16));
+}
