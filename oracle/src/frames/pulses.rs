@@ -44,7 +44,8 @@ ways! { Way, WAYS:
     LastSignRow "sign row 6",
     Minus "pulse below 0",
     Plus "above 0",
-    Large "above 16 or below -16",
+    Large "beyond 16",
+    Largest "17,407",
 }
 
 /// The low bits and the count before them.
@@ -194,4 +195,6 @@ fn block_ways((lows, count): Block, pulses: &[i16], mark: &mut impl FnMut(Way, b
     mark(Way::Minus, pulses.iter().any(|&p| p < 0));
     mark(Way::Plus, pulses.iter().any(|&p| p > 0));
     mark(Way::Large, pulses.iter().any(|&p| p.abs() > 16));
+    // "Largest magnitude: 16 x 1024 + 1023."
+    mark(Way::Largest, pulses.iter().any(|&p| p.abs() == 17_407));
 }
