@@ -13,17 +13,17 @@ pub const END: u32 = 65536;
 pub const TABLES: u32 = 13;
 
 #[repr(C)]
-struct Spectrum {
-    index: [i8; 17],
+pub struct Spectrum {
+    pub index: [i8; 17],
 }
 
 #[repr(C)]
-struct Moves {
-    refusal: u32,
-    moves: u32,
+pub struct Moves {
+    pub refusal: u32,
+    pub moves: u32,
 }
 
-mod raw {
+pub mod raw {
     use super::{Answer, Moves, Reader, Spectrum, Writer};
     use crate::frames::indices::{IndicesRead, Record};
     type Read = Answer<Reader>;

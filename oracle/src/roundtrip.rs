@@ -44,7 +44,7 @@ pub fn hold(seed: u64) -> Outcome {
         };
         let buffer = &mut buffer[..length as usize];
         rng.fill(buffer);
-        let (list, error) = write(&mut rng, &tables, buffer)?;
+        let (list, error) = write(buffer, at_random(&mut rng, &tables, length))?;
         let ends = check(buffer, &list, error);
         let ends = ends.map_err(|e| format!("{e}: {list:?} over {length} bytes"))?;
         tally.count(&list, ends);
@@ -77,7 +77,10 @@ fn every_short_list() -> Outcome {
         for symbols in 0..=SHORT {
             for number in 0..ALPHABET.len().pow(symbols) {
                 let buffer = &mut [0xA5; 4][..length];
-                let (list, error) = write_numbered(buffer, symbols, number)?;
+                // The number's digits to the base of the alphabet.
+                let mut digits = (0..symbols).map(|place| number / ALPHABET.len().pow(place));
+                let next = |_| digits.next().map(|digit| ALPHABET[digit % ALPHABET.len()]);
+                let (list, error) = write(buffer, next)?;
                 let end = check(buffer, &list, error)
                     .map_err(|e| format!("{e}: {list:?} over {length} bytes"))?;
                 ends[end as usize] += 1;
@@ -93,28 +96,6 @@ fn every_short_list() -> Outcome {
     Ok(())
 }
 
-/// The list whose symbols are the number's digits to the base of the alphabet, written and finished.
-fn write_numbered(
-    buffer: &mut [u8],
-    symbols: u32,
-    number: usize,
-) -> Result<(Vec<Symbol<'static>>, i32), String> {
-    let mut list = Vec::new();
-    let mut writer = accepted(ours::enc_open(buffer))?.state;
-    for place in 0..symbols {
-        let (model, value) = ALPHABET[number / ALPHABET.len().pow(place) % ALPHABET.len()];
-        writer = accepted(ours::enc(buffer, writer, model, value))?.state;
-        let account = accepted(ours::enc_account(buffer, writer))?.value;
-        list.push(Symbol {
-            model,
-            value,
-            account,
-        });
-    }
-    let done = accepted(ours::enc_done(buffer, writer))?;
-    Ok((list, done.state.error))
-}
-
 fn tables(rng: &mut Rng) -> Vec<Table> {
     let mut tables: Vec<Table> = unopus::inverse_rows().into_iter().map(|t| (t, 8)).collect();
     let mut entries: Entries = [0; 257];
@@ -125,29 +106,16 @@ fn tables(rng: &mut Rng) -> Vec<Table> {
     tables
 }
 
-/// A list at random, written and finished, and the error that finishing reports. It ends within a few
-/// bits of the buffer's end, most often; every other list ends in raw bits that come out even.
+/// The symbols that `next` gives for the account so far, written and finished; the error that
+/// finishing reports.
 fn write<'a>(
-    rng: &mut Rng,
-    tables: &'a [Table],
     buffer: &mut [u8],
+    mut next: impl FnMut(u32) -> Option<(Model<'a>, u32)>,
 ) -> Result<(Vec<Symbol<'a>>, i32), String> {
-    let full = 8 * buffer.len() as u32;
-    let end = match rng.between(0, 7) {
-        0 => rng.between(0, full),
-        1 => rng.between(full, full + 300),
-        _ => (full + rng.between(0, 10)).saturating_sub(6),
-    };
-    let even = rng.one_in(2);
     let mut list = Vec::new();
     let mut writer = accepted(ours::enc_open(buffer))?.state;
     let mut account = accepted(ours::enc_account(buffer, writer))?.value;
-    while account < end {
-        let model = match end - account {
-            left @ 1..=25 if even => Model::Bits(left),
-            _ => any_model(rng, tables),
-        };
-        let value = model.any_value(rng);
+    while let Some((model, value)) = next(account) {
         writer = accepted(ours::enc(buffer, writer, model, value))?.state;
         account = accepted(ours::enc_account(buffer, writer))?.value;
         list.push(Symbol {
@@ -158,6 +126,31 @@ fn write<'a>(
     }
     let done = accepted(ours::enc_done(buffer, writer))?;
     Ok((list, done.state.error))
+}
+
+/// Symbols at random. They end within a few bits of the buffer's end, most often; every other list
+/// ends in raw bits that come out even.
+fn at_random<'a>(
+    rng: &'a mut Rng,
+    tables: &'a [Table],
+    length: u32,
+) -> impl FnMut(u32) -> Option<(Model<'a>, u32)> + 'a {
+    let full = 8 * length;
+    let end = match rng.between(0, 7) {
+        0 => rng.between(0, full),
+        1 => rng.between(full, full + 300),
+        _ => (full + rng.between(0, 10)).saturating_sub(6),
+    };
+    let even = rng.one_in(2);
+    move |account| {
+        let model = match end.checked_sub(account)? {
+            0 => return None,
+            left @ 1..=25 if even => Model::Bits(left),
+            _ => any_model(rng, tables),
+        };
+        let value = model.any_value(rng);
+        Some((model, value))
+    }
 }
 
 fn any_model<'a>(rng: &mut Rng, tables: &'a [Table]) -> Model<'a> {

@@ -3,48 +3,23 @@
 
 use oracle::celt::entdec::{ec_dec_icdf, ec_dec_init};
 use oracle::celt::entenc::{ec_enc_done, ec_enc_icdf, ec_enc_init};
-use oracle::compare::Answer;
+use oracle::frames::indices::{Call, Held};
+use oracle::frames::Frame;
+use oracle::ours::raw::{tg_decode_pulses, tg_nlsf_decode, tg_nlsf_stabilise};
+use oracle::ours::{self, Spectrum};
 use oracle::rng::Rng;
 use oracle::silk::decode_pulses::silk_decode_pulses;
 use oracle::silk::tables_NLSF_CB_WB::silk_NLSF_CB_WB;
 use oracle::silk::NLSF_decode::silk_NLSF_decode;
 use oracle::silk::NLSF_stabilize::silk_NLSF_stabilize;
 use oracle::state::Reader;
-use oracle::{ours, unopus};
+use oracle::unopus;
 use std::hint::black_box;
 use std::time::Instant;
 
 const ROUNDS: u32 = 60;
 const INPUTS: usize = 64;
 const SYMBOLS: usize = 100;
-
-// include/tignarops.h
-#[repr(C)]
-struct Spectrum {
-    index: [i8; 17],
-}
-
-#[repr(C)]
-struct Moves {
-    refusal: u32,
-    moves: u32,
-}
-
-extern "C" {
-    fn tg_decode_pulses(
-        packet: *const u8,
-        len: usize,
-        r: Reader,
-        pulses: *mut i16,
-        n: usize,
-        khz: u32,
-        subframes: u32,
-        signal_type: u32,
-        offset_type: u32,
-    ) -> Answer<Reader>;
-    fn tg_nlsf_decode(vector: *mut i16, n: usize, indices: Spectrum, khz: u32) -> Moves;
-    fn tg_nlsf_stabilise(vector: *mut i16, n: usize, gaps: *const i16, m: usize) -> Moves;
-}
 
 fn main() {
     let mut rng = Rng::new(1);
@@ -55,6 +30,7 @@ fn main() {
     });
     symbols_read(&packets);
     symbols_written(&packets);
+    indices(&packets);
     pulses(&packets);
     spectra(&mut rng);
 }
@@ -130,7 +106,7 @@ fn symbols_read(packets: &[[u8; 256]]) {
 fn symbols_written(packets: &[[u8; 256]]) {
     let tables = unopus::inverse_rows();
     let symbol = |i: usize, k: usize, table: &[u8]| packets[i][k] as usize % table.len();
-    let sides: Vec<Side> = vec![
+    let mut sides: Vec<Side> = vec![
         (
             "ours",
             Box::new(|i| {
@@ -157,9 +133,59 @@ fn symbols_written(packets: &[[u8; 256]]) {
             }),
         ),
     ];
+    #[cfg(libopus)]
+    sides.push((
+        "libopus",
+        Box::new(|i| {
+            let mut buffer = [0; 256];
+            let mut ctx = libopus::fresh(&mut buffer);
+            for (k, table) in tables.iter().take(SYMBOLS).enumerate() {
+                libopus::write(&mut ctx, symbol(i, k, table) as i32, table);
+            }
+            libopus::finish(&mut ctx);
+            black_box(&ctx.fields);
+        }),
+    ));
     compare(
         &format!("{SYMBOLS} symbols written and finished, a public call each"),
-        sides,
+        std::mem::take(&mut sides),
+    );
+}
+
+/// Voiced frames of 20 ms at 16 kHz after a voiced one, or of another type, as the packet says.
+fn indices(packets: &[[u8; 256]]) {
+    let call = Call {
+        khz: 16,
+        subframes: 4,
+        active: 1,
+        mode: 0,
+        held: Held::default(),
+    };
+    let mut each = packets.to_vec();
+    let opened: Vec<Reader> = packets.iter().map(|p| ours::dec_open(p).state).collect();
+    let mut sides: Vec<(&'static str, fn(&Call, &mut [u8], Reader))> = vec![
+        ("ours", |call, packet, reader| {
+            black_box(call.ours(packet, reader));
+        }),
+        ("the crate", |call, packet, reader| {
+            black_box(call.unopus(packet, reader));
+        }),
+    ];
+    #[cfg(libopus)]
+    sides.push(("libopus", |call, packet, reader| {
+        black_box(call.libopus(packet, reader));
+    }));
+    let each = std::cell::RefCell::new(&mut each);
+    let side = |(name, work): (&'static str, fn(&Call, &mut [u8], Reader))| -> Side {
+        let (call, each, opened) = (&call, &each, &opened);
+        (
+            name,
+            Box::new(move |i| work(call, &mut each.borrow_mut()[i], opened[i])),
+        )
+    };
+    compare(
+        "side indices of a frame",
+        sides.into_iter().map(side).collect(),
     );
 }
 
@@ -298,12 +324,15 @@ fn stabilised(rng: &mut Rng) {
 /// The static library's internal functions.
 #[cfg(libopus)]
 mod libopus {
-    use oracle::state::{EcCtx, Reader};
+    use oracle::state::{EcCtx, Reader, Writer};
     use std::ffi::c_void;
 
     extern "C" {
         fn ec_dec_init(ctx: *mut EcCtx<u32>, buf: *mut u8, storage: u32);
         fn ec_dec_icdf(ctx: *mut EcCtx<u32>, icdf: *const u8, ftb: u32) -> i32;
+        fn ec_enc_init(ctx: *mut EcCtx<i32>, buf: *mut u8, size: u32);
+        fn ec_enc_icdf(ctx: *mut EcCtx<i32>, s: i32, icdf: *const u8, ftb: u32);
+        fn ec_enc_done(ctx: *mut EcCtx<i32>);
         fn silk_decode_pulses(
             ctx: *mut EcCtx<u32>,
             pulses: *mut i16,
@@ -316,7 +345,7 @@ mod libopus {
         static silk_NLSF_CB_WB: c_void;
     }
 
-    // SAFETY of them all: the reader reads its packet alone, a table ends in 0, a voiced frame of 320
+    // SAFETY of them all: a reader has its packet and a writer its buffer for as long, a table ends in 0, a voiced frame of 320
     // places and a vector of 16 values with its gaps and indices are what the functions ask for.
 
     pub fn opened(packet: &[u8]) -> EcCtx<u32> {
@@ -330,6 +359,23 @@ mod libopus {
 
     pub fn icdf(ctx: &mut EcCtx<u32>, table: &[u8]) -> i32 {
         unsafe { ec_dec_icdf(ctx, table.as_ptr(), 8) }
+    }
+
+    pub fn fresh(buffer: &mut [u8]) -> EcCtx<i32> {
+        let mut ctx = EcCtx {
+            buf: buffer.as_mut_ptr(),
+            fields: Writer::default(),
+        };
+        unsafe { ec_enc_init(&mut ctx, buffer.as_mut_ptr(), buffer.len() as u32) };
+        ctx
+    }
+
+    pub fn write(ctx: &mut EcCtx<i32>, symbol: i32, table: &[u8]) {
+        unsafe { ec_enc_icdf(ctx, symbol, table.as_ptr(), 8) }
+    }
+
+    pub fn finish(ctx: &mut EcCtx<i32>) {
+        unsafe { ec_enc_done(ctx) }
     }
 
     pub fn pulses(ctx: &mut EcCtx<u32>, pulses: &mut [i16; 320]) {
