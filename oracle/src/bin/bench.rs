@@ -345,8 +345,9 @@ mod libopus {
         static silk_NLSF_CB_WB: c_void;
     }
 
-    // SAFETY of them all: a reader has its packet and a writer its buffer for as long, a table ends in 0, a voiced frame of 320
-    // places and a vector of 16 values with its gaps and indices are what the functions ask for.
+    // SAFETY of them all: a reader has its packet and a writer its buffer for as long, a table ends in
+    // 0, a voiced frame of 320 places and a vector of 16 values with its gaps and indices are what the
+    // functions ask for.
 
     pub fn opened(packet: &[u8]) -> EcCtx<u32> {
         let mut ctx = EcCtx {
