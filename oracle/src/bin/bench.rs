@@ -42,6 +42,10 @@ fn inputs<T>(rng: &mut Rng, one: impl Fn(&mut Rng) -> T) -> Vec<T> {
 /// A side's name, and its work on the input of that number.
 type Side<'a> = (&'static str, Box<dyn FnMut(usize) + 'a>);
 
+fn side<'a>(name: &'static str, work: impl FnMut(usize) + 'a) -> Side<'a> {
+    (name, Box::new(work))
+}
+
 fn compare(name: &str, mut sides: Vec<Side>) {
     let mut best = vec![f64::INFINITY; sides.len()];
     for _ in 0..ROUNDS {
@@ -66,37 +70,28 @@ fn symbols_read(packets: &[[u8; 256]]) {
     let tables = unopus::inverse_rows();
     let mut theirs = packets.to_vec();
     let mut sides: Vec<Side> = vec![
-        (
-            "ours",
-            Box::new(|i| {
-                let mut reader = ours::dec_open(&packets[i]).state;
-                for table in tables.iter().take(SYMBOLS) {
-                    let model = oracle::models::Model::Table(table, 8);
-                    reader = ours::dec(&packets[i], reader, model).state;
-                }
-                black_box(reader);
-            }),
-        ),
-        (
-            "the crate",
-            Box::new(|i| {
-                let mut ctx = ec_dec_init(&mut theirs[i]);
-                for table in tables.iter().take(SYMBOLS) {
-                    black_box(ec_dec_icdf(&mut ctx, table, 8));
-                }
-            }),
-        ),
-    ];
-    #[cfg(libopus)]
-    sides.push((
-        "libopus",
-        Box::new(|i| {
-            let mut ctx = libopus::opened(&packets[i]);
+        side("ours", |i| {
+            let mut reader = ours::dec_open(&packets[i]).state;
             for table in tables.iter().take(SYMBOLS) {
-                black_box(libopus::icdf(&mut ctx, table));
+                let model = oracle::models::Model::Table(table, 8);
+                reader = ours::dec(&packets[i], reader, model).state;
+            }
+            black_box(reader);
+        }),
+        side("the crate", |i| {
+            let mut ctx = ec_dec_init(&mut theirs[i]);
+            for table in tables.iter().take(SYMBOLS) {
+                black_box(ec_dec_icdf(&mut ctx, table, 8));
             }
         }),
-    ));
+    ];
+    #[cfg(libopus)]
+    sides.push(side("libopus", |i| {
+        let mut ctx = libopus::opened(&packets[i]);
+        for table in tables.iter().take(SYMBOLS) {
+            black_box(libopus::icdf(&mut ctx, table));
+        }
+    }));
     compare(
         &format!("{SYMBOLS} symbols read, a public call each"),
         std::mem::take(&mut sides),
@@ -107,45 +102,36 @@ fn symbols_written(packets: &[[u8; 256]]) {
     let tables = unopus::inverse_rows();
     let symbol = |i: usize, k: usize, table: &[u8]| packets[i][k] as usize % table.len();
     let mut sides: Vec<Side> = vec![
-        (
-            "ours",
-            Box::new(|i| {
-                let mut buffer = [0; 256];
-                let mut writer = ours::enc_open(&buffer).state;
-                for (k, table) in tables.iter().take(SYMBOLS).enumerate() {
-                    let model = oracle::models::Model::Table(table, 8);
-                    let value = symbol(i, k, table) as u32;
-                    writer = ours::enc(&mut buffer, writer, model, value).state;
-                }
-                black_box(ours::enc_done(&mut buffer, writer));
-            }),
-        ),
-        (
-            "the crate",
-            Box::new(|i| {
-                let mut buffer = [0; 256];
-                let mut ctx = ec_enc_init(&mut buffer);
-                for (k, table) in tables.iter().take(SYMBOLS).enumerate() {
-                    ec_enc_icdf(&mut ctx, symbol(i, k, table) as i32, table, 8);
-                }
-                ec_enc_done(&mut ctx);
-                black_box(&ctx.offs);
-            }),
-        ),
+        side("ours", |i| {
+            let mut buffer = [0; 256];
+            let mut writer = ours::enc_open(&buffer).state;
+            for (k, table) in tables.iter().take(SYMBOLS).enumerate() {
+                let model = oracle::models::Model::Table(table, 8);
+                let value = symbol(i, k, table) as u32;
+                writer = ours::enc(&mut buffer, writer, model, value).state;
+            }
+            black_box(ours::enc_done(&mut buffer, writer));
+        }),
+        side("the crate", |i| {
+            let mut buffer = [0; 256];
+            let mut ctx = ec_enc_init(&mut buffer);
+            for (k, table) in tables.iter().take(SYMBOLS).enumerate() {
+                ec_enc_icdf(&mut ctx, symbol(i, k, table) as i32, table, 8);
+            }
+            ec_enc_done(&mut ctx);
+            black_box(&ctx.offs);
+        }),
     ];
     #[cfg(libopus)]
-    sides.push((
-        "libopus",
-        Box::new(|i| {
-            let mut buffer = [0; 256];
-            let mut ctx = libopus::fresh(&mut buffer);
-            for (k, table) in tables.iter().take(SYMBOLS).enumerate() {
-                libopus::write(&mut ctx, symbol(i, k, table) as i32, table);
-            }
-            libopus::finish(&mut ctx);
-            black_box(&ctx.fields);
-        }),
-    ));
+    sides.push(side("libopus", |i| {
+        let mut buffer = [0; 256];
+        let mut ctx = libopus::fresh(&mut buffer);
+        for (k, table) in tables.iter().take(SYMBOLS).enumerate() {
+            libopus::write(&mut ctx, symbol(i, k, table) as i32, table);
+        }
+        libopus::finish(&mut ctx);
+        black_box(&ctx.fields);
+    }));
     compare(
         &format!("{SYMBOLS} symbols written and finished, a public call each"),
         std::mem::take(&mut sides),
@@ -176,67 +162,49 @@ fn indices(packets: &[[u8; 256]]) {
         black_box(call.libopus(packet, reader));
     }));
     let each = std::cell::RefCell::new(&mut each);
-    let side = |(name, work): (&'static str, fn(&Call, &mut [u8], Reader))| -> Side {
+    let timed = |(name, work): (&'static str, fn(&Call, &mut [u8], Reader))| -> Side {
         let (call, each, opened) = (&call, &each, &opened);
-        (
-            name,
-            Box::new(move |i| work(call, &mut each.borrow_mut()[i], opened[i])),
-        )
+        side(name, move |i| {
+            work(call, &mut each.borrow_mut()[i], opened[i])
+        })
     };
     compare(
         "side indices of a frame",
-        sides.into_iter().map(side).collect(),
+        sides.into_iter().map(timed).collect(),
     );
+}
+
+fn our_pulses(packet: &[u8]) -> [i16; 320] {
+    let reader = ours::dec_open(packet).state;
+    let (bytes, len) = (packet.as_ptr(), packet.len());
+    let mut pulses = [0; 320];
+    // SAFETY: the pointers come with their lengths.
+    unsafe { tg_decode_pulses(bytes, len, reader, pulses.as_mut_ptr(), 320, 16, 4, 2, 0) };
+    pulses
 }
 
 /// Frames of 20 ms at 16 kHz, voiced.
 fn pulses(packets: &[[u8; 256]]) {
     let mut theirs = packets.to_vec();
     let mut sides: Vec<Side> = vec![
-        (
-            "ours",
-            Box::new(|i| {
-                let packet = &packets[i];
-                let reader = ours::dec_open(packet).state;
-                let mut pulses = [0i16; 320];
-                // SAFETY: the pointers come with their lengths.
-                black_box(unsafe {
-                    tg_decode_pulses(
-                        packet.as_ptr(),
-                        256,
-                        reader,
-                        pulses.as_mut_ptr(),
-                        320,
-                        16,
-                        4,
-                        2,
-                        0,
-                    )
-                });
-                black_box(pulses);
-            }),
-        ),
-        (
-            "the crate",
-            Box::new(|i| {
-                let mut ctx = ec_dec_init(&mut theirs[i]);
-                let mut pulses = [0i16; 320];
-                // SAFETY: a frame of 320 places.
-                unsafe { silk_decode_pulses(&mut ctx, pulses.as_mut_ptr(), 2, 0, 320) };
-                black_box(pulses);
-            }),
-        ),
-    ];
-    #[cfg(libopus)]
-    sides.push((
-        "libopus",
-        Box::new(|i| {
-            let mut ctx = libopus::opened(&packets[i]);
+        side("ours", |i| {
+            black_box(our_pulses(&packets[i]));
+        }),
+        side("the crate", |i| {
+            let mut ctx = ec_dec_init(&mut theirs[i]);
             let mut pulses = [0i16; 320];
-            libopus::pulses(&mut ctx, &mut pulses);
+            // SAFETY: a frame of 320 places.
+            unsafe { silk_decode_pulses(&mut ctx, pulses.as_mut_ptr(), 2, 0, 320) };
             black_box(pulses);
         }),
-    ));
+    ];
+    #[cfg(libopus)]
+    sides.push(side("libopus", |i| {
+        let mut ctx = libopus::opened(&packets[i]);
+        let mut pulses = [0i16; 320];
+        libopus::pulses(&mut ctx, &mut pulses);
+        black_box(pulses);
+    }));
     compare("pulses of a frame", std::mem::take(&mut sides));
 }
 
@@ -248,36 +216,26 @@ fn spectra(rng: &mut Rng) {
         index
     });
     let mut sides: Vec<Side> = vec![
-        (
-            "ours",
-            Box::new(|i| {
-                let (mut vector, index) = ([0i16; 16], indices[i]);
-                // SAFETY: the pointer comes with its length.
-                black_box(
-                    unsafe { tg_nlsf_decode(vector.as_mut_ptr(), 16, Spectrum { index }, 16) }
-                        .moves,
-                );
-                black_box(vector);
-            }),
-        ),
-        (
-            "the crate",
-            Box::new(|i| {
-                let mut vector = [0i16; 16];
-                silk_NLSF_decode(&mut vector, &indices[i], &silk_NLSF_CB_WB);
-                black_box(vector);
-            }),
-        ),
-    ];
-    #[cfg(libopus)]
-    sides.push((
-        "libopus",
-        Box::new(|i| {
-            let mut vector = [0i16; 16];
-            libopus::decode(&mut vector, &indices[i]);
+        side("ours", |i| {
+            let (mut vector, index) = ([0i16; 16], indices[i]);
+            // SAFETY: the pointer comes with its length.
+            black_box(
+                unsafe { tg_nlsf_decode(vector.as_mut_ptr(), 16, Spectrum { index }, 16) }.moves,
+            );
             black_box(vector);
         }),
-    ));
+        side("the crate", |i| {
+            let mut vector = [0i16; 16];
+            silk_NLSF_decode(&mut vector, &indices[i], &silk_NLSF_CB_WB);
+            black_box(vector);
+        }),
+    ];
+    #[cfg(libopus)]
+    sides.push(side("libopus", |i| {
+        let mut vector = [0i16; 16];
+        libopus::decode(&mut vector, &indices[i]);
+        black_box(vector);
+    }));
     compare("a line spectrum decoded", std::mem::take(&mut sides));
     drop(sides);
     stabilised(rng);
@@ -290,34 +248,24 @@ fn stabilised(rng: &mut Rng) {
         std::array::from_fn(|k| (k as u32 * 2000 + rng.between(0, 2200)) as i16)
     });
     let mut sides: Vec<Side> = vec![
-        (
-            "ours",
-            Box::new(|i| {
-                let mut vector = vectors[i];
-                // SAFETY: the pointers come with their lengths.
-                let moves =
-                    unsafe { tg_nlsf_stabilise(vector.as_mut_ptr(), 16, gaps.as_ptr(), 17) };
-                black_box((vector, moves.refusal));
-            }),
-        ),
-        (
-            "the crate",
-            Box::new(|i| {
-                let mut vector = vectors[i];
-                silk_NLSF_stabilize(&mut vector, gaps);
-                black_box(vector);
-            }),
-        ),
-    ];
-    #[cfg(libopus)]
-    sides.push((
-        "libopus",
-        Box::new(|i| {
+        side("ours", |i| {
             let mut vector = vectors[i];
-            libopus::stabilise(&mut vector, gaps);
+            // SAFETY: the pointers come with their lengths.
+            let moves = unsafe { tg_nlsf_stabilise(vector.as_mut_ptr(), 16, gaps.as_ptr(), 17) };
+            black_box((vector, moves.refusal));
+        }),
+        side("the crate", |i| {
+            let mut vector = vectors[i];
+            silk_NLSF_stabilize(&mut vector, gaps);
             black_box(vector);
         }),
-    ));
+    ];
+    #[cfg(libopus)]
+    sides.push(side("libopus", |i| {
+        let mut vector = vectors[i];
+        libopus::stabilise(&mut vector, gaps);
+        black_box(vector);
+    }));
     compare("a vector stabilised", std::mem::take(&mut sides));
 }
 
