@@ -3,5 +3,6 @@ pub mod Asks
 pub mod AsksLaws
 pub mod Outcomes
 pub mod Telling
+pub mod Told
 pub mod Ran
 pub mod Through
