@@ -1,0 +1,5 @@
+pub mod Alike
+pub mod Overlaid
+pub mod Allowed
+pub mod PulsesSaid
+pub mod Behind
