@@ -12,9 +12,9 @@ use Rattle.entcode.specs.declared.Dec.{Dec}
 use Rattle.entcode.specs.Models.{Sym}
 use Rattle.entcode.specs.Flat.{Out, out}
 use Rattle.entcode.specs.ReaderLaws.{Bytes}
-use Rattle.entcode.specs.Reading.{decSym, decTell}
-use Rattle.entcode.specs.Writing.{encOpen, encSym, encTell, encDone}
-use Rattle.roundtrip.specs.Statement.{after, SameAccount, Right}
+use Rattle.entcode.specs.Reading.{decOpen, decSym, decTell}
+use Rattle.entcode.specs.Writing.{Sent, encOpen, encSym, encTell, encDone}
+use Rattle.roundtrip.specs.Statement.{after, Sends, SameAccount, Right}
 use Rattle.silk.specs.declared.Indices.{Indices}
 use Rattle.silk.specs.declared.IndicesRead.{IndicesRead}
 use Rattle.silk.specs.Record.{Setting}
@@ -53,13 +53,23 @@ abbrev pub StepsSent : Out → List Step → Out → Type 0
 StepsSent o [] q = o ≡ q
 StepsSent o (t ∷ ts) q = Accepts o t × StepsSent (behind o t) ts q
 
+-- the symbols ss were written into the buffer b from opening on, by calls that lead to o
+pub record Begun (b : List ℕ) (ss : List Sym) (o : Out) : Type 0 where
+  pub bytes : Bytes b
+  pub short : length b ≤ 1275
+  pub sends : Sends (after (encOpen b)) ss o
+
+-- finishing from q is accepted, and without error
+pub record Finishes (q : Out) : Type 0 where
+  pub accepted : encDone q .answer .refusal ≡ 0
+  pub error : encDone q .answer .state .error ≡ pos 0
+
 -- the calls ts were made into the buffer b from opening on, and finished without error; q is the state before finishing
 pub record StepsWritten (b : List ℕ) (ts : List Step) (q : Out) : Type 0 where
   pub bytes : Bytes b
   pub short : length b ≤ 1275
   pub sends : StepsSent (after (encOpen b)) ts q
-  pub accepted : encDone q .answer .refusal ≡ 0
-  pub error : encDone q .answer .state .error ≡ pos 0
+  pub finishes : Finishes q
 
 -- ---- what is read
 
@@ -115,7 +125,8 @@ pub record RightPulses (a : Pulsed) (p : List ℤ) (o : Out) : Type 0 where
 abbrev pub StepsRead : List ℕ → Dec → Out → List Step → Type 0
 StepsRead b d o [] = Tells b d o
 StepsRead b d o (symbol s ∷ ts) =
-    Tells b d o × Right (decSym b d (s .model)) (s .value) (after (encSym o s)) × StepsRead b (decSym b d (s .model) .state) (after (encSym o s)) ts
+    Tells b d o
+    × (Right (decSym b d (s .model)) (s .value) (after (encSym o s)) × StepsRead b (decSym b d (s .model) .state) (after (encSym o s)) ts)
 StepsRead b d o (sideIndices x s ∷ ts) =
     Tells b d o
     × ((z : Indices) → Shape z
@@ -126,3 +137,38 @@ StepsRead b d o (pulses p khz subframes signal offset rate ∷ ts) =
     × ((v : List ℤ) → length v ≡ length p
     → RightPulses (decodePulses b d v khz subframes signal offset) p (after (encodePulses o p khz subframes signal offset rate))
     × StepsRead b (decodePulses b d v khz subframes signal offset .answer .state) (after (encodePulses o p khz subframes signal offset rate)) ts)
+
+-- ---- behind symbols
+
+-- a fresh reader of the packet
+abbrev pub fresh : List ℕ → Dec
+fresh b = decOpen b .state
+
+-- the reader behind calls that read with the models of ss
+abbrev pub readOn : List ℕ → Dec → List Sym → Dec
+readOn b d [] = d
+readOn b d (s ∷ ss) = readOn b (decSym b d (s .model) .state) ss
+
+-- ---- a whole frame: side indices, then pulses of the type that they say
+
+-- the writer behind the side indices, and the call that writes the pulses
+abbrev pub typedPulses : Out → Setting → Indices → List ℤ → ℕ → Sent
+typedPulses o s x p rate =
+    encodePulses (afterIndices (encodeIndices o x s)) p (s .khz) (s .subframes) (natAbs (x .signal)) (natAbs (x .offset)) rate
+
+-- both calls are accepted
+pub record FrameAccepts (o : Out) (s : Setting) (x : Indices) (p : List ℤ) (rate : ℕ) : Type 0 where
+  pub shape : Shape x
+  pub indices : encodeIndices o x s .answer .refusal ≡ 0
+  pub pulses : typedPulses o s x p rate .answer .refusal ≡ 0
+
+-- the call that reads pulses of the type that the side indices said
+abbrev pub pulsesAfter : List ℕ → Setting → IndicesRead → List ℤ → Pulsed
+pulsesAfter b s a v = decodePulses b (a .state) v (s .khz) (s .subframes) (natAbs (a .indices .signal)) (natAbs (a .indices .offset))
+
+-- from the reader d over the packet b both are read as the writer wrote them from o, into any record z and any slice v of the right length
+pub record FrameRight (b : List ℕ) (d : Dec) (o : Out) (s : Setting) (x : Indices) (p : List ℤ) (rate : ℕ) (z : Indices) (v : List ℤ) : Type 0 where
+  pub indices : RightIndices (decodeIndices b d z s) s x z (encodeIndices o x s)
+  pub between : Tells b (decodeIndices b d z s .state) (afterIndices (encodeIndices o x s))
+  pub pulses : RightPulses (pulsesAfter b s (decodeIndices b d z s) v) p (after (typedPulses o s x p rate))
+  pub account : Tells b (pulsesAfter b s (decodeIndices b d z s) v .answer .state) (after (typedPulses o s x p rate))
