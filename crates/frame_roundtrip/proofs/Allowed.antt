@@ -1,5 +1,4 @@
 -- Symbols along a tree that may all be written: of a tree before a tree, of a tree for a part, of a list of trees. Assumes nothing.
-use Prim.Native.Nat.{ℕ}
 use mathlib.Core.Path.{_≡_, sym, subst}
 use mathlib.Core.Bool.{true}
 use mathlib.Core.List.{List, [], _∷_, _++_}

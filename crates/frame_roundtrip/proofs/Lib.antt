@@ -6,3 +6,4 @@ pub mod Behind
 pub mod Sent
 pub mod Read
 pub mod Theorems
+pub mod Cases

@@ -8,17 +8,18 @@ use native.Mathlib.Nat.{le-of-suc-le-suc, not-suc-le-zero}
 use native.Mathlib.Omega.{arith}
 use lib.Dec.{eqb}
 use lib.IntN.{ℤ, pos}
-use lib.ListN.{length, set, length-set}
-use Rattle.entcode.specs.Models.{Sym}
-use Rattle.tree.specs.Asks.{Asks, done, ask, then, of, symbols, meant}
+use lib.ListN.{length, set, length-set, take-append-drop}
+use Rattle.tree.specs.Asks.{Asks, then, symbols, meant}
+use Rattle.tree.specs.Telling.{allSaid, ends-meant}
 use Rattle.silk.specs.declared.Indices.{Indices}
-use Rattle.silk.specs.Record.{Setting, withKind, withGain, withGains, withNlsf, withNlsfs, withFilter, withFilters, withInterp, withLag, withContour, withPeriod, withScale, withSeed}
+use Rattle.silk.specs.Record.{Setting, withKind, withGain, withGains, withNlsfs, withFilters, withInterp, withLag, withContour, withPeriod, withScale, withSeed}
 use Rattle.silk.specs.IndexRows.{Subframes, subframes-least, subframes-most}
 use Rattle.silk.specs.IndexSyntax.{said, saidAt, kind, firstGain, moreGains, gains, bookOf, selectorsOf, residuals, spectrum, interpolation, absoluteLag, lag, contour, filters, period, scale, pitch, relativeIn, voicing, seed, indices}
+use Rattle.silk.specs.IndexCalls.{Chosen}
 use Rattle.silk.specs.IndexParts.{order-most}
-use Rattle.silk.specs.IndexRanges.{Shape}
-use Rattle.silk.specs.IndexWriting.{sayable, meant-is}
-use Rattle.frame_roundtrip.specs.Statement.{front, overlaid}
+use Rattle.silk.specs.IndexRanges.{Shape, ReadOver, indices-end}
+use Rattle.silk.specs.IndexWriting.{sayable, meant-is, all-said}
+use Rattle.frame_roundtrip.specs.Statement.{front, voicedIn, overlaid}
 use Rattle.frame_roundtrip.proofs.Alike.{Alike, ended, asked, alike-in, alike-then, alike-behind, alike-symbols, alike-meant}
 
 -- ---- what a part leaves of x and of z
@@ -41,9 +42,11 @@ abbrev Filtered : ℕ → Indices → Indices → Indices → Indices → Type 0
 Filtered = Fronts withFilters (λ x. x .ltp)
 
 -- the pitch of a voiced frame
+abbrev withPitch : Indices → ℤ → ℕ → ℕ → List ℤ → ℕ → Indices
+withPitch x g c p l v = withScale (withFilters (withPeriod (withContour (withLag x g) c) p) l) v
+
 data Pitched (n : ℕ) (x z : Indices) : Indices → Indices → Type 0 where
-  pitched : (g : ℤ) (c p : ℕ) (l : List ℤ) (v : ℕ)
-      → Pitched n x z (withScale (withFilters (withPeriod (withContour (withLag x g) c) p) l) v) (withScale (withFilters (withPeriod (withContour (withLag z g) c) p) (front n l (z .ltp))) v)
+  pitched : (g : ℤ) (c p : ℕ) (l : List ℤ) (v : ℕ) → Pitched n x z (withPitch x g c p l v) (withPitch z g c p (front n l (z .ltp)) v)
 
 data Voiced (signal n : ℕ) (x z : Indices) : Indices → Indices → Type 0 where
   voiced : {a b : Indices} → eqb signal 2 ≡ true → Pitched n x z a b → Voiced signal n x z a b
@@ -119,9 +122,11 @@ module _ (y : Indices) where
       let v = saidAt (y .nlsf) 0 in
       let n = bookOf khz .order in
       let l = set (x .nlsf) 0 (pos v) in
-      asked (subst (λ (r : List ℤ). Alike y (Nlsfed (suc n) x z) (residuals khz (selectorsOf khz v) n 0 (withNlsfs x l)) (residuals khz (selectorsOf khz v) n 0 (withNlsfs z r)))
+      let q = selectorsOf khz v in
+      let e = length-set (x .nlsf) 0 (pos v) in
+      asked (subst (λ (r : List ℤ). Alike y (Nlsfed (suc n) x z) (residuals khz q n 0 (withNlsfs x l)) (residuals khz q n 0 (withNlsfs z r)))
       (set-front 0 (x .nlsf) (z .nlsf) (pos v) (omega arith) (omega arith))
-      (residuals-alike khz (selectorsOf khz v) n 0 (suc n) x z l (omega arith) (length-set (x .nlsf) 0 (pos v)) (omega (arith, length-set (x .nlsf) 0 (pos v))) i))
+      (residuals-alike khz q n 0 (suc n) x z l (omega arith) e (omega (arith, e)) i))
 
   interpolation-alike : (n : ℕ) (x z : Indices) → Alike y (Both withInterp x z) (interpolation n x) (interpolation n z)
   unfolding interpolation
@@ -183,62 +188,111 @@ module _ (y : Indices) where
 -- ---- the whole
 
 module _ (s : Setting) (y x z : Indices) (f : Subframes (s .subframes)) (h : Shape x) (i : Shape z) where
+  abbrev n : ℕ
+  n = s .subframes
+
+  abbrev places : ℕ
+  places = suc (bookOf (s .khz) .order)
+
+  -- both records with type k, gains g, spectrum m and interpolation v
+  abbrev gainsX : ℕ → List ℤ → Indices
+  gainsX k g = withGains (withKind x k) g
+
+  abbrev gainsZ : ℕ → List ℤ → Indices
+  gainsZ k g = withGains (withKind z k) (front n g (z .gains))
+
+  abbrev spectrumX : ℕ → List ℤ → List ℤ → Indices
+  spectrumX k g m = withNlsfs (gainsX k g) m
+
+  abbrev spectrumZ : ℕ → List ℤ → List ℤ → Indices
+  spectrumZ k g m = withNlsfs (gainsZ k g) (front places m (z .nlsf))
+
   -- of the record that comes of x, z takes what the frame codes
   abbrev Over : Indices → Indices → Type 0
   Over a b = b ≡ overlaid s a z
 
-  module _ (k : ℕ) (l m : List ℤ) (v : ℕ) where
-    abbrev so-far : Indices
-    so-far = withInterp (withNlsfs (withGains (withKind x k) l) m) v
+  read-over : (k : ℕ) (g m : List ℤ) (v : ℕ) (a b : Indices)
+      → Voiced (k / 2) n (withInterp (spectrumX k g m) v) (withInterp (spectrumZ k g m) v) a b → (w : ℕ) → Over (withSeed a w) (withSeed b w)
+  unfolding overlaid
+  read-over k g m v a b (voiced e (pitched d c p q t)) w = rw e
+  read-over k g m v a b (unvoiced e) w = rw e
 
-    abbrev so-far-z : Indices
-    so-far-z = withInterp (withNlsfs (withGains (withKind z k) (front (s .subframes) l (z .gains))) (front (suc (bookOf (s .khz) .order)) m (z .nlsf))) v
+  -- the syntax from voicing, interpolation and spectrum on
+  abbrev fromVoicing : ℕ → Indices → Asks Indices Indices
+  fromVoicing k a = then (voicing (k / 2) (relativeIn (s .mode) (s .prevtype)) (s .khz) n (s .mode) (s .prevlag) a) seed
 
-    read-over : (a b : Indices) → Voiced (k / 2) (s .subframes) so-far so-far-z a b → (w : ℕ) → Over (withSeed a w) (withSeed b w)
-    unfolding overlaid
-    read-over a b (voiced e (pitched g c p q t)) w = rw e
-    read-over a b (unvoiced e) w = rw e
+  abbrev fromInterpolation : ℕ → Indices → Asks Indices Indices
+  fromInterpolation k a = then (interpolation n a) (fromVoicing k)
 
-  abbrev voicingOf : ℕ → Indices → Asks Indices Indices
-  voicingOf k = voicing (k / 2) (relativeIn (s .mode) (s .prevtype)) (s .khz) (s .subframes) (s .mode) (s .prevlag)
+  abbrev fromSpectrum : ℕ → Indices → Asks Indices Indices
+  fromSpectrum k a = then (spectrum (s .khz) (k / 2) a) (fromInterpolation k)
 
-  pub indices-alike : Alike y Over (indices s x) (indices s z)
-  unfolding indices seed
+  few : n ≤ 4
+  few = subframes-most f
+
+  after-interpolation : (k : ℕ) (g m : List ℤ) (a b : Indices) → Both withInterp (spectrumX k g m) (spectrumZ k g m) a b
+      → Alike y Over (fromVoicing k a) (fromVoicing k b)
+  unfolding seed
+  after-interpolation k g m a b (both v) =
+      alike-then _ _
+      (voicing-alike y (relativeIn (s .mode) (s .prevtype)) (s .khz) n (s .mode) (s .prevlag) (withInterp (spectrumX k g m) v)
+      (withInterp (spectrumZ k g m) v) (omega (arith, few, h .ltp)) (omega (arith, few, i .ltp)) (k / 2))
+      (λ c d p. asked (ended (read-over k g m v c d p _)))
+
+  after-spectrum : (k : ℕ) (g : List ℤ) (a b : Indices) → Nlsfed places (gainsX k g) (gainsZ k g) a b
+      → Alike y Over (fromInterpolation k a) (fromInterpolation k b)
+  after-spectrum k g a b (fronts m e) =
+      alike-then _ _ (interpolation-alike y n (spectrumX k g m) (spectrumZ k g m)) (after-interpolation k g m)
+
+  after-gains : (k : ℕ) (a b : Indices) → Gained n (withKind x k) (withKind z k) a b → Alike y Over (fromSpectrum k a) (fromSpectrum k b)
+  after-gains k a b (fronts g e) =
+      let o = order-most (s .khz) in
+      alike-then _ _ (spectrum-alike y (s .khz) (k / 2) (gainsX k g) (gainsZ k g) (omega (arith, h .nlsf, o)) (omega (arith, i .nlsf, o)))
+      (after-spectrum k g)
+
+  indices-alike : Alike y Over (indices s x) (indices s z)
+  unfolding indices
   indices-alike =
       alike-behind (kind (s .active)) _ _ (λ k.
-      alike-then _ _ (gains-alike y (s .mode) (s .subframes) (k / 2) (withKind x k) (withKind z k) (omega (arith, l)) (omega (arith, u, h .gains)) (omega (arith, u, i .gains)))
+      alike-then _ _
+      (gains-alike y (s .mode) n (k / 2) (withKind x k) (withKind z k) (omega (arith, subframes-least f)) (omega (arith, few, h .gains))
+      (omega (arith, few, i .gains)))
       (after-gains k))
-    where
-      l : 2 ≤ s .subframes
-      l = subframes-least f
-
-      u : s .subframes ≤ 4
-      u = subframes-most f
-
-      after-interpolation : (k : ℕ) (g m : List ℤ) (a b : Indices) → Both withInterp (withNlsfs (withGains (withKind x k) g) m) (withNlsfs (withGains (withKind z k) (front (s .subframes) g (z .gains))) (front (suc (bookOf (s .khz) .order)) m (z .nlsf))) a b
-          → Alike y Over (then (voicingOf k a) seed) (then (voicingOf k b) seed)
-      after-interpolation k g m a b (both v) =
-          alike-then _ _ (voicing-alike y (relativeIn (s .mode) (s .prevtype)) (s .khz) (s .subframes) (s .mode) (s .prevlag) (so-far k g m v) (so-far-z k g m v) (omega (arith, u, h .ltp)) (omega (arith, u, i .ltp)) (k / 2))
-          (λ a b p. asked (ended (read-over k g m v a b p _)))
-
-      after-spectrum : (k : ℕ) (g : List ℤ) (a b : Indices) → Nlsfed (suc (bookOf (s .khz) .order)) (withGains (withKind x k) g) (withGains (withKind z k) (front (s .subframes) g (z .gains))) a b
-          → Alike y Over (then (interpolation (s .subframes) a) (λ i. then (voicingOf k i) seed)) (then (interpolation (s .subframes) b) (λ i. then (voicingOf k i) seed))
-      after-spectrum k g a b (fronts m e) = alike-then _ _ (interpolation-alike y (s .subframes) _ _) (after-interpolation k g m)
-
-      after-gains : (k : ℕ) (a b : Indices) → Gained (s .subframes) (withKind x k) (withKind z k) a b
-          → Alike y Over (then (spectrum (s .khz) (k / 2) a) (λ q. then (interpolation (s .subframes) q) (λ i. then (voicingOf k i) seed)))
-          (then (spectrum (s .khz) (k / 2) b) (λ q. then (interpolation (s .subframes) q) (λ i. then (voicingOf k i) seed)))
-      after-gains k a b (fronts g e) =
-          alike-then _ _ (spectrum-alike y (s .khz) (k / 2) (withGains (withKind x k) g) (withGains (withKind z k) (front (s .subframes) g (z .gains))) (omega (arith, h .nlsf, order-most (s .khz))) (omega (arith, i .nlsf, order-most (s .khz))))
-          (after-spectrum k g)
 
 -- ---- a record that may be written
 
 module _ (s : Setting) (x z : Indices) (f : Subframes (s .subframes)) (h : Shape x) (i : Shape z) where
-  -- it is said alike whatever record the tree starts from
+  -- it is said alike whatever record the syntax starts from
   pub says-alike : symbols x (indices s x) ≡ symbols x (indices s z)
   says-alike = alike-symbols (indices-alike s x x z f h i)
 
   -- and means that record with what the frame codes
   pub means-overlaid : sayable s x ≡ true → meant x (indices s z) ≡ overlaid s x z
   means-overlaid e = alike-meant (indices-alike s x x z f h i) ∙ ap (λ (a : Indices). overlaid s a z) (meant-is s x e)
+
+-- ---- what a record over another is
+
+-- over itself it is itself
+pub overlaid-itself : (s : Setting) (x : Indices) → overlaid s x x ≡ x
+unfolding overlaid
+overlaid-itself s x = go (voicedIn x) refl
+  where
+    same-gains : front (s .subframes) (x .gains) (x .gains) ≡ x .gains
+    same-gains = take-append-drop (s .subframes) (x .gains)
+
+    same-filters : front (s .subframes) (x .ltp) (x .ltp) ≡ x .ltp
+    same-filters = take-append-drop (s .subframes) (x .ltp)
+
+    same-nlsf : front (suc (bookOf (s .khz) .order)) (x .nlsf) (x .nlsf) ≡ x .nlsf
+    same-nlsf = take-append-drop (suc (bookOf (s .khz) .order)) (x .nlsf)
+
+    go : (t : Bool) → voicedIn x ≡ t → overlaid s x x ≡ x
+    go true e = rw (e, same-gains, same-filters, same-nlsf)
+    go false e = rw (e, same-gains, same-nlsf)
+
+-- its fields lie in the ranges that a reader gives, and those that the frame does not read are z's
+pub overlaid-kept : (s : Setting) (x z : Indices) → Chosen s → Shape x → Shape z → sayable s x ≡ true → ReadOver s z (overlaid s x z)
+overlaid-kept s x z c h i e =
+    let f = c .subframes in
+    subst (ReadOver s z) (means-overlaid s x z f h i e)
+    (ends-meant x (indices-end s z (c .rate) f i (c .active)) (ap allSaid (sym (says-alike s x z f h i)) ∙ all-said s x e))

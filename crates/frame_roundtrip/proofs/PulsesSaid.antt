@@ -1,7 +1,7 @@
 -- The symbols that an accepted pulse writer says may all be written: each block's, in the four parts, by its shift's test. Assumes nothing.
-use Prim.Native.Nat.{ℕ, suc, _*_, _/_, _^_, _≤_}
-use mathlib.Core.Path.{_≡_, refl, sym, ap, subst, _∙_}
-use mathlib.Core.Bool.{true, _&&_}
+use Prim.Native.Nat.{ℕ, _≤_}
+use mathlib.Core.Path.{_≡_, refl, sym, subst, _∙_}
+use mathlib.Core.Bool.{true}
 use mathlib.Core.List.{List, [], _∷_, _++_, map}
 use native.Mathlib.Omega.{arith}
 use borrow.Author.Tests.{leb-true}
@@ -14,9 +14,8 @@ use Rattle.lists.specs.All.{All}
 use Rattle.sheet.specs.Directory.{rateRow}
 use Rattle.entcode.specs.Models.{Sym, Allowed}
 use Rattle.roundtrip.specs.Statement.{AllAllowed}
-use Rattle.tree.specs.Asks.{Asks, done, then, of, symbols, meant}
+use Rattle.tree.specs.Asks.{Asks, then, of, symbols, meant}
 use Rattle.tree.specs.AsksLaws.{meant-of}
-use Rattle.tree.specs.Telling.{allSaid}
 use Rattle.silk.specs.PulseSyntax.{row, Block, Excitation, each, count, counts, total, shell, lowBits, blockLows, signRowOf, sign, blockSigns, magnitudes, shifted, excitation}
 use Rattle.silk.specs.PulseWriting.{shiftedBy, blockBy, blockSays, shiftOk, smallest, blocksBy, excited, pulsesSay, shiftsOf}
 use Rattle.silk.specs.PulseWritten.{AllSuit, counts-meant, splits-meant, lows-meant, first-passes}

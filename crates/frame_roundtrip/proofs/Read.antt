@@ -1,26 +1,24 @@
 -- What a reader beside the writer answers to each call: the reader gives the call's symbols, so it has read what they mean. Assumes nothing.
 use Prim.Native.Nat.{ℕ, _*_, _≤_}
-use mathlib.Core.Path.{_≡_, refl, sym, ap, ap₂, subst, subst₂, _∙_}
+use mathlib.Core.Path.{_≡_, refl, sym, ap, ap₂, subst, _∙_}
 use mathlib.Core.Bool.{Bool, true, false, cond}
-use mathlib.Core.List.{List, [], _∷_, _++_, flatten}
+use mathlib.Core.List.{List}
 use native.Mathlib.Omega.{arith}
 use borrow.Author.Tests.{eq-eqb}
-use lib.Dec.{eqb}
 use lib.IntN.{ℤ, natAbs}
 use lib.ListN.{length}
 use Rattle.refusals.specs.First.{none-first}
 use Rattle.entcode.specs.declared.Dec.{Dec}
 use Rattle.entcode.specs.declared.Decoded.{Decoded}
-use Rattle.entcode.specs.Models.{Model, Sym, Readable}
+use Rattle.entcode.specs.Models.{Model, Readable}
 use Rattle.entcode.specs.Cuts.{account}
 use Rattle.entcode.specs.Sound.{gateR, gateW}
 use Rattle.entcode.specs.Reader.{readVal, readNext}
-use Rattle.entcode.specs.ReaderLaws.{Bytes}
 use Rattle.entcode.specs.Reading.{gives, decSym, decTell}
 use Rattle.entcode.specs.ReadingLaws.{gate-pass, answered-ok}
-use Rattle.entcode.specs.Writer.{Writer, writeAll}
+use Rattle.entcode.specs.Writer.{Writer}
 use Rattle.entcode.specs.Flat.{Out, flat}
-use Rattle.entcode.specs.Writing.{Sent, encTell}
+use Rattle.entcode.specs.Writing.{Sent}
 use Rattle.entcode.specs.WritingLaws.{gate-open, tell-takes}
 use Rattle.roundtrip.specs.Statement.{SameAccount}
 use Rattle.roundtrip.proofs.Accepted.{ask-pass}
@@ -30,7 +28,7 @@ use Rattle.silk.specs.declared.Indices.{Indices}
 use Rattle.silk.specs.Record.{Setting}
 use Rattle.silk.specs.IndexSyntax.{indices}
 use Rattle.silk.specs.IndexRanges.{Shape}
-use Rattle.silk.specs.FrameCalls.{settingOk, pulseNumbersOk, blocksOf, nextLag, indicesGot, decodeIndices, pulseRule, Pulsed, pulsed, decodePulses}
+use Rattle.silk.specs.FrameCalls.{settingOk, blocksOf, nextLag, indicesGot, decodeIndices, pulseRule, pulsed, decodePulses}
 use Rattle.silk.specs.IndexCalls.{setting-chosen, indices-runs}
 use Rattle.silk.specs.IndexWriting.{sayable}
 use Rattle.silk.specs.PulseSyntax.{Excitation, excitation}
@@ -76,8 +74,8 @@ module _ (s : Setting) (x z : Indices) where
   four-zero : (t : Bool) → t ≡ true → _≡_ {A = ℕ} (cond t 0 4) 0
   four-zero t e = rw e
 
-  pub indices-read : (b : List ℕ) (d q : Dec) → gateR b d ≡ 0 → settingOk s ≡ true → sayable s x ≡ true → Shape x → Shape z → Gives b d (symbols x (indices s x)) q
-      → decodeIndices b d z s ≡ indicesGot (s .prevlag) (got (overlaid s x z) q)
+  pub indices-read : (b : List ℕ) (d q : Dec) → gateR b d ≡ 0 → settingOk s ≡ true → sayable s x ≡ true → Shape x → Shape z
+      → Gives b d (symbols x (indices s x)) q → decodeIndices b d z s ≡ indicesGot (s .prevlag) (got (overlaid s x z) q)
   indices-read b d q g c e h i k =
       let f = setting-chosen s c .subframes in
       sym (indices-runs b d z s (none-first _ _ g (four-zero (settingOk s) c)))
@@ -122,8 +120,8 @@ module _ (p : List ℤ) (khz subframes signal offset rate : ℕ) (o : Out) (t : 
   unfolding pulseRule
   numbers-zero n e = rw (t .numbers, eq-eqb n (16 * blocksOf khz subframes) (e ∙ t .size))
 
-  pub pulses-given : (b : List ℕ) (d q : Dec) (v : List ℤ) → gateR b d ≡ 0 → length v ≡ length p → Gives b d (says (pulses p khz subframes signal offset rate)) q
-      → decodePulses b d v khz subframes signal offset ≡ pulsed p (gives 0 q)
+  pub pulses-given : (b : List ℕ) (d q : Dec) (v : List ℤ) → gateR b d ≡ 0 → length v ≡ length p
+      → Gives b d (says (pulses p khz subframes signal offset rate)) q → decodePulses b d v khz subframes signal offset ≡ pulsed p (gives 0 q)
   pulses-given b d q v g e k =
       sym (pulses-read b d v khz subframes signal offset _ refl (none-first _ _ g (numbers-zero (length v) e)) p q hand (runs b d q k)
       (sym (rows-flat (blocksOf khz subframes) p (omega (arith, t .size)))))

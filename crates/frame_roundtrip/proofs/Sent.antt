@@ -1,5 +1,5 @@
 -- What accepted calls wrote: each its symbols, which may all be written; so a list of calls is a list of symbols. Assumes nothing.
-use Prim.Native.Nat.{ℕ, _*_, _≤_}
+use Prim.Native.Nat.{ℕ, _*_}
 use mathlib.Core.Path.{_≡_, refl, sym, ap, subst, _∙_}
 use mathlib.Core.Bool.{Bool, true, false, _&&_, cond}
 use mathlib.Core.List.{List, [], _∷_, _++_}
@@ -8,7 +8,6 @@ use borrow.Author.Tests.{eqb-true}
 use lib.Dec.{eqb, leb}
 use lib.IntN.{ℤ}
 use lib.ListN.{length}
-use Rattle.tests.specs.Both.{and-both}
 use Rattle.tests.specs.Choice.{chosen}
 use Rattle.lists.specs.Every.{every}
 use Rattle.refusals.specs.First.{firstOf, first-none}
@@ -19,7 +18,7 @@ use Rattle.entcode.specs.Rules.{sayRule}
 use Rattle.entcode.specs.Writer.{Writer, writeSym, writeAll}
 use Rattle.entcode.specs.Flat.{Out, flat}
 use Rattle.entcode.specs.FlatLaws.{as-flat}
-use Rattle.entcode.specs.Writing.{Sent, takes, written, finished, encSym, encDone}
+use Rattle.entcode.specs.Writing.{written, finished, encSym, encDone}
 use Rattle.entcode.specs.WritingLaws.{say-open, answered-ok, answered-none}
 use Rattle.roundtrip.specs.Statement.{AllAllowed, after}
 use Rattle.roundtrip.proofs.Accepted.{took}

@@ -9,16 +9,16 @@ use Prim.Native.Nat.{ℕ, _*_, _≤_}
 use mathlib.Core.Path.{_≡_, refl, sym, ap, subst, subst⁻¹, subst₂, _∙_}
 use mathlib.Core.List.{List, [], _∷_, _++_, map}
 use native.Mathlib.Omega.{arith}
-use lib.IntN.{ℤ, pos, natAbs}
+use lib.IntN.{ℤ, natAbs}
 use lib.ListN.{length}
 use Rattle.entcode.specs.declared.Dec.{Dec}
 use Rattle.entcode.specs.declared.Decoded.{Decoded}
 use Rattle.entcode.specs.Models.{Sym}
 use Rattle.entcode.specs.Cuts.{account}
 use Rattle.entcode.specs.Sound.{gateW}
-use Rattle.entcode.specs.Reader.{settled, opened, readVal, readNext}
+use Rattle.entcode.specs.Reader.{settled, opened, readNext}
 use Rattle.entcode.specs.ReaderLaws.{Bytes}
-use Rattle.entcode.specs.Reading.{gives, decSym, decOpen}
+use Rattle.entcode.specs.Reading.{gives, decSym}
 use Rattle.entcode.specs.Writer.{Writer, openW, writeAll}
 use Rattle.entcode.specs.Finish.{finish}
 use Rattle.entcode.specs.Flat.{Out, flat}
@@ -38,7 +38,7 @@ use Rattle.silk.specs.IndexRanges.{Shape}
 use Rattle.silk.specs.FrameCalls.{Pulsed, decodeIndices, decodePulses}
 use Rattle.silk.specs.IndexWriting.{IndicesSent, encodeIndices}
 use Rattle.silk.specs.PulseWriting.{encodePulses}
-use Rattle.frame_roundtrip.specs.Statement.{Step, symbol, sideIndices, pulses, afterIndices, behind, Accepts, StepsSent, Begun, Finishes, StepsWritten, overlaid, Tells, RightIndices, RightPulses, StepsRead, fresh, readOn, typedPulses, FrameAccepts, pulsesAfter, FrameRight}
+use Rattle.frame_roundtrip.specs.Statement.{Step, symbol, sideIndices, pulses, afterIndices, StepsSent, Begun, Finishes, StepsWritten, Tells, RightIndices, RightPulses, StepsRead, fresh, readOn, typedPulses, FrameAccepts, FrameRight}
 use Rattle.frame_roundtrip.proofs.Behind.{readAll, Beside, Gave, gave}
 use Rattle.frame_roundtrip.proofs.Sent.{says, saysAll, indices-took, indices-sent, pulses-took, step-gate, done-gate, step-allowed, step-wrote, next-sent, steps-went}
 use Rattle.frame_roundtrip.proofs.Read.{reader-gate, same-account, tells, symbol-read, indices-read, same-type, same-offset, same-lag, pulses-given}
@@ -210,7 +210,8 @@ pub frame-back : (b : List ℕ) (ss : List Sym) (o : Out) (s : Setting) (x : Ind
     → Reads c (fresh c) (after (encOpen b)) ss
     × ((z : Indices) → Shape z → (v : List ℤ) → length v ≡ length p → FrameRight c (readOn c (fresh c) ss) o s x p rate z v))
 frame-back b ss o s x p rate r h f =
-    let k = steps-behind b ss (sideIndices x s ∷ (pulses p (s .khz) (s .subframes) (natAbs (x .signal)) (natAbs (x .offset)) rate ∷ [])) o _ r ((h .shape, h .indices), (h .pulses, refl)) f in (
+    let l = pulses p (s .khz) (s .subframes) (natAbs (x .signal)) (natAbs (x .offset)) rate ∷ [] in
+    let k = steps-behind b ss (sideIndices x s ∷ l) o _ r ((h .shape, h .indices), (h .pulses, refl)) f in (
       k .0,
       λ z i v j.
           let c = encDone (after (typedPulses o s x p rate)) .buf in
