@@ -59,7 +59,7 @@ set-front k (a ∷ l) [] v h i = absurd (not-suc-le-zero i)
 set-front zero (a ∷ l) (b ∷ m) v h i = refl
 set-front (suc k) (a ∷ l) (b ∷ m) v h i = ap {B = List ℤ} (λ (r : List ℤ). a ∷ r) (set-front k l m v (le-of-suc-le-suc h) (le-of-suc-le-suc i))
 
--- an array's first entries, n more from entry k on, by a tree of its own
+-- all e entries are set
 fronts-done : {with : Indices → List ℤ → Indices} {array : Indices → List ℤ} (k e : ℕ) (x z : Indices) (l : List ℤ) → k ≡ e
     → length l ≡ length (array x) → Fronts with array e x z (with x l) (with z (front k l (array z)))
 fronts-done {with} {array} k e x z l p h = subst (λ (c : ℕ). Fronts with array c x z (with x l) (with z (front k l (array z)))) p (fronts l h)
