@@ -20,15 +20,16 @@ use Rattle.sheet.specs.SheetRule.{row-good}
 use Rattle.sheet.specs.Places.{sizes, row-size}
 use Rattle.sheet.specs.Families.{type-stands, gain-stands, first-index-stands, residual-stands, filter-stands}
 use Rattle.tree.specs.Asks.{Asks, done}
+use Rattle.tree.specs.Says.{Says, means, says-then, says-of, says-all, says-means}
 use Rattle.silk.specs.declared.Indices.{Indices}
 use Rattle.silk.specs.Record.{Setting, withKind, withGain, withGains, withNlsfs, withFilters, withInterp, withLag, withContour, withPeriod, withSeed, withScale}
+use Rattle.silk.specs.RowSays.{says-row}
 use Rattle.silk.specs.IndexRows.{Rate, eight, twelve, sixteen, rate-most, Subframes, two, four, subframes-least, subframes-most}
 use Rattle.silk.specs.IndexSyntax.{kindOf, kind, firstGain, moreGains, gains, bookOf, selectorsOf, residualPick, residual, residuals, spectrum, interpolation, absoluteLag, lag, contour, filters, period, scale, pitch, relativeIn, voicing, seed, indices}
 use Rattle.silk.specs.IndexParts.{Upto, Kind, firstMost, order-most, lag-low-size, low-index, contour-size, contour-index}
 use Rattle.silk.specs.IndexRanges.{Shape, PitchRange, InRange}
 use Rattle.silk.specs.IndexWriting.{made, sayable, same-sure}
 use Rattle.silk.specs.IndexCalls.{Chosen}
-use Rattle.encode_indices.specs.Says.{Says, means, says-then, says-of, says-row, says-all, says-means}
 
 -- ---- an entry set to what it is
 
@@ -209,7 +210,7 @@ unfolding absoluteLag sizes
 absolute-says khz x r u =
     let v = natAbs (x .lag) in
     says-row 30 (omega arith) (omega (arith, high-part khz v r (u .most), row-size 30))
-    (says-row (38 + khz / 2 - khz / 2 / 8) (low-index r) (omega (arith, low-part khz v r, lag-low-size khz r))
+    (says-row (38 + khz / 2 - khz / 2 / 8) (omega (arith, low-index r)) (omega (arith, low-part khz v r, lag-low-size khz r))
     (same-means (ap (withLag x) (ap pos (div-add-mod' v (khz / 2)) ∙ sym (u .least)))))
 
 -- the writer's lag is always absolute
@@ -234,7 +235,7 @@ module _ (s : Setting) (x : Indices) (c : Chosen s) (h : Shape x) (t : PitchRang
   unfolding contour
   contour-says =
       let k = contour-index (c .rate) (c .subframes) in
-      says-row (31 + (s .khz / 12 * 2 + s .subframes / 2)) k
+      says-row (31 + (s .khz / 12 * 2 + s .subframes / 2)) (omega (arith, k))
       (omega (arith, t .contour .most, contour-size (s .khz) (s .subframes) (c .rate) (c .subframes), row-good (31 + (s .khz / 12 * 2 + s .subframes / 2)) (omega (arith, k)) .some))
       (same-means (contour-same x _ (t .contour .least)))
 

@@ -11,6 +11,7 @@ pub mod PulseRowLaws
 pub mod PulseBlocks
 pub mod PulseLaws
 pub mod PulseRounds
+pub mod RowSays
 pub mod FrameCalls
 pub mod IndexCalls
 pub mod IndexCases
@@ -18,3 +19,4 @@ pub mod IndexWriting
 pub mod PulseCallLaws
 pub mod PulseWriting
 pub mod PulseWritten
+pub mod PulseSayable

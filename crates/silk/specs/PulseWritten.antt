@@ -41,7 +41,7 @@ count-meant level b m h = low-counts-meant 10 0 b refl (omega arith) m h
 
 -- ---- splits
 
-total-parts : (n : ℕ) (v : List ℕ) → total (take n v) + total (drop n v) ≡ total v
+pub total-parts : (n : ℕ) (v : List ℕ) → total (take n v) + total (drop n v) ≡ total v
 unfolding total
 total-parts zero v = omega arith
 total-parts (suc n) [] = refl
@@ -52,7 +52,7 @@ unfolding split meant
 split-meant k zero v e = omega (arith, total-parts (2 ^ k) v)
 split-meant k (suc c) v e = refl
 
-one-value : (c : ℕ) (v : List ℕ) → length v ≡ 1 → total v ≡ c → c ∷ [] ≡ v
+pub one-value : (c : ℕ) (v : List ℕ) → length v ≡ 1 → total v ≡ c → c ∷ [] ≡ v
 unfolding total
 one-value c [] l e = absurd (omega arith)
 one-value c (x ∷ []) l e = let q : c ≡ x = omega arith in rw q
@@ -86,7 +86,7 @@ sign-meant r (negsuc n) = refl
 -- ---- low bits
 
 -- one more low bit is the next digit of y
-next-bit : (n y : ℕ) → y / 2 ^ n ≡ 2 * (y / 2 ^ suc n) + y / 2 ^ n % 2
+pub next-bit : (n y : ℕ) → y / 2 ^ n ≡ 2 * (y / 2 ^ suc n) + y / 2 ^ n % 2
 next-bit n y =
     let q : y / 2 ^ suc n ≡ y / 2 ^ n / 2 = ap (λ (m : ℕ). y / m) (pow-suc 2 n) ∙ sym (div-div-eq-div-mul y (2 ^ n) 2) in
     omega arith

@@ -5,4 +5,5 @@ pub mod Outcomes
 pub mod Telling
 pub mod Told
 pub mod Ran
+pub mod Says
 pub mod Through

@@ -1,0 +1,162 @@
+-- Every symbol of a block that a shift suits has a probability, at every rate level of a frame (RFC 6716, section 4.2.7.8; document 01, "Pulses"). So
+-- the smallest shift is the first of 0 to 10 at which the shifted magnitudes total at most 16. Assumes nothing.
+use Prim.Native.Nat.{ℕ, zero, suc, _+_, _-_, _*_, _/_, _^_, _≤_, _<_, min}
+use mathlib.Core.Path.{_≡_, refl, sym, subst, _∙_}
+use mathlib.Core.Bool.{Bool, true, false, cond}
+use mathlib.Core.List.{List, [], _∷_, _++_, map}
+use native.Mathlib.Nat.{pow-suc, div-one}
+use native.Mathlib.Omega.{arith}
+use borrow.Author.Tests.{lt-ltb, le-ltb, eqb-true, eq-eqb, ne-eqb, le-leb, lt-leb}
+use lib.Dec.{eqb, leb, ltb}
+use lib.IntN.{ℤ, pos, negsuc, natAbs}
+use lib.ListN.{length, take, drop, length-drop, length-map, take-append-drop}
+use lib.Seq.{length-take-le}
+use Rattle.tests.specs.Choice.{chosen, by-lt}
+use Rattle.lists.specs.Every.{every}
+use Rattle.lists.specs.All.{All}
+use Rattle.sheet.specs.Directory.{rowOf, rateRow}
+use Rattle.sheet.specs.Places.{sizes, row-size}
+use Rattle.sheet.specs.Families.{rate-stands, count-stands, shell-stands, sign-stands}
+use Rattle.entcode.specs.Rules.{sayRule}
+use Rattle.tree.specs.Asks.{Asks, done, ask}
+use Rattle.tree.specs.Says.{Says, means, says-then, says-of, says-all}
+use Rattle.tree.specs.Telling.{allSaid, said-both}
+use Rattle.silk.specs.RowSays.{row-says, says-row}
+use Rattle.silk.specs.PulseSyntax.{row, Block, headOf, tailOf, each, laterRow, countSaid, lowCounts, count, total, split, shell, lowBits, signRowOf, sign}
+use Rattle.silk.specs.PulseBlocks.{Sixteen}
+use Rattle.silk.specs.PulseWriting.{shiftedBy, blockBy, blockSays, shiftOk, firstFrom, smallest, shiftsOf, writeRule}
+use Rattle.silk.specs.PulseWritten.{Suits, total-parts, one-value, next-bit}
+
+-- ---- counts
+
+-- a symbol after j low bits: after ten, 17 is none
+later-says : {R A : Type 0} {y : R} {r : A} (j : ℕ) {w : R → ℕ} {f : ℕ → Asks R A} → w y ≤ 17 → (j ≡ 10 → w y ≤ 16) → Says y r (f (w y))
+    → Says y r (ask (row (laterRow j)) w f)
+unfolding sizes
+later-says {y = y} {r = r} j {w = w} {f = f} h k p =
+    chosen (λ (l : List ℕ). Says y r (ask (row l) w f)) (eqb j 10)
+    (λ e. says-row 58 (omega arith) (omega (arith, k (eqb-true j 10 e), row-size 58)) p)
+    (λ e. says-row 57 (omega arith) (omega (arith, row-size 57)) p)
+
+said-most : (j : ℕ) (b : Block) → b .count ≤ 16 → countSaid j b ≤ 17
+said-most j b h = chosen (λ (v : ℕ). v ≤ 17) (ltb j (b .lows)) (λ e. omega arith) (λ e. omega arith)
+
+said-last : (j : ℕ) (b : Block) → b .lows ≤ j → b .count ≤ 16 → countSaid j b ≤ 16
+said-last j b l h = rw (le-ltb j (b .lows) l) h
+
+block-means : (j v : ℕ) (b : Block) → v ≡ b .count → j ≡ b .lows → Says b b (done (record { count = v; lows = j }))
+block-means j v b e f = rw (e, f) means
+
+low-counts-says : (n j : ℕ) (b : Block) → n + j ≡ 10 → j ≤ b .lows → b .lows ≤ 10 → b .count ≤ 16 → Says b b (lowCounts n j (countSaid j b))
+unfolding lowCounts
+low-counts-says zero j b e l m h = block-means j (countSaid j b) b (rw (le-ltb j (b .lows) (omega arith))) (omega arith)
+low-counts-says (suc n) j b e l m h =
+    by-lt j (b .lows)
+    (λ p.
+    rw (lt-ltb j (b .lows) p)
+    (later-says (suc j) (said-most (suc j) b h) (λ t. said-last (suc j) b (omega arith) h) (low-counts-says n (suc j) b (omega arith) p m h)))
+    (λ p. rw (le-ltb j (b .lows) p, ne-eqb (b .count) 17 (λ r. omega arith)) (block-means j (b .count) b refl (omega arith)))
+
+count-says : (level : ℕ) (b : Block) → level ≤ 8 → b .lows ≤ 10 → b .count ≤ 16 → Says b b (count level)
+unfolding count
+count-says level b g m h =
+    says-row (48 + level) (omega arith) (omega (arith, said-most 0 b h, count-stands level (omega arith) .size)) (low-counts-says 10 0 b refl (omega arith) m h)
+
+-- ---- splits
+
+split-says : (k c : ℕ) (v : List ℕ) → k < 4 → c ≤ 16 → total v ≡ c → Says v (total (take (2 ^ k) v)) (split k c)
+unfolding split
+split-says k zero v h m e = let z : total (take (2 ^ k) v) ≡ 0 = omega (arith, total-parts (2 ^ k) v) in rw z means
+split-says k (suc c) v h m e =
+    says-row (58 + k * 16 + suc c) (omega arith) (omega (arith, total-parts (2 ^ k) v, shell-stands k (suc c) h (omega arith) m .size)) means
+
+shell-says : (k c : ℕ) (v : List ℕ) → k ≤ 4 → c ≤ 16 → length v ≡ 2 ^ k → total v ≡ c → Says v v (shell k c)
+unfolding shell
+shell-says zero c v h m l e = subst (λ (u : List ℕ). Says v u (done (c ∷ []))) (one-value c v l e) means
+shell-says (suc k) c v h m l e =
+    let n = 2 ^ k in
+    let w : 2 ^ suc k ≡ n + n = omega (arith, pow-suc 2 k) in
+    let s = total (take n v) in
+    let t : s + total (drop n v) ≡ c = total-parts n v ∙ e in
+    says-then _ (split-says k c v h m e)
+    (says-then _ (says-of (take n) (shell-says k s (take n v) (omega arith) (omega arith) (length-take-le n v (omega arith)) refl))
+    (says-then _ (says-of (drop n) (shell-says k (c - s) (drop n v) (omega arith) (omega arith) (length-drop n v ∙ omega arith) (omega arith)))
+    (subst (λ (u : List ℕ). Says v u (done (take n v ++ drop n v))) (take-append-drop n v) means)))
+
+-- ---- low bits
+
+low-bits-says : (n y : ℕ) → Says y y (lowBits n (y / 2 ^ n))
+unfolding lowBits sizes
+low-bits-says zero y = subst (λ (v : ℕ). Says y y (done v)) (sym (div-one y)) means
+low-bits-says (suc n) y =
+    says-row 123 (omega arith) (omega (arith, row-size 123))
+    (subst (λ (v : ℕ). Says y y (lowBits n v)) (next-bit n y) (low-bits-says n y))
+
+-- ---- signs
+
+sign-says : (k : ℕ) (z : ℤ) → k < 42 → Says z z (sign (rowOf (124 + k)) (natAbs z))
+unfolding sign
+sign-says k (pos zero) h = means
+sign-says k (pos (suc n)) h =
+    let e : ltb (suc n) 0 ≡ false = le-ltb (suc n) 0 (omega arith) in
+    says-row (124 + k) (omega arith) (rw e (omega (arith, sign-stands k h .size))) (rw e means)
+sign-says k (negsuc n) h = says-row (124 + k) (omega arith) (omega (arith, sign-stands k h .size)) means
+
+-- ---- a block
+
+each-says : {S A : Type 0} (e : A) (f : S → Asks A A) (g : A → S) → ((y : A) → Says y y (f (g y))) → (ys : List A) → Says ys ys (each e f (map g ys))
+unfolding each
+each-says e f g h [] = means
+each-says e f g h (y ∷ ys) = says-then _ (says-of (headOf e) (h y)) (says-then _ (says-of tailOf (each-says e f g h ys)) means)
+
+pub block-sayable : (level signal offset j : ℕ) (p : List ℤ) → level ≤ 8 → signal ≤ 2 → offset ≤ 1 → Suits j p → allSaid (blockSays level signal offset j p) ≡ true
+unfolding blockSays
+block-sayable level signal offset j p a b c s =
+    let v = shiftedBy j p in
+    let k = 7 * (offset + 2 * signal) + min (total v) 6 in
+    let size : length v ≡ 16 = length-map (map natAbs p) (λ m. m / 2 ^ j) ∙ length-map p natAbs ∙ s .size in
+    said-both _ _ (says-all (count-says level (blockBy j p) a (s .few) (s .most)))
+    (said-both _ _ (says-all (shell-says 4 (total v) v (omega arith) (s .most) size refl))
+    (said-both _ _ (says-all (each-says 0 (lowBits j) (λ m. m / 2 ^ j) (low-bits-says j) (map natAbs p)))
+    (says-all (each-says (pos 0) (sign (signRowOf signal offset (total v))) natAbs (λ z. sign-says k z (omega arith)) p))))
+
+-- ---- the smallest shift
+
+-- so a shift's test is that of the total alone
+pub shift-test : (level signal offset j : ℕ) (p : List ℤ) → level ≤ 8 → signal ≤ 2 → offset ≤ 1 → length p ≡ 16 → j ≤ 10
+    → shiftOk level signal offset p j ≡ leb (total (shiftedBy j p)) 16
+unfolding shiftOk
+shift-test level signal offset j p a b c s f =
+    by-lt 16 (total (shiftedBy j p)) (λ l. rw (lt-leb (total (shiftedBy j p)) 16 l))
+    (λ l. rw (le-leb (total (shiftedBy j p)) 16 l, block-sayable level signal offset j p a b c (record { size = s; few = f; most = l })))
+
+-- the first of 0 to 10 at which the shifted magnitudes total at most 16, and 11 where there is none
+abbrev pub leastShift : List ℤ → ℕ
+leastShift p = firstFrom (λ j. leb (total (shiftedBy j p)) 16) 11 0
+
+first-same : (f g : ℕ → Bool) (n j : ℕ) → ((i : ℕ) → i < n + j → f i ≡ g i) → firstFrom f n j ≡ firstFrom g n j
+unfolding firstFrom
+first-same f g zero j h = refl
+first-same f g (suc n) j h = rw (h j (omega arith), first-same f g n (suc j) (λ i l. h i (omega arith)))
+
+module _ (rate signal offset : ℕ) (a : rate ≤ 8) (b : signal ≤ 2) (c : offset ≤ 1) where
+  smallest-least : (p : List ℤ) → length p ≡ 16 → smallest rate signal offset p ≡ leastShift p
+  smallest-least p s =
+      first-same (shiftOk rate signal offset p) (λ j. leb (total (shiftedBy j p)) 16) 11 0 (λ i l. shift-test rate signal offset i p a b c s (omega arith))
+
+  -- so the shifts of a frame depend on its pulses alone
+  pub shifts-least : (ps : List (List ℤ)) → All Sixteen ps → shiftsOf rate signal offset ps ≡ map leastShift ps
+  shifts-least [] w = refl
+  shifts-least (p ∷ ps) w = rw (smallest-least p (w .0), shifts-least ps (w .1))
+
+  every-least : (ps : List (List ℤ)) → All Sixteen ps → every (λ p. leb (smallest rate signal offset p) 10) ps ≡ every (λ p. leb (leastShift p) 10) ps
+  every-least [] w = refl
+  every-least (p ∷ ps) w = rw (smallest-least p (w .0), every-least ps (w .1))
+
+  -- every rate level has a probability, so 8 is refused exactly where some block has no shift
+  pub rule-least : (ps : List (List ℤ)) → All Sixteen ps → writeRule signal offset rate ps ≡ cond (every (λ p. leb (leastShift p) 10) ps) 0 8
+  unfolding writeRule
+  rule-least ps w =
+      let k : signal / 2 < 2 = omega arith in
+      let e : sayRule (row (rateRow signal)) rate ≡ 0 = row-says (46 + signal / 2) rate (omega arith) (omega (arith, rate-stands (signal / 2) k .size)) in
+      rw (eq-eqb _ _ e, every-least ps w)
