@@ -20,3 +20,4 @@ pub mod PulseCallLaws
 pub mod PulseWriting
 pub mod PulseWritten
 pub mod PulseSayable
+pub mod PulsePlans
