@@ -21,3 +21,4 @@ pub mod PulseWriting
 pub mod PulseWritten
 pub mod PulseSayable
 pub mod PulsePlans
+pub mod PulseTelling

@@ -127,7 +127,7 @@ AllSuit [] (p ∷ ps) = ⊥
 AllSuit (j ∷ js) [] = ⊥
 AllSuit (j ∷ js) (p ∷ ps) = Suits j p × AllSuit js ps
 
-abbrev whole : List (List ℤ) → List (List ℕ)
+abbrev pub whole : List (List ℤ) → List (List ℕ)
 whole ps = map (map natAbs) ps
 
 counts-meant : (level : ℕ) (js : List ℕ) (ps : List (List ℤ)) → AllSuit js ps → meant (blocksBy js ps) (counts level (length ps)) ≡ blocksBy js ps
