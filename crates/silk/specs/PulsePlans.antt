@@ -1,18 +1,22 @@
 -- Counts and shifts of a frame's blocks in two arrays, as code keeps them. Assumes nothing.
-use Prim.Native.Nat.{ℕ, _+_, _≤_, _<_}
+use Prim.Native.Nat.{ℕ, zero, suc, _+_, _-_, _*_, _≤_, _<_}
 use mathlib.Core.Path.{_≡_, refl, sym, ap, ap₂, subst, _∙_}
 use mathlib.Core.Bool.{Bool, true, _&&_, and-true, and-assoc}
 use mathlib.Core.List.{List, [], _∷_, _++_, map}
+use native.Mathlib.Nat.{le-of-suc-le-suc, not-suc-le-zero}
 use native.Mathlib.Omega.{arith}
 use borrow.Author.Tests.{leb-true}
 use lib.Dec.{leb}
 use lib.IntN.{ℤ}
-use lib.ListN.{length, set, length-append}
+use lib.ListN.{length, getD, take, drop, set, length-append}
+use lib.Seq.{drop-cons, drop-drop}
 use Rattle.tests.specs.Both.{and-both}
 use Rattle.lists.specs.Every.{every}
 use Rattle.lists.specs.AtMost.{AtMost, at-most-set}
-use Rattle.silk.specs.PulseSyntax.{Block, total}
-use Rattle.silk.specs.PulseSteps.{blocksFrom, blocks-stored}
+use Rattle.silk.specs.PulseSyntax.{Block, headOf, tailOf, total}
+use Rattle.silk.specs.PulseSteps.{blockAt, blocksFrom, blocks-stored}
+use Rattle.silk.specs.PulseBlocks.{rows16, rows-counted}
+use Rattle.silk.specs.PulseRounds.{blockOf}
 use Rattle.silk.specs.PulseWriting.{shiftedBy, blockBy, blocksBy}
 use Rattle.silk.specs.PulseWritten.{Suits, AllSuit}
 use Rattle.silk.specs.PulseSayable.{leastShift}
@@ -37,6 +41,14 @@ pub record Planned (ps : List (List ℤ)) (counts lows : List ℕ) (fits : Bool)
   pub suited : fits ≡ true → Suited (map leastShift ps) ps counts lows
 
 -- ---- one block after the other
+
+pub rows-snoc : {A : Type 0} (n : ℕ) (v : List A) → rows16 (suc n) v ≡ rows16 n v ++ (take 16 (drop (n * 16) v) ∷ [])
+unfolding rows16
+rows-snoc zero v = refl
+rows-snoc {A = A} (suc n) v =
+    let e : 16 + n * 16 ≡ suc n * 16 = omega arith in
+    ap (λ (l : List (List A)). take 16 v ∷ l) (rows-snoc n (drop 16 v))
+    ∙ ap {B = List (List A)} (λ (d : List A). (take 16 v ∷ rows16 n (drop 16 v)) ++ (take 16 d ∷ [])) (drop-drop (n * 16) 16 v ∙ ap (λ (m : ℕ). drop m v) e)
 
 every-snoc : {A : Type 0} (f : A → Bool) (xs : List A) (x : A) → every f (xs ++ (x ∷ [])) ≡ every f xs && f x
 every-snoc f [] x = and-true (f x)
@@ -84,3 +96,54 @@ planned-next ps p c l t i count shift g h s e a b =
 
     suits : shift ≤ 10 → Suits (leastShift p) p
     suits m = subst (λ (j : ℕ). Suits j p) (h .is) (record { size = s; few = m; most = omega (arith, h .counted m, h .most) })
+
+-- ---- a plan, block by block
+
+module _ (c l : List ℕ) where
+  -- block k of those that stand in the arrays from i on
+  block-at : (i : ℕ) (js : List ℕ) (ps : List (List ℤ)) → AllSuit js ps → blocksFrom c l i (length ps) ≡ blocksBy js ps → (k : ℕ) → k < length ps
+      → getD c (i + k) 0 ≡ total (shiftedBy (getD l (i + k) 0) (getD ps k []))
+  unfolding blocksFrom blocksBy
+  block-at i [] [] a e k h = absurd (not-suc-le-zero h)
+  block-at i [] (p ∷ ps) a e k h = absurd a
+  block-at i (j ∷ js) [] a e k h = absurd a
+  block-at i (j ∷ js) (p ∷ ps) a e zero h =
+      let q : i + 0 ≡ i = omega arith in
+      let f : blockAt c l i ≡ blockBy j p = ap (headOf (blockBy j p)) e in
+      let n : getD l i 0 ≡ j = ap (λ (b : Block). b .lows) f in
+      rw (q, n) (ap (λ (b : Block). b .count) f)
+  block-at i (j ∷ js) (p ∷ ps) a e (suc k) h =
+      let q : i + suc k ≡ suc i + k = omega arith in
+      rw q (block-at (suc i) js ps (a .1) (ap tailOf e) k (le-of-suc-le-suc h))
+
+  -- the shifts are the numbers of low bits
+  shifts-at : (i : ℕ) (js : List ℕ) (ps : List (List ℤ)) → AllSuit js ps → blocksFrom c l i (length ps) ≡ blocksBy js ps → i + length ps ≤ length l
+      → js ≡ take (length ps) (drop i l)
+  unfolding blocksFrom blocksBy
+  shifts-at i [] [] a e h = refl
+  shifts-at i [] (p ∷ ps) a e h = absurd a
+  shifts-at i (j ∷ js) [] a e h = absurd a
+  shifts-at i (j ∷ js) (p ∷ ps) a e h =
+      let n : getD l i 0 ≡ j = ap (λ (bs : List Block). headOf (blockBy j p) bs .lows) e in
+      rw (drop-cons l i 0 (omega arith))
+      (ap₂ {C = List ℕ} (λ (x : ℕ) (xs : List ℕ). x ∷ xs) (sym n) (shifts-at (suc i) js ps (a .1) (ap tailOf e) (omega arith)))
+
+row-at : {A : Type 0} (n : ℕ) (v : List A) (k : ℕ) → k < n → getD (rows16 n v) k [] ≡ take 16 (drop (k * 16) v)
+unfolding rows16
+row-at zero v k h = absurd (not-suc-le-zero h)
+row-at (suc n) v zero h = refl
+row-at (suc n) v (suc k) h =
+    let e : 16 + k * 16 ≡ suc k * 16 = omega arith in
+    row-at n (drop 16 v) k (le-of-suc-le-suc h) ∙ ap (take 16) (drop-drop (k * 16) 16 v ∙ ap (λ (m : ℕ). drop m v) e)
+
+-- the count of a block is the total of its shifted magnitudes
+pub suited-at : (js : List ℕ) (c l : List ℕ) (n : ℕ) (v : List ℤ) → Suited js (rows16 n v) c l → (i : ℕ) → i < n
+    → getD c i 0 ≡ total (shiftedBy (getD l i 0) (blockOf v i))
+suited-at js c l n v s i h =
+    let e : 0 + i ≡ i = omega arith in
+    let f : i * 16 + 16 - i * 16 ≡ 16 = omega arith in
+    rw f (rw (e, row-at n v i h) at (block-at c l 0 js (rows16 n v) (s .suits) (s .blocks) i (omega (arith, rows-counted n v))))
+
+pub suited-shifts : (js : List ℕ) (c l : List ℕ) (n : ℕ) (v : List ℤ) → Suited js (rows16 n v) c l → n ≤ length l → js ≡ take n l
+suited-shifts js c l n v s h =
+    shifts-at c l 0 js (rows16 n v) (s .suits) (s .blocks) (omega (arith, rows-counted n v)) ∙ ap (λ (m : ℕ). take m l) (rows-counted n v)

@@ -18,14 +18,14 @@ use Rattle.sheet.specs.Directory.{rowOf, rateRow}
 use Rattle.sheet.specs.Places.{sizes, row-size}
 use Rattle.sheet.specs.Families.{rate-stands, count-stands, shell-stands, sign-stands}
 use Rattle.entcode.specs.Rules.{sayRule}
-use Rattle.tree.specs.Asks.{Asks, done, ask}
+use Rattle.tree.specs.Asks.{Asks, done, ask, then, of}
 use Rattle.tree.specs.Says.{Says, means, says-then, says-of, says-all}
 use Rattle.tree.specs.Telling.{allSaid, said-both}
 use Rattle.silk.specs.RowSays.{row-says, says-row}
-use Rattle.silk.specs.PulseSyntax.{row, Block, headOf, tailOf, each, laterRow, countSaid, lowCounts, count, total, split, shell, lowBits, signRowOf, sign}
+use Rattle.silk.specs.PulseSyntax.{row, Block, headOf, tailOf, each, laterRow, countSaid, lowCounts, count, counts, total, split, shell, lowBits, blockLows, signRowOf, sign, blockSigns, shifted, excitation}
 use Rattle.silk.specs.PulseBlocks.{Sixteen}
-use Rattle.silk.specs.PulseWriting.{shiftedBy, blockBy, blockSays, shiftOk, firstFrom, smallest, shiftsOf, writeRule}
-use Rattle.silk.specs.PulseWritten.{Suits, total-parts, one-value, next-bit}
+use Rattle.silk.specs.PulseWriting.{shiftedBy, blockBy, blockSays, shiftOk, firstFrom, smallest, blocksBy, excited, shiftsOf, writeRule}
+use Rattle.silk.specs.PulseWritten.{Suits, AllSuit, whole, total-parts, one-value, next-bit}
 
 -- ---- counts
 
@@ -104,21 +104,78 @@ sign-says k (negsuc n) h = says-row (124 + k) (omega arith) (omega (arith, sign-
 
 -- ---- a block
 
+cons-says : {A : Type 0} (e : A) {y : A} {ys : List A} {t : Asks A A} {u : Asks (List A) (List A)} → Says y y t → Says ys ys u
+    → Says (y ∷ ys) (y ∷ ys) (then (of (headOf e) t) (λ a. then (of tailOf u) (λ l. done (a ∷ l))))
+cons-says e p q = says-then _ (says-of (headOf e) p) (says-then _ (says-of tailOf q) means)
+
 each-says : {S A : Type 0} (e : A) (f : S → Asks A A) (g : A → S) → ((y : A) → Says y y (f (g y))) → (ys : List A) → Says ys ys (each e f (map g ys))
 unfolding each
 each-says e f g h [] = means
-each-says e f g h (y ∷ ys) = says-then _ (says-of (headOf e) (h y)) (says-then _ (says-of tailOf (each-says e f g h ys)) means)
+each-says e f g h (y ∷ ys) = cons-says e (h y) (each-says e f g h ys)
 
-pub block-sayable : (level signal offset j : ℕ) (p : List ℤ) → level ≤ 8 → signal ≤ 2 → offset ≤ 1 → Suits j p → allSaid (blockSays level signal offset j p) ≡ true
-unfolding blockSays
-block-sayable level signal offset j p a b c s =
-    let v = shiftedBy j p in
-    let k = 7 * (offset + 2 * signal) + min (total v) 6 in
-    let size : length v ≡ 16 = length-map (map natAbs p) (λ m. m / 2 ^ j) ∙ length-map p natAbs ∙ s .size in
-    said-both _ _ (says-all (count-says level (blockBy j p) a (s .few) (s .most)))
-    (said-both _ _ (says-all (shell-says 4 (total v) v (omega arith) (s .most) size refl))
-    (said-both _ _ (says-all (each-says 0 (lowBits j) (λ m. m / 2 ^ j) (low-bits-says j) (map natAbs p)))
-    (says-all (each-says (pos 0) (sign (signRowOf signal offset (total v))) natAbs (λ z. sign-says k z (omega arith)) p))))
+module _ (level signal offset : ℕ) (a : level ≤ 8) (b : signal ≤ 2) (c : offset ≤ 1) where
+  -- the parts of a block that a shift suits
+  module _ (j : ℕ) (p : List ℤ) (s : Suits j p) where
+    shifted-size : length (shiftedBy j p) ≡ 16
+    shifted-size = length-map (map natAbs p) (λ m. m / 2 ^ j) ∙ length-map p natAbs ∙ s .size
+
+    block-count : Says (blockBy j p) (blockBy j p) (count level)
+    block-count = count-says level (blockBy j p) a (s .few) (s .most)
+
+    block-splits : Says (shiftedBy j p) (shiftedBy j p) (shell 4 (total (shiftedBy j p)))
+    block-splits = shell-says 4 (total (shiftedBy j p)) (shiftedBy j p) (omega arith) (s .most) shifted-size refl
+
+    block-lows : Says (map natAbs p) (map natAbs p) (each 0 (lowBits j) (shiftedBy j p))
+    block-lows = each-says 0 (lowBits j) (λ m. m / 2 ^ j) (low-bits-says j) (map natAbs p)
+
+    block-signs : Says p p (each (pos 0) (sign (signRowOf signal offset (total (shiftedBy j p)))) (map natAbs p))
+    block-signs =
+        each-says (pos 0) (sign (signRowOf signal offset (total (shiftedBy j p)))) natAbs
+        (λ z. sign-says (7 * (offset + 2 * signal) + min (total (shiftedBy j p)) 6) z (omega arith)) p
+
+    pub block-sayable : allSaid (blockSays level signal offset j p) ≡ true
+    unfolding blockSays
+    block-sayable =
+        said-both _ _ (says-all block-count) (said-both _ _ (says-all block-splits) (said-both _ _ (says-all block-lows) (says-all block-signs)))
+
+  -- the parts of a frame, block after block
+  counts-says : (js : List ℕ) (ps : List (List ℤ)) → AllSuit js ps → Says (blocksBy js ps) (blocksBy js ps) (counts level (length ps))
+  unfolding counts blocksBy
+  counts-says [] [] h = means
+  counts-says [] (p ∷ ps) h = absurd h
+  counts-says (j ∷ js) [] h = absurd h
+  counts-says (j ∷ js) (p ∷ ps) h = cons-says (record { count = 0; lows = 0 }) (block-count j p (h .0)) (counts-says js ps (h .1))
+
+  splits-says : (js : List ℕ) (ps : List (List ℤ)) → AllSuit js ps
+      → Says (shifted (blocksBy js ps) (whole ps)) (shifted (blocksBy js ps) (whole ps)) (each [] (λ (k : Block). shell 4 (k .count)) (blocksBy js ps))
+  unfolding each blocksBy shifted
+  splits-says [] [] h = means
+  splits-says [] (p ∷ ps) h = absurd h
+  splits-says (j ∷ js) [] h = absurd h
+  splits-says (j ∷ js) (p ∷ ps) h = cons-says [] (block-splits j p (h .0)) (splits-says js ps (h .1))
+
+  lows-says : (js : List ℕ) (ps : List (List ℤ)) → AllSuit js ps → Says (whole ps) (whole ps) (blockLows (blocksBy js ps) (shifted (blocksBy js ps) (whole ps)))
+  unfolding blockLows blocksBy shifted
+  lows-says [] [] h = means
+  lows-says [] (p ∷ ps) h = absurd h
+  lows-says (j ∷ js) [] h = absurd h
+  lows-says (j ∷ js) (p ∷ ps) h = cons-says [] (block-lows j p (h .0)) (lows-says js ps (h .1))
+
+  signs-says : (js : List ℕ) (ps : List (List ℤ)) → AllSuit js ps → Says ps ps (blockSigns signal offset (blocksBy js ps) (whole ps))
+  unfolding blockSigns blocksBy
+  signs-says [] [] h = means
+  signs-says [] (p ∷ ps) h = absurd h
+  signs-says (j ∷ js) [] h = absurd h
+  signs-says (j ∷ js) (p ∷ ps) h = cons-says [] (block-signs j p (h .0)) (signs-says js ps (h .1))
+
+  -- all of them
+  pub frame-says : (js : List ℕ) (ps : List (List ℤ)) → AllSuit js ps → Says (excited level js ps) (excited level js ps) (excitation signal offset (length ps))
+  unfolding excitation
+  frame-says js ps h =
+      let k : signal / 2 < 2 = omega arith in
+      says-row (46 + signal / 2) (omega arith) (omega (arith, rate-stands (signal / 2) k .size))
+      (says-then _ (says-of _ (counts-says js ps h))
+      (says-then _ (says-of _ (splits-says js ps h)) (says-then _ (says-of _ (lows-says js ps h)) (says-then _ (says-of _ (signs-says js ps h)) means))))
 
 -- ---- the smallest shift
 
@@ -128,7 +185,7 @@ pub shift-test : (level signal offset j : ℕ) (p : List ℤ) → level ≤ 8 �
 unfolding shiftOk
 shift-test level signal offset j p a b c s f =
     by-lt 16 (total (shiftedBy j p)) (λ l. rw (lt-leb (total (shiftedBy j p)) 16 l))
-    (λ l. rw (le-leb (total (shiftedBy j p)) 16 l, block-sayable level signal offset j p a b c (record { size = s; few = f; most = l })))
+    (λ l. rw (le-leb (total (shiftedBy j p)) 16 l, block-sayable level signal offset a b c j p (record { size = s; few = f; most = l })))
 
 -- the first of 0 to 10 at which the shifted magnitudes total at most 16, and 11 where there is none
 abbrev pub leastShift : List ℤ → ℕ

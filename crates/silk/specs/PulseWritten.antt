@@ -130,7 +130,7 @@ AllSuit (j ∷ js) (p ∷ ps) = Suits j p × AllSuit js ps
 abbrev pub whole : List (List ℤ) → List (List ℕ)
 whole ps = map (map natAbs) ps
 
-counts-meant : (level : ℕ) (js : List ℕ) (ps : List (List ℤ)) → AllSuit js ps → meant (blocksBy js ps) (counts level (length ps)) ≡ blocksBy js ps
+pub counts-meant : (level : ℕ) (js : List ℕ) (ps : List (List ℤ)) → AllSuit js ps → meant (blocksBy js ps) (counts level (length ps)) ≡ blocksBy js ps
 unfolding counts blocksBy meant
 counts-meant level [] [] a = refl
 counts-meant level [] (p ∷ ps) a = absurd a
@@ -139,7 +139,7 @@ counts-meant level (j ∷ js) (p ∷ ps) a =
     cons-meant (record { count = 0; lows = 0 }) (blockBy j p) (blocksBy js ps) (count level) (counts level (length ps)) (count-meant level (blockBy j p) (a .0 .few) (a .0 .most))
     (counts-meant level js ps (a .1))
 
-splits-meant : (js : List ℕ) (ps : List (List ℤ)) → AllSuit js ps
+pub splits-meant : (js : List ℕ) (ps : List (List ℤ)) → AllSuit js ps
     → meant (shifted (blocksBy js ps) (whole ps)) (each [] (λ (b : Block). shell 4 (b .count)) (blocksBy js ps)) ≡ shifted (blocksBy js ps) (whole ps)
 unfolding each blocksBy shifted meant
 splits-meant [] [] a = refl
@@ -149,7 +149,7 @@ splits-meant (j ∷ js) (p ∷ ps) a =
     cons-meant [] (shiftedBy j p) (shifted (blocksBy js ps) (whole ps)) (shell 4 (total (shiftedBy j p))) (each [] (λ (b : Block). shell 4 (b .count)) (blocksBy js ps))
     (shell-meant 4 (total (shiftedBy j p)) (shiftedBy j p) (length-map (map natAbs p) (λ m. m / 2 ^ j) ∙ length-map p natAbs ∙ a .0 .size) refl) (splits-meant js ps (a .1))
 
-lows-meant : (js : List ℕ) (ps : List (List ℤ)) → AllSuit js ps → meant (whole ps) (blockLows (blocksBy js ps) (shifted (blocksBy js ps) (whole ps))) ≡ whole ps
+pub lows-meant : (js : List ℕ) (ps : List (List ℤ)) → AllSuit js ps → meant (whole ps) (blockLows (blocksBy js ps) (shifted (blocksBy js ps) (whole ps))) ≡ whole ps
 unfolding blockLows blocksBy shifted meant
 lows-meant [] [] a = refl
 lows-meant [] (p ∷ ps) a = absurd a

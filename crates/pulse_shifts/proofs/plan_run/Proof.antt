@@ -7,8 +7,8 @@ use native.Mathlib.Omega.{arith}
 use lib.ListN.{length, take, drop, length-set, length-drop}
 use lib.Seq.{length-take-le}
 use Rattle.lists.specs.AtMost.{at-most-zeros}
-use Rattle.silk.specs.PulseBlocks.{rows16, rows-counted, rows-snoc}
-use Rattle.silk.specs.PulsePlans.{Shift, planned-start, planned-next, Planned}
+use Rattle.silk.specs.PulseBlocks.{rows16, rows-counted}
+use Rattle.silk.specs.PulsePlans.{Shift, rows-snoc, planned-start, planned-next, Planned}
 use Rattle.pulse_shifts.proofs.plan_run.Statement.{statement}
 use Rattle.pulse_shifts.proofs.plan_run.Tie as tie
 
