@@ -18,3 +18,4 @@ pub mod IndexWriting
 pub mod PulseCallLaws
 pub mod PulseWriting
 pub mod PulseWritten
+pub mod PulseTold

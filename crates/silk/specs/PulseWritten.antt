@@ -41,13 +41,13 @@ count-meant level b m h = low-counts-meant 10 0 b refl (omega arith) m h
 
 -- ---- splits
 
-total-parts : (n : ℕ) (v : List ℕ) → total (take n v) + total (drop n v) ≡ total v
+pub total-parts : (n : ℕ) (v : List ℕ) → total (take n v) + total (drop n v) ≡ total v
 unfolding total
 total-parts zero v = omega arith
 total-parts (suc n) [] = refl
 total-parts (suc n) (x ∷ v) = omega (arith, total-parts n v)
 
-split-meant : (k c : ℕ) (v : List ℕ) → total v ≡ c → meant v (split k c) ≡ total (take (2 ^ k) v)
+pub split-meant : (k c : ℕ) (v : List ℕ) → total v ≡ c → meant v (split k c) ≡ total (take (2 ^ k) v)
 unfolding split meant
 split-meant k zero v e = omega (arith, total-parts (2 ^ k) v)
 split-meant k (suc c) v e = refl
