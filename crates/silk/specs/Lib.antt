@@ -23,3 +23,4 @@ pub mod PulseWritten
 pub mod PulseSayable
 pub mod PulsePlans
 pub mod PulseTelling
+pub mod PulseTold

@@ -5,16 +5,17 @@ use mathlib.Core.Path.{_≡_, refl, sym, ap, _∙_}
 use mathlib.Core.Bool.{Bool, true, false, cond}
 use mathlib.Core.List.{List, [], _∷_, flatten}
 use native.Mathlib.Omega.{arith}
-use borrow.Author.Tests.{eq-eqb}
+use borrow.Author.Tests.{eq-eqb, eqb-true}
 use lib.Dec.{eqb}
 use lib.ListN.{length, take, drop}
 use lib.Seq.{drop-drop}
-use Rattle.icdf.specs.Rule.{Icdf}
+use Rattle.tests.specs.Choice.{chosen}
+use Rattle.icdf.specs.Rule.{Icdf, Writable}
 use Rattle.sheet.specs.Rows.{pulseRows}
 use Rattle.sheet.specs.Directory.{rowOf, countRow, lastCountRow, lowBitRow, signRow}
 use Rattle.sheet.specs.Places.{sizes, starts, row-size, stands-in, lent, pulse-stands}
 use Rattle.sheet.specs.Families.{rate-stands, count-stands, sign-stands}
-use Rattle.sheet.specs.SheetRule.{row-good, last-count-is}
+use Rattle.sheet.specs.SheetRule.{row-good, row-writable, last-count-is}
 use Rattle.silk.specs.PulseSyntax.{laterRow}
 use Rattle.silk.specs.PulseSteps.{PulseRows}
 
@@ -54,6 +55,16 @@ later-within j i e = rw e (go (eqb j 10))
     go : (t : Bool) → cond t 181 180 ≤ 198
     go true = omega arith
     go false = omega arith
+
+-- each count of 0 to 17 may be written, after ten low bits each of 0 to 16
+pub count-writable : (level v : ℕ) → level < 10 → v ≤ 17 → Writable 8 (countRow level) v
+count-writable level v h l = row-writable (48 + level) v (omega arith) (omega (arith, count-size level h))
+
+pub later-writable : (j v : ℕ) → v ≤ 17 → (j ≡ 10 → v ≤ 16) → Writable 8 (laterRow j) v
+unfolding sizes
+later-writable j v l h =
+    chosen (λ (r : List ℕ). Writable 8 r v) (eqb j 10) (λ t. row-writable 58 v (omega arith) (omega (arith, row-size 58, h (eqb-true j 10 t))))
+    (λ t. row-writable 57 v (omega arith) (omega (arith, row-size 57)))
 
 -- 18 symbols, after ten low bits 17
 pub record Later (j : ℕ) : Type 0 where

@@ -47,7 +47,7 @@ total-parts zero v = omega arith
 total-parts (suc n) [] = refl
 total-parts (suc n) (x ∷ v) = omega (arith, total-parts n v)
 
-split-meant : (k c : ℕ) (v : List ℕ) → total v ≡ c → meant v (split k c) ≡ total (take (2 ^ k) v)
+pub split-meant : (k c : ℕ) (v : List ℕ) → total v ≡ c → meant v (split k c) ≡ total (take (2 ^ k) v)
 unfolding split meant
 split-meant k zero v e = omega (arith, total-parts (2 ^ k) v)
 split-meant k (suc c) v e = refl

@@ -1,0 +1,105 @@
+-- One turn of each loop of the pulse writer: what is said along a tree of `PulseSyntax` before and behind one more symbol, place or block.
+-- Assumes nothing.
+use Prim.Native.Nat.{ℕ, zero, suc, _+_, _-_, _^_, _<_, _≤_}
+use mathlib.Core.Path.{_≡_, refl, sym, _∙_}
+use mathlib.Core.List.{List, [], _∷_, _++_, append-nil}
+use native.Mathlib.Numerals.{add-one}
+use native.Mathlib.Omega.{arith}
+use borrow.Author.Tests.{lt-ltb, le-ltb, ne-eqb}
+use lib.Dec.{ltb}
+use lib.ListN.{length, getD, take, drop, drop-of-length-le}
+use lib.Seq.{drop-cons}
+use Rattle.tests.specs.Choice.{chosen}
+use Rattle.icdf.specs.Rule.{Writable}
+use Rattle.sheet.specs.Directory.{countRow, shellRow}
+use Rattle.entcode.specs.Models.{tab}
+use Rattle.entcode.specs.Flat.{Out}
+use Rattle.entcode.specs.WriterFacts.{Core, Wrote}
+use Rattle.tree.specs.Asks.{Asks, done, ask, then, of, symbols, meant}
+use Rattle.tree.specs.AsksLaws.{symbols-then, symbols-of}
+use Rattle.tree.specs.Told.{Told, told-done, told-ask, told-then, told-of, told-within}
+use Rattle.silk.specs.PulseSyntax.{row, Block, headOf, tailOf, each, laterRow, countSaid, lowCounts, count, counts, total, split, shell}
+use Rattle.silk.specs.PulseSteps.{less-suc, blockAt, blocksFrom}
+use Rattle.silk.specs.PulseRowLaws.{count-writable, later-writable}
+use Rattle.silk.specs.PulseWritten.{split-meant}
+
+-- ---- lists of trees
+
+cons-said : {A B : Type 0} (e y : A) (ys : List A) (t : Asks A B) (u : Asks (List A) (List B))
+    → symbols (y ∷ ys) (then (of (headOf e) t) (λ a. then (of tailOf u) (λ l. done (a ∷ l)))) ≡ symbols y t ++ symbols ys u
+unfolding symbols
+cons-said e y ys t u =
+    let first = symbols-then (y ∷ ys) (of (headOf e) t) (λ a. then (of tailOf u) (λ l. done (a ∷ l))) in
+    let others = symbols-then (y ∷ ys) (of tailOf u) (λ l. done (meant (y ∷ ys) (of (headOf e) t) ∷ l)) in
+    first ∙ rw (symbols-of (y ∷ ys) (headOf e) t, others, symbols-of (y ∷ ys) tailOf u, append-nil (symbols ys u))
+
+pub each-said : {P Q A : Type 0} (e : Q) (f : P → Asks Q A) (y : Q) (ys : List Q) (p : P) (ps : List P)
+    → symbols (y ∷ ys) (each e f (p ∷ ps)) ≡ symbols y (f p) ++ symbols ys (each e f ps)
+unfolding each
+each-said e f y ys p ps = cons-said e y ys (f p) (each e f ps)
+
+-- ---- counts
+
+said-most : (b : Block) (j : ℕ) → b .count ≤ 16 → countSaid j b ≤ 17
+said-most b j h = chosen (λ (v : ℕ). v ≤ 17) (ltb j (b .lows)) (λ t. omega arith) (λ t. omega arith)
+
+pub first-writable : (b : Block) (level : ℕ) → b .count ≤ 16 → level < 10 → Writable 8 (countRow level) (countSaid 0 b)
+first-writable b level h l = count-writable level (countSaid 0 b) l (said-most b 0 h)
+
+pub said-writable : (b : Block) (j : ℕ) → b .count ≤ 16 → b .lows ≤ 10 → Writable 8 (laterRow j) (countSaid j b)
+said-writable b j h l = later-writable j (countSaid j b) (said-most b j h) (λ e. rw (le-ltb j (b .lows) (omega arith)) h)
+
+-- after j of a block's low bits: one more of them, or the count
+pub lows-left : (b : Block) (n j : ℕ) → j < n → j < b .lows
+    → lowCounts (n - j) j (countSaid j b) ≡ ask (row (laterRow (j + 1))) (countSaid (j + 1)) (λ v. lowCounts (n - (j + 1)) (j + 1) v)
+unfolding lowCounts
+lows-left b n j h l = rw (add-one, less-suc n j h, lt-ltb j (b .lows) l)
+
+pub lows-said : (b : Block) (n j : ℕ) → b .lows ≤ j → b .count ≤ 16 → symbols b (lowCounts n j (countSaid j b)) ≡ []
+unfolding lowCounts symbols
+lows-said b zero j l h = refl
+lows-said b (suc n) j l h = rw (le-ltb j (b .lows) l, ne-eqb (b .count) 17 (λ e. omega arith))
+
+pub counts-said : (c l : List ℕ) (level n i : ℕ) → i < n
+    → symbols (blocksFrom c l i (n - i)) (counts level (n - i))
+    ≡ symbols (blockAt c l i) (count level) ++ symbols (blocksFrom c l (i + 1) (n - (i + 1))) (counts level (n - (i + 1)))
+unfolding counts blocksFrom
+counts-said c l level n i h =
+    rw (add-one, less-suc n i h)
+    (cons-said (record { count = 0; lows = 0 }) (blockAt c l i) (blocksFrom c l (suc i) (n - suc i)) (count level) (counts level (n - suc i)))
+
+pub counts-silent : (c l : List ℕ) (level n i : ℕ) → n ≤ i → symbols (blocksFrom c l i (n - i)) (counts level (n - i)) ≡ []
+unfolding counts symbols
+counts-silent c l level n i h = let e : n - i ≡ 0 = omega arith in rw e
+
+-- ---- splits
+
+-- a total, taken place by place
+pub total-next : (s : List ℕ) (k : ℕ) → k < length s → total (drop k s) ≡ getD s k 0 + total (drop (k + 1) s)
+unfolding total
+total-next s k l = rw (add-one, drop-cons s k 0 l)
+
+pub total-end : (s : List ℕ) (k : ℕ) → length s ≤ k → total (drop k s) ≡ 0
+unfolding total
+total-end s k l = rw (drop-of-length-le s {i = k} l)
+
+pub split-untold : {o : Out} {y : List ℕ} (k c : ℕ) → c ≡ 0 → Core o → Told o y (split k c) 16 o
+unfolding split
+split-untold k c e h = rw e (told-within (omega arith) (told-done h))
+
+pub split-told : {o q : Out} {y r : List ℕ} {v : ℕ} (k c : ℕ) → 1 ≤ c → r ≡ shellRow k c → v ≡ total (take (2 ^ k) y)
+    → Wrote o (record { model = tab 8 r; value = v }) q → Told o y (split k c) 16 q
+unfolding split
+split-told k zero l e f h = absurd (omega arith)
+split-told k (suc c) l e f h = told-ask e f h (told-done (h .core))
+
+pub place-told : {o : Out} {y : List ℕ} (c : ℕ) → Core o → Told o y (shell 0 c) 0 o
+unfolding shell
+place-told c h = told-done h
+
+-- a split, then its left half, then its right half
+pub halves-told : {o p r q : Out} {l n : ℕ} (k c : ℕ) (y : List ℕ) → total y ≡ c → l ≡ total (take (2 ^ k) y) → Told o y (split k c) 16 p
+    → Told p (take (2 ^ k) y) (shell k l) n r → Told r (drop (2 ^ k) y) (shell k (c - l)) n q → Told o y (shell (suc k) c) (16 + (n + (n + 0))) q
+unfolding shell
+halves-told k c y t e a f g =
+    told-then _ (split-meant k c y t ∙ sym e) a (told-then _ refl (told-of _ f) (told-then _ refl (told-of _ g) (told-done (g .core))))
