@@ -75,14 +75,53 @@ module _ {R Q A B : Type 0} (hand : List Block → List (List ℤ) → R) (tree 
 -- ---- splits, low bits, signs
 
 module _ (b : Block) (bs : List Block) (p : List ℤ) (ps : List (List ℤ)) where
-  splits-more : symbols (shifted (b ∷ bs) (whole (p ∷ ps))) (each [] shellOf (b ∷ bs)) ≡ symbols (shiftedBy (b .lows) p) (shellOf b) ++ symbols (shifted bs (whole ps)) (each [] shellOf bs)
+  pub splits-more : symbols (shifted (b ∷ bs) (whole (p ∷ ps))) (each [] shellOf (b ∷ bs)) ≡ symbols (shiftedBy (b .lows) p) (shellOf b) ++ symbols (shifted bs (whole ps)) (each [] shellOf bs)
   unfolding each shifted
   splits-more = symbols-cons (shiftedBy (b .lows) p ∷ shifted bs (whole ps)) (headOf []) (shellOf b) tailOf (each [] shellOf bs)
 
-  lows-more : symbols (whole (p ∷ ps)) (blockLows (b ∷ bs) (shifted (b ∷ bs) (whole (p ∷ ps)))) ≡ symbols (map natAbs p) (lowsOf b (shiftedBy (b .lows) p)) ++ symbols (whole ps) (blockLows bs (shifted bs (whole ps)))
+  pub lows-more : symbols (whole (p ∷ ps)) (blockLows (b ∷ bs) (shifted (b ∷ bs) (whole (p ∷ ps)))) ≡ symbols (map natAbs p) (lowsOf b (shiftedBy (b .lows) p)) ++ symbols (whole ps) (blockLows bs (shifted bs (whole ps)))
   unfolding blockLows shifted
   lows-more = symbols-cons (whole (p ∷ ps)) (headOf []) (lowsOf b (shiftedBy (b .lows) p)) tailOf (blockLows bs (shifted bs (whole ps)))
 
-  signs-more : (signal offset : ℕ) → symbols (p ∷ ps) (blockSigns signal offset (b ∷ bs) (whole (p ∷ ps))) ≡ symbols p (signsOf signal offset b (map natAbs p)) ++ symbols ps (blockSigns signal offset bs (whole ps))
+  pub signs-more : (signal offset : ℕ) → symbols (p ∷ ps) (blockSigns signal offset (b ∷ bs) (whole (p ∷ ps))) ≡ symbols p (signsOf signal offset b (map natAbs p)) ++ symbols ps (blockSigns signal offset bs (whole ps))
   unfolding blockSigns
   signs-more signal offset = symbols-cons (p ∷ ps) (headOf []) (signsOf signal offset b (map natAbs p)) tailOf (blockSigns signal offset bs (whole ps))
+
+pub silent-each : {P Q A : Type 0} (y : List Q) (e : Q) (f : P → Asks Q A) → symbols y (each e f []) ≡ []
+unfolding each symbols
+silent-each y e f = refl
+
+pub silent-lows : (y vs : List (List ℕ)) → symbols y (blockLows [] vs) ≡ []
+unfolding blockLows symbols
+silent-lows y vs = refl
+
+pub silent-signs : (y : List (List ℤ)) (signal offset : ℕ) (vs : List (List ℕ)) → symbols y (blockSigns signal offset [] vs) ≡ []
+unfolding blockSigns symbols
+silent-signs y signal offset vs = refl
+
+-- i blocks of n, whose counts c, shifts l and pulses v are at hand, from the writer o on
+module _ (o : Out) (c l : List ℕ) (v : List ℤ) (n : ℕ) where
+  abbrev pub SplitsTelling : Out → ℕ → Type 0
+  SplitsTelling =
+      Telling (λ bs ps. shifted bs (whole ps)) (λ bs ps. each [] shellOf bs) (λ b p. shiftedBy (b .lows) p) (λ b p. shellOf b) 240 splits-more
+      (λ ps. silent-each (shifted [] (whole ps)) [] shellOf) o c l v n
+
+  abbrev pub LowsTelling : Out → ℕ → Type 0
+  LowsTelling =
+      Telling (λ bs ps. whole ps) (λ bs ps. blockLows bs (shifted bs (whole ps))) (λ b p. map natAbs p) (λ b p. lowsOf b (shiftedBy (b .lows) p)) 2560 lows-more
+      (λ ps. silent-lows (whole ps) (shifted [] (whole ps))) o c l v n
+
+  abbrev pub SignsTelling : ℕ → ℕ → Out → ℕ → Type 0
+  SignsTelling signal offset =
+      Telling (λ bs ps. ps) (λ bs ps. blockSigns signal offset bs (whole ps)) (λ b p. p) (λ b p. signsOf signal offset b (map natAbs p)) 256
+      (λ b bs p ps. signs-more b bs p ps signal offset) (λ ps. silent-signs ps signal offset (whole ps)) o c l v n
+
+  -- all of them
+  abbrev pub SplitsTold : Out → Type 0
+  SplitsTold q = Told o (shifted (blocksFrom c l 0 n) (whole (rows16 n v))) (each [] shellOf (blocksFrom c l 0 n)) (240 * n) q
+
+  abbrev pub LowsTold : Out → Type 0
+  LowsTold q = Told o (whole (rows16 n v)) (blockLows (blocksFrom c l 0 n) (shifted (blocksFrom c l 0 n) (whole (rows16 n v)))) (2560 * n) q
+
+  abbrev pub SignsTold : ℕ → ℕ → Out → Type 0
+  SignsTold signal offset q = Told o (rows16 n v) (blockSigns signal offset (blocksFrom c l 0 n) (whole (rows16 n v))) (256 * n) q
