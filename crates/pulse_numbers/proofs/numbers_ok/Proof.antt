@@ -1,8 +1,8 @@
 -- `numbers_ok` meets its contract. Assumes nothing.
 use mathlib.Core.Path.{refl}
 use Rattle.silk.specs.FrameCalls.{pulseNumbersOk}
-use Rattle.decode_pulses.proofs.numbers_ok.Statement.{statement}
-use Rattle.decode_pulses.proofs.numbers_ok.Tie as tie
+use Rattle.pulse_numbers.proofs.numbers_ok.Statement.{statement}
+use Rattle.pulse_numbers.proofs.numbers_ok.Tie as tie
 
 returns : tie.Need-returns
 unfolding pulseNumbersOk
