@@ -15,6 +15,7 @@ pub mod FrameCalls
 pub mod IndexCalls
 pub mod IndexCases
 pub mod IndexWriting
+pub mod IndexSays
 pub mod PulseCallLaws
 pub mod PulseWriting
 pub mod PulseWritten
