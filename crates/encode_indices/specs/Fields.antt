@@ -1,5 +1,5 @@
 -- A record whose fields lie in their ranges is one that may be written (RFC 6716, section 4.2.7; document 01, "Side indices"). Assumes nothing.
-use Prim.Native.Nat.{_-_, _*_, _/_, _<_}
+use Prim.Native.Nat.{_-_, _/_, _<_}
 use mathlib.Core.Path.{_≡_, sym, ap, subst, _∙_}
 use mathlib.Core.Bool.{true}
 use native.Mathlib.Omega.{arith}
@@ -40,7 +40,7 @@ module _ (s : Setting) (x : Indices) (c : Chosen s) (h : Shape x) (w : WritesIn 
       (subst (λ (z : Indices). Says x x (gains (s .mode) (s .subframes) (kindOf x / 2) z)) (sym (kind-same x (w .kind .offset) (w .kind .signal)))
       (gains-says (s .mode) (s .subframes) (kindOf x / 2) x (c .subframes) p h (w .gains)))
       (says-then _ (spectrum-says (s .khz) (kindOf x / 2) x (c .rate) p h (w .spectrum))
-      (says-then _ (interpolation-says (s .subframes) x (c .subframes) (w .interpolation .interp) (w .interpolation .fixed))
+      (says-then _ (interpolation-says (s .subframes) x (c .subframes) (w .interp) (w .fixed))
       (says-then _ voicing-says (seed-says x (w .seed))))))
 
   -- such a record is accepted

@@ -26,23 +26,25 @@ module _ {ℓ} {A : Type ℓ} (f : A → Bool) where
   at-every [] d h = refl
   at-every (x ∷ xs) d h = both-and (f x) (every xs) (h 0 (suc-le-suc zero-le)) (at-every xs d (λ k l. h (suc k) (suc-le-suc l)))
 
-  -- a test that decides P, at the n entries from a on
-  module _ (P : A → Type 0) (decided : (x : A) → Decides (f x) (P x)) (l : List A) (d : A) (a n : ℕ) (h : a + n ≤ length l) where
-    size : length (take n (drop a l)) ≡ n
-    size = omega (arith, length-take n (drop a l), length-drop a l)
+  -- a test that decides P, at the entries from a to e
+  module _ (P : A → Type 0) (decided : (x : A) → Decides (f x) (P x)) (l : List A) (d : A) (a e : ℕ) (h : a ≤ e) (i : e ≤ length l) where
+    size : length (take (e - a) (drop a l)) ≡ e - a
+    size = omega (arith, length-take (e - a) (drop a l), length-drop a l)
 
-    entry : (k : ℕ) → a ≤ k → k < a + n → getD (take n (drop a l)) (k - a) d ≡ getD l k d
+    entry : (k : ℕ) → a ≤ k → k < e → getD (take (e - a) (drop a l)) (k - a) d ≡ getD l k d
     entry k p q =
-        let e : a + (k - a) ≡ k = omega arith in
-        getD-take n (drop a l) (k - a) d (omega arith) ∙ getD-drop a l (k - a) d ∙ ap (λ (j : ℕ). getD l j d) e
+        let j : a + (k - a) ≡ k = omega arith in
+        getD-take (e - a) (drop a l) (k - a) d (omega arith) ∙ getD-drop a l (k - a) d ∙ ap (λ (m : ℕ). getD l m d) j
 
-    pub part-decides : Decides (every (take n (drop a l))) ((k : ℕ) → a ≤ k → k < a + n → P (getD l k d))
+    pub part-decides : Decides (every (take (e - a) (drop a l))) ((k : ℕ) → a ≤ k → k < e → P (getD l k d))
     part-decides =
         record {
-          sure = λ e k p q. decided (getD l k d) .sure (sym (ap f (entry k p q)) ∙ every-at (take n (drop a l)) d e (k - a) (omega (arith, size)));
-          seen = λ g. at-every (take n (drop a l)) d (λ k p.
-              let q : k < n = omega (arith, size) in
-              ap f (getD-take n (drop a l) k d q ∙ getD-drop a l k d) ∙ decided (getD l (a + k) d) .seen (g (a + k) (omega arith) (omega arith)));
+          sure = λ t k p q.
+              decided (getD l k d) .sure (sym (ap f (entry k p q)) ∙ every-at (take (e - a) (drop a l)) d t (k - a) (omega (arith, size)));
+          seen = λ g. at-every (take (e - a) (drop a l)) d (λ k p.
+              let q : k < e - a = omega (arith, size) in
+              ap f (getD-take (e - a) (drop a l) k d q ∙ getD-drop a l k d)
+              ∙ decided (getD l (a + k) d) .seen (g (a + k) (omega arith) (omega arith)));
         }
 
 module _ (f : ℕ → Bool) where

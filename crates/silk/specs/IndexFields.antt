@@ -15,15 +15,12 @@ pub record WritesKind (active : ℕ) (x : Indices) : Type 0 where
   pub signal : Upto 2 (x .signal)
   pub offset : Upto 1 (x .offset)
 
-pub record WritesInterpolation (subframes : ℕ) (x : Indices) : Type 0 where
-  pub interp : Upto 4 (x .interp)
-  pub fixed : subframes ≡ 2 → x .interp ≡ pos 4
-
 pub record Writes (khz subframes active mode : ℕ) (x : Indices) : Type 0 where
   pub kind : WritesKind active x
   pub gains : WritesGains mode subframes x
   pub spectrum : WritesSpectrum khz x
-  pub interpolation : WritesInterpolation subframes x
+  pub interp : Upto 4 (x .interp)
+  pub fixed : subframes ≡ 2 → x .interp ≡ pos 4
   pub pitch : x .signal ≡ pos 2 → WritesPitch khz subframes mode x
   pub seed : Upto 3 (x .seed)
 
@@ -38,7 +35,8 @@ range-writes s x r l =
       kind = record { kind = r .kind; signal = r .signal; offset = r .offset };
       gains = writes-gains r;
       spectrum = writes-spectrum r;
-      interpolation = record { interp = r .interp; fixed = r .fixed };
+      interp = r .interp;
+      fixed = r .fixed;
       pitch = λ v. writes-pitch (r .voiced v) (l v);
       seed = r .seed;
     }
