@@ -19,8 +19,8 @@ use Rattle.silk.specs.Record.{Setting, settingOf}
 use Rattle.silk.specs.IndexSyntax.{absoluteLag, lag, pitch, voicing, indices, relativeIn}
 use Rattle.silk.specs.IndexRanges.{Shape}
 use Rattle.silk.specs.IndexCalls.{Chosen}
+use Rattle.silk.specs.IndexFields.{WritesIn, range-writes}
 use Rattle.silk.specs.IndexWriting.{sayable, meant-is, same-sure, sayable-in-range}
-use Rattle.encode_indices.specs.Fields.{Writes}
 
 -- what y says along t it says along t', and means the same
 record Follows {R A : Type 0} (y : R) (t t' : Asks R A) : Type 0 where
@@ -84,7 +84,7 @@ indices-follows s x =
 
 -- ---- what an accepted record is
 
-pub sayable-writes : (s : Setting) (x : Indices) → Chosen s → Shape x → sayable s x ≡ true → Writes s x
+pub sayable-writes : (s : Setting) (x : Indices) → Chosen s → Shape x → sayable s x ≡ true → WritesIn s x
 unfolding sayable
 sayable-writes s x c h e =
     let f = indices-follows s x in
@@ -92,7 +92,5 @@ sayable-writes s x c h e =
     let m : meant x (indices (unvoicedBefore s) x) ≡ x = sym (f .means) ∙ meant-is s x e in
     let q : sayable (unvoicedBefore s) x ≡ true = both-and _ _ (f .said (p .0)) (same-sure _ _ m) in
     let d : Chosen (unvoicedBefore s) = record { rate = c .rate; subframes = c .subframes; active = c .active; mode = c .mode; prevtype = omega arith } in
-    record {
-      range = sayable-in-range s x e c h;
-      lag = λ v. sayable-in-range (unvoicedBefore s) x q d h .voiced v .absolute (not-relative (s .mode));
-    }
+    range-writes s x (sayable-in-range s x e c h)
+    (λ v. sayable-in-range (unvoicedBefore s) x q d h .voiced v .absolute (not-relative (s .mode)))

@@ -1,6 +1,5 @@
--- A record whose fields lie in the ranges that a reader gives, with an absolute lag, is one that may be written (RFC 6716, section 4.2.7;
--- document 01, "Side indices"). Assumes nothing.
-use Prim.Native.Nat.{_-_, _*_, _/_, _<_}
+-- A record whose fields lie in their ranges is one that may be written (RFC 6716, section 4.2.7; document 01, "Side indices"). Assumes nothing.
+use Prim.Native.Nat.{_-_, _/_, _<_}
 use mathlib.Core.Path.{_≡_, sym, ap, subst, _∙_}
 use mathlib.Core.Bool.{true}
 use native.Mathlib.Omega.{arith}
@@ -14,40 +13,35 @@ use Rattle.tree.specs.Says.{Says, means, says-then, says-all, says-means}
 use Rattle.silk.specs.declared.Indices.{Indices}
 use Rattle.silk.specs.Record.{Setting}
 use Rattle.silk.specs.IndexSyntax.{kindOf, gains, relativeIn, voicing, indices}
-use Rattle.silk.specs.IndexParts.{Upto}
-use Rattle.silk.specs.IndexRanges.{Shape, InRange}
+use Rattle.silk.specs.IndexRanges.{Shape}
 use Rattle.silk.specs.IndexWriting.{sayable, same-sure}
+use Rattle.silk.specs.IndexFields.{WritesIn}
 use Rattle.silk.specs.IndexCalls.{Chosen}
-use Rattle.silk.specs.IndexSays.{writes-gains, writes-spectrum, writes-pitch, kind-same, kind-says, gains-says, spectrum-says, interpolation-says, pitch-says, seed-says}
+use Rattle.silk.specs.IndexSays.{kind-same, kind-says, gains-says, spectrum-says, interpolation-says, pitch-says, seed-says}
 
--- the fields of a record that may be written: those of a reader, and an absolute lag
-pub record Writes (s : Setting) (x : Indices) : Type 0 where
-  pub range : InRange s x
-  pub lag : x .signal ≡ pos 2 → Upto (16 * s .khz - 1) (x .lag)
-
-module _ (s : Setting) (x : Indices) (c : Chosen s) (h : Shape x) (w : Writes s x) where
+module _ (s : Setting) (x : Indices) (c : Chosen s) (h : Shape x) (w : WritesIn s x) where
   signal-is : kindOf x / 2 ≡ natAbs (x .signal)
-  signal-is = omega (arith, w .range .offset .most)
+  signal-is = omega (arith, w .kind .offset .most)
 
   voicing-says : Says x x (voicing (kindOf x / 2) (relativeIn (s .mode) (s .prevtype)) (s .khz) (s .subframes) (s .mode) (s .prevlag) x)
   unfolding voicing
   voicing-says =
       chosen (λ (q : Asks Indices Indices). Says x x q) (eqb (kindOf x / 2) 2)
-      (λ e. let v : x .signal ≡ pos 2 = w .range .signal .least ∙ ap pos (sym signal-is ∙ eqb-true _ _ e) in
-      pitch-says _ _ _ x (c .rate) (c .subframes) h (writes-pitch (w .range .voiced v) (w .lag v)) _ _)
+      (λ e. let v : x .signal ≡ pos 2 = w .kind .signal .least ∙ ap pos (sym signal-is ∙ eqb-true _ _ e) in
+      pitch-says _ _ _ x (c .rate) (c .subframes) h (w .pitch v) _ _)
       (λ e. means)
 
   indices-says : Says x x (indices s x)
   unfolding indices
   indices-says =
-      let p : kindOf x / 2 < 3 = omega (arith, w .range .signal .most, signal-is) in
-      says-then _ (kind-says (s .active) x (c .active) (w .range .kind))
+      let p : kindOf x / 2 < 3 = omega (arith, w .kind .signal .most, signal-is) in
+      says-then _ (kind-says (s .active) x (c .active) (w .kind .kind))
       (says-then _
-      (subst (λ (z : Indices). Says x x (gains (s .mode) (s .subframes) (kindOf x / 2) z)) (sym (kind-same x (w .range .offset) (w .range .signal)))
-      (gains-says (s .mode) (s .subframes) (kindOf x / 2) x (c .subframes) p h (writes-gains (w .range))))
-      (says-then _ (spectrum-says (s .khz) (kindOf x / 2) x (c .rate) p h (writes-spectrum (w .range)))
-      (says-then _ (interpolation-says (s .subframes) x (c .subframes) (w .range .interp) (w .range .fixed))
-      (says-then _ voicing-says (seed-says x (w .range .seed))))))
+      (subst (λ (z : Indices). Says x x (gains (s .mode) (s .subframes) (kindOf x / 2) z)) (sym (kind-same x (w .kind .offset) (w .kind .signal)))
+      (gains-says (s .mode) (s .subframes) (kindOf x / 2) x (c .subframes) p h (w .gains)))
+      (says-then _ (spectrum-says (s .khz) (kindOf x / 2) x (c .rate) p h (w .spectrum))
+      (says-then _ (interpolation-says (s .subframes) x (c .subframes) (w .interp) (w .fixed))
+      (says-then _ voicing-says (seed-says x (w .seed))))))
 
   -- such a record is accepted
   pub fields-sayable : sayable s x ≡ true

@@ -24,7 +24,7 @@ use Rattle.tree.specs.Says.{Says, means, says-then, says-of}
 use Rattle.silk.specs.declared.Indices.{Indices}
 use Rattle.silk.specs.Record.{Setting, withKind, withGain, withGains, withNlsf, withNlsfs, withFilter, withFilters, withInterp, withLag, withContour, withPeriod, withSeed, withScale}
 use Rattle.silk.specs.RowSays.{says-row}
-use Rattle.silk.specs.IndexRows.{Rate, eight, twelve, sixteen, rate-most, Subframes, two, four, subframes-least, subframes-most, contourSize}
+use Rattle.silk.specs.IndexRows.{Rate, eight, twelve, sixteen, rate-most, Subframes, subframes-least, subframes-most, only-two, contourSize}
 use Rattle.silk.specs.IndexSyntax.{kindOf, kind, firstGain, moreGains, gains, bookOf, selectorsOf, residualPick, residual, residuals, spectrum, interpolation, absoluteLag, lag, contour, filters, period, scale, pitch, seed}
 use Rattle.silk.specs.IndexParts.{Upto, Kind, firstMost, order-most, lag-low-size, low-index, contour-size, contour-index}
 use Rattle.silk.specs.IndexRanges.{Shape, PitchRange, InRange}
@@ -170,10 +170,6 @@ interpolation-says n x f u fixed =
     chosen (λ (t : Asks Indices Indices). Says x x t) (eqb n 4)
     (λ e. says-row 29 (omega arith) (omega (arith, u .most, row-size 29)) (same-means (interp-same x _ (u .least))))
     (λ e. same-means (interp-same x 4 (fixed (only-two f (eqb-false _ _ e)))))
-  where
-    only-two : {n : ℕ} → Subframes n → (n ≡ 4 → ⊥) → n ≡ 2
-    only-two two h = refl
-    only-two four h = absurd (h refl)
 
 pub seed-says : (x : Indices) → Upto 3 (x .seed) → Says x x (seed x)
 unfolding seed sizes

@@ -5,5 +5,6 @@ pub mod Outcomes
 pub mod Telling
 pub mod Says
 pub mod Told
+pub mod SoundTelling
 pub mod Ran
 pub mod Through

@@ -51,7 +51,7 @@ said-both (q ∷ k) l a b =
 
 -- ---- a value that may be written is one of its model's
 
-fits-inside : (m : Model) (v : ℕ) → Fitting m v → Inside m v
+pub fits-inside : (m : Model) (v : ℕ) → Fitting m v → Inside m v
 fits-inside (bit lp) v h = h
 fits-inside (raw n) v h = h
 fits-inside (num ft) v h = h

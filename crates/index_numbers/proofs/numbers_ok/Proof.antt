@@ -1,8 +1,8 @@
--- `decode_indices::numbers_ok` meets its contract. Assumes nothing.
+-- `index_numbers::numbers_ok` meets its contract. Assumes nothing.
 use borrow.Author.Needs.{needs}
 use Rattle.silk.specs.FrameCalls.{numbersOk}
-use Rattle.decode_indices.proofs.numbers_ok.Statement.{statement}
-use Rattle.decode_indices.proofs.numbers_ok.Tie as tie
+use Rattle.index_numbers.proofs.numbers_ok.Statement.{statement}
+use Rattle.index_numbers.proofs.numbers_ok.Tie as tie
 
 returns : tie.Need-returns
 unfolding numbersOk

@@ -1,8 +1,8 @@
--- `decode_indices::numbers_rule` meets its contract. Assumes nothing.
+-- `index_numbers::numbers_rule` meets its contract. Assumes nothing.
 use borrow.Author.Needs.{needs}
 use mathlib.Core.Path.{sym, _∙_}
-use Rattle.decode_indices.proofs.numbers_rule.Statement.{statement}
-use Rattle.decode_indices.proofs.numbers_rule.Tie as tie
+use Rattle.index_numbers.proofs.numbers_rule.Statement.{statement}
+use Rattle.index_numbers.proofs.numbers_rule.Tie as tie
 
 numbers-ok-requires : tie.Need-numbers-ok-requires
 numbers-ok-requires c κs = search needs
