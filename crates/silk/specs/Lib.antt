@@ -24,4 +24,5 @@ pub mod PulseWritten
 pub mod PulseSayable
 pub mod PulsePlans
 pub mod PulseTelling
+pub mod PulseSent
 pub mod PulseTold

@@ -5,16 +5,15 @@ use mathlib.Core.Path.{_≡_, refl, sym, ap, ap₂, subst, _∙_}
 use mathlib.Core.List.{List, [], _∷_, _++_, map}
 use native.Mathlib.Nat.{sub-zero}
 use native.Mathlib.Omega.{arith}
-use lib.IntN.{ℤ, pos, natAbs}
+use lib.IntN.{ℤ, natAbs}
 use lib.ListN.{take, drop}
 use lib.Seq.{drop-drop}
-use Rattle.entcode.specs.Models.{Sym}
 use Rattle.entcode.specs.Flat.{Out}
 use Rattle.entcode.specs.WriterFacts.{Core}
 use Rattle.tree.specs.Asks.{Asks, symbols}
 use Rattle.tree.specs.AsksLaws.{symbols-cons}
 use Rattle.tree.specs.Told.{Told, Midway, midway-start, midway-next, midway-end}
-use Rattle.silk.specs.PulseSyntax.{Block, headOf, tailOf, each, shell, lowBits, blockLows, signRowOf, sign, blockSigns, shifted}
+use Rattle.silk.specs.PulseSyntax.{Block, headOf, tailOf, each, blockLows, blockSigns, shifted}
 use Rattle.silk.specs.PulseSteps.{blockAt, blocksFrom, blocks-end, blocks-left}
 use Rattle.silk.specs.PulseBlocks.{rows16}
 use Rattle.silk.specs.PulseRounds.{blockOf, shellOf, lowsOf, signsOf}
