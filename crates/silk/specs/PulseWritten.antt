@@ -86,7 +86,7 @@ sign-meant r (negsuc n) = refl
 -- ---- low bits
 
 -- one more low bit is the next digit of y
-next-bit : (n y : ℕ) → y / 2 ^ n ≡ 2 * (y / 2 ^ suc n) + y / 2 ^ n % 2
+pub next-bit : (n y : ℕ) → y / 2 ^ n ≡ 2 * (y / 2 ^ suc n) + y / 2 ^ n % 2
 next-bit n y =
     let q : y / 2 ^ suc n ≡ y / 2 ^ n / 2 = ap (λ (m : ℕ). y / m) (pow-suc 2 n) ∙ sym (div-div-eq-div-mul y (2 ^ n) 2) in
     omega arith
