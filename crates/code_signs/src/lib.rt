@@ -11,6 +11,8 @@ ghost use Rattle.silk.specs.PulseSyntax.{each, sign};
 ghost use Rattle.silk.specs.PulsePlaces.{mags, Natural};
 use entcode::Dec;
 
+pub mod encode; // encode.rt: the writer
+
 // A pulse with its sign, and the reader behind it.
 pub struct SignRead {
     pub pulse: i16,

@@ -1,27 +1,30 @@
 -- One turn of each loop of the pulse writer: what is said along a tree of `PulseSyntax` before and behind one more symbol, place or block.
 -- Assumes nothing.
-use Prim.Native.Nat.{ℕ, zero, suc, _+_, _-_, _^_, _<_, _≤_}
-use mathlib.Core.Path.{_≡_, refl, sym, _∙_}
-use mathlib.Core.List.{List, [], _∷_, _++_, append-nil}
+use Prim.Native.Nat.{ℕ, zero, suc, _+_, _-_, _*_, _/_, _%_, _^_, _<_, _≤_}
+use mathlib.Core.Path.{_≡_, refl, sym, subst, _∙_}
+use mathlib.Core.Bool.{cond}
+use mathlib.Core.List.{List, [], _∷_, _++_, map, append-nil}
 use native.Mathlib.Numerals.{add-one}
 use native.Mathlib.Omega.{arith}
 use borrow.Author.Tests.{lt-ltb, le-ltb, ne-eqb}
 use lib.Dec.{ltb}
+use lib.IntN.{ℤ, pos, negsuc, natAbs}
 use lib.ListN.{length, getD, take, drop, drop-of-length-le}
 use lib.Seq.{drop-cons}
+use lib.Signed.{ltZ}
 use Rattle.tests.specs.Choice.{chosen}
 use Rattle.icdf.specs.Rule.{Writable}
-use Rattle.sheet.specs.Directory.{countRow, shellRow}
+use Rattle.sheet.specs.Directory.{countRow, shellRow, lowBitRow}
 use Rattle.entcode.specs.Models.{tab}
 use Rattle.entcode.specs.Flat.{Out}
 use Rattle.entcode.specs.WriterFacts.{Core, Wrote}
 use Rattle.tree.specs.Asks.{Asks, done, ask, then, of, symbols, meant}
 use Rattle.tree.specs.AsksLaws.{symbols-then, symbols-of}
-use Rattle.tree.specs.Told.{Told, told-done, told-ask, told-then, told-of, told-within}
-use Rattle.silk.specs.PulseSyntax.{row, Block, headOf, tailOf, each, laterRow, countSaid, lowCounts, count, counts, total, split, shell}
+use Rattle.tree.specs.Told.{Told, told-done, told-ask, told-then, told-of, told-within, Midway, midway-start, midway-next, midway-ask, midway-end}
+use Rattle.silk.specs.PulseSyntax.{row, Block, headOf, tailOf, each, laterRow, countSaid, lowCounts, count, counts, total, split, shell, lowBits, sign}
 use Rattle.silk.specs.PulseSteps.{less-suc, blockAt, blocksFrom}
 use Rattle.silk.specs.PulseRowLaws.{count-writable, later-writable}
-use Rattle.silk.specs.PulseWritten.{split-meant}
+use Rattle.silk.specs.PulseWritten.{split-meant, next-bit}
 
 -- ---- lists of trees
 
@@ -33,10 +36,24 @@ cons-said e y ys t u =
     let others = symbols-then (y ∷ ys) (of tailOf u) (λ l. done (meant (y ∷ ys) (of (headOf e) t) ∷ l)) in
     first ∙ rw (symbols-of (y ∷ ys) (headOf e) t, others, symbols-of (y ∷ ys) tailOf u, append-nil (symbols ys u))
 
-pub each-said : {P Q A : Type 0} (e : Q) (f : P → Asks Q A) (y : Q) (ys : List Q) (p : P) (ps : List P)
+each-said : {P Q A : Type 0} (e : Q) (f : P → Asks Q A) (y : Q) (ys : List Q) (p : P) (ps : List P)
     → symbols (y ∷ ys) (each e f (p ∷ ps)) ≡ symbols y (f p) ++ symbols ys (each e f ps)
 unfolding each
 each-said e f y ys p ps = cons-said e y ys (f p) (each e f ps)
+
+-- a loop over the places ys, which tells a tree of at most m bits for each
+module _ {P Q A : Type 0} (e : Q) (f : P → Asks Q A) (h : Q → P) (m : ℕ) (o : Out) (ys : List Q) where
+  -- k places are told
+  abbrev pub ToldTo : Out → ℕ → Type 0
+  ToldTo p k = Midway o ys (each e f (map h ys)) (m * k) p (drop k ys) (each e f (map h (drop k ys)))
+
+  pub place-told : {p q : Out} {y : Q} (k : ℕ) → ToldTo p k → k < length ys → y ≡ getD ys k e → Told p y (f (h y)) m q → ToldTo q (k + 1)
+  place-told {y = y} k g l i t =
+      midway-next g t (rw (add-one, drop-cons ys k e l, sym i) (each-said e f y (drop (suc k) ys) (h y) (map h (drop (suc k) ys)))) (omega arith)
+
+  pub places-told : {p : Out} (k : ℕ) → ToldTo p k → length ys ≤ k → Told o ys (each e f (map h ys)) (m * k) p
+  unfolding each symbols
+  places-told k g l = midway-end g (rw (drop-of-length-le ys {i = k} l))
 
 -- ---- counts
 
@@ -93,9 +110,9 @@ unfolding split
 split-told k zero l e f h = absurd (omega arith)
 split-told k (suc c) l e f h = told-ask e f h (told-done (h .core))
 
-pub place-told : {o : Out} {y : List ℕ} (c : ℕ) → Core o → Told o y (shell 0 c) 0 o
+pub alone-told : {o : Out} {y : List ℕ} (c : ℕ) → Core o → Told o y (shell 0 c) 0 o
 unfolding shell
-place-told c h = told-done h
+alone-told c h = told-done h
 
 -- a split, then its left half, then its right half
 pub halves-told : {o p r q : Out} {l n : ℕ} (k c : ℕ) (y : List ℕ) → total y ≡ c → l ≡ total (take (2 ^ k) y) → Told o y (split k c) 16 p
@@ -103,3 +120,46 @@ pub halves-told : {o p r q : Out} {l n : ℕ} (k c : ℕ) (y : List ℕ) → tot
 unfolding shell
 halves-told k c y t e a f g =
     told-then _ (split-meant k c y t ∙ sym e) a (told-then _ refl (told-of _ f) (told-then _ refl (told-of _ g) (told-done (g .core))))
+
+-- ---- low bits
+
+-- k low bits are left of y, and the highest of them is written
+pub bit-told : {R A : Type 0} {o p q : Out} {z : R} {whole : Asks R A} {n m : ℕ} {r : List ℕ} (k j y : ℕ) → k ≡ suc j
+    → Midway o z whole n p y (lowBits k (y / 2 ^ k)) → r ≡ lowBitRow → Wrote p (record { model = tab 8 r; value = y / 2 ^ j % 2 }) q → n + 16 ≤ m
+    → Midway o z whole m q y (lowBits j (y / 2 ^ j))
+unfolding lowBits
+bit-told {o = o} {p = p} {q = q} {z = z} {whole = whole} {n = n} {m = m} k j y s h e w l =
+    subst (λ (v : ℕ). Midway o z whole m q y (lowBits j v)) (sym (next-bit j y))
+    (midway-ask (subst (λ (i : ℕ). Midway o z whole n p y (lowBits i (y / 2 ^ i))) s h) e refl w l)
+
+pub bits-silent : (y v : ℕ) → symbols y (lowBits 0 v) ≡ []
+unfolding lowBits symbols
+bits-silent y v = refl
+
+no-lows-said : (ys vs : List ℕ) → symbols ys (each 0 (lowBits 0) vs) ≡ []
+unfolding each lowBits symbols then of
+no-lows-said ys [] = refl
+no-lows-said ys (v ∷ vs) =
+    symbols-then ys (of tailOf (each 0 (lowBits 0) vs)) (λ l. done (v ∷ l))
+    ∙ rw (symbols-of ys tailOf (each 0 (lowBits 0) vs), no-lows-said (tailOf ys) vs)
+
+-- a block with no low bits says none
+pub no-lows-told : {o : Out} {m : ℕ} (n : ℕ) (ys vs : List ℕ) → n ≡ 0 → Core o → Told o ys (each 0 (lowBits n) vs) m o
+no-lows-told n ys vs e h = rw e (midway-end (midway-start h) (no-lows-said ys vs))
+
+-- ---- signs
+
+pub sign-untold : {o : Out} (r : List ℕ) (z : ℤ) → z ≡ pos 0 → Core o → Told o z (sign r (natAbs z)) 16 o
+unfolding sign
+sign-untold r z e h = rw e (told-within (omega arith) (told-done h))
+
+pub sign-told : {o q : Out} {v : ℕ} (r : List ℕ) (z : ℤ) → (z ≡ pos 0 → ⊥) → v ≡ cond (ltZ z (pos 0)) 0 1
+    → Wrote o (record { model = tab 8 r; value = v }) q → Told o z (sign r (natAbs z)) 16 q
+unfolding sign
+sign-told r (pos zero) n e h = absurd (n refl)
+sign-told r (pos (suc m)) n e h = told-ask refl e h (told-done (h .core))
+sign-told r (negsuc m) n e h = told-ask refl e h (told-done (h .core))
+
+-- a sign may be written where both may
+pub sign-writable : {r : List ℕ} {v : ℕ} (z : ℤ) → v ≡ cond (ltZ z (pos 0)) 0 1 → Writable 8 r 0 × Writable 8 r 1 → Writable 8 r v
+sign-writable {r = r} z e h = rw e (chosen (λ (v : ℕ). Writable 8 r v) (ltZ z (pos 0)) (λ t. h .0) (λ t. h .1))

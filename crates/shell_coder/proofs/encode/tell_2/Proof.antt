@@ -1,7 +1,7 @@
 -- `tell_2` meets its contract: a split says both places. Assumes nothing.
 use borrow.Author.Needs.{needs}
 use native.Mathlib.Omega.{arith}
-use Rattle.silk.specs.PulseTold.{place-told, halves-told}
+use Rattle.silk.specs.PulseTold.{alone-told, halves-told}
 use Rattle.shell_coder.proofs.Totals.{first-total, halved}
 use Rattle.shell_coder.proofs.encode.tell_2.Statement.{statement}
 use Rattle.shell_coder.proofs.encode.tell_2.Tie as tie
@@ -28,7 +28,7 @@ returns c =
     let s = b .args .places .now in
     let e = first-total s (b .pre .1 .1 .1 .1) in
     let a = c .before .before .encode-split .ensures s e in
-    halves-told 0 (b .args .p) s (b .pre .1 .1 .1 .2) e a (place-told _ (a .core)) (place-told _ (a .core))
+    halves-told 0 (b .args .p) s (b .pre .1 .1 .1 .2) e a (alone-told _ (a .core)) (alone-told _ (a .core))
 
 pub tell-2-spec : {M : Type 1} → statement M
 tell-2-spec =
