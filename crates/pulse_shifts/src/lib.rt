@@ -1,12 +1,12 @@
 // Which shift each block of a frame's pulses is written with (document 01, "Pulses"): the smallest at which the shifted magnitudes total at most 16.
 ghost use mathlib.Core.Path.{_≡_};
 ghost use Prim.Native.Nat.{_*_, _≤_};
-ghost use lib.IntN.{natAbs};
 ghost use lib.ListN.{length};
 ghost use Rattle.silk.specs.PulseSyntax.{total};
 ghost use Rattle.silk.specs.PulseBlocks.{rows16};
 ghost use Rattle.silk.specs.PulseWriting.{shiftedBy};
 ghost use Rattle.silk.specs.PulsePlans.{Shift, Planned};
+use pulse_lows::encode::magnitude;
 
 // A block's count before low bits and its shift: 0 and 11 for a block that has none.
 pub struct BlockShift {
@@ -19,17 +19,6 @@ pub struct Plan {
     pub counts: [u8; 20],
     pub lows: [u8; 20],
     pub fits: bool,
-}
-
-// That of -32,768 is 32,768.
-fn magnitude(pulse: i16) -> u32
-    ensures { λ m. ⌜ (m ≡ natAbs pulse) × (m ≤ 32768) ⌝ }
-{
-    let wide = pulse as i32;
-    if wide < 0 {
-        return (-wide) as u32;
-    }
-    wide as u32
 }
 
 // The shifted magnitudes of a block, added up.

@@ -1,6 +1,6 @@
 -- Rows of the pulses as parts of the slice that is lent: which part is which row, that it can be read, and how many symbols it has. Assumes
 -- nothing.
-use Prim.Native.Nat.{ℕ, _+_, _-_, _*_, _≤_, _<_}
+use Prim.Native.Nat.{ℕ, _+_, _-_, _*_, _≤_, _<_, min}
 use mathlib.Core.Path.{_≡_, refl, sym, ap, _∙_}
 use mathlib.Core.Bool.{Bool, true, false, cond}
 use mathlib.Core.List.{List, [], _∷_, flatten}
@@ -16,7 +16,7 @@ use Rattle.sheet.specs.Directory.{rowOf, countRow, lastCountRow, lowBitRow, sig
 use Rattle.sheet.specs.Places.{sizes, starts, row-size, stands-in, lent, pulse-stands}
 use Rattle.sheet.specs.Families.{rate-stands, count-stands, sign-stands}
 use Rattle.sheet.specs.SheetRule.{row-good, row-writable, last-count-is}
-use Rattle.silk.specs.PulseSyntax.{laterRow}
+use Rattle.silk.specs.PulseSyntax.{laterRow, signRowOf}
 use Rattle.silk.specs.PulseSteps.{PulseRows}
 
 pub pulse-rows : (l : List ℕ) → l ≡ flatten pulseRows → PulseRows l
@@ -104,3 +104,24 @@ low-bit-size = row-size 123
 
 pub sign-in : (l : List ℕ) (k : ℕ) → PulseRows l → k < 42 → take (825 + k * 2 + 2 - (825 + k * 2)) (drop (825 + k * 2) l) ≡ signRow k
 sign-in l k r h = lent _ (stands-in (r .is) (sign-stands k h)) refl
+
+-- the sign row of a block with c pulses before low bits, which starts at r
+module _ (signal offset c : ℕ) (h : signal ≤ 2) (k : offset ≤ 1) where
+  abbrev signNo : ℕ
+  signNo = 7 * (offset + 2 * signal) + min c 6
+
+  few : signNo < 42
+  few = omega arith
+
+  pub sign-good : Icdf 8 (signRowOf signal offset c)
+  sign-good = row-good (124 + signNo) (omega (arith, few))
+
+  pub sign-writable : (v : ℕ) → v < 2 → Writable 8 (signRowOf signal offset c) v
+  sign-writable v l = row-writable (124 + signNo) v (omega (arith, few)) (omega (arith, sign-stands signNo few .size))
+
+  module _ (r : ℕ) (e : r ≡ 825 + signNo * 2) where
+    pub sign-ends : r + 2 ≤ 909
+    sign-ends = omega (arith, few)
+
+    pub sign-lent : (l : List ℕ) → PulseRows l → take (r + 2 - r) (drop r l) ≡ signRowOf signal offset c
+    sign-lent l p = rw e (sign-in l signNo p few)

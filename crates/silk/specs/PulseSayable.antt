@@ -6,23 +6,26 @@ use mathlib.Core.Bool.{Bool, true, false, cond}
 use mathlib.Core.List.{List, [], _∷_, _++_, map}
 use native.Mathlib.Nat.{pow-suc, div-one}
 use native.Mathlib.Omega.{arith}
-use borrow.Author.Tests.{lt-ltb, le-ltb, eqb-true, eq-eqb, ne-eqb, le-leb, lt-leb}
-use lib.Dec.{eqb, leb, ltb}
+use borrow.Author.Tests.{lt-ltb, le-ltb, eq-eqb, ne-eqb, le-leb, lt-leb}
+use lib.Dec.{leb, ltb}
 use lib.IntN.{ℤ, pos, negsuc, natAbs}
 use lib.ListN.{length, take, drop, length-drop, length-map, take-append-drop}
 use lib.Seq.{length-take-le}
-use Rattle.tests.specs.Choice.{chosen, by-lt}
+use Rattle.tests.specs.Choice.{by-lt}
 use Rattle.lists.specs.Every.{every}
 use Rattle.lists.specs.All.{All}
+use Rattle.icdf.specs.RuleLaws.{symbol-accepts}
 use Rattle.sheet.specs.Directory.{rowOf, rateRow}
 use Rattle.sheet.specs.Places.{sizes, row-size}
 use Rattle.sheet.specs.Families.{rate-stands, count-stands, shell-stands, sign-stands}
 use Rattle.entcode.specs.Rules.{sayRule}
 use Rattle.tree.specs.Asks.{Asks, done, ask, then, of}
-use Rattle.tree.specs.Says.{Says, means, says-then, says-of, says-all}
+use Rattle.tree.specs.Says.{Says, means, says, says-then, says-of, says-all}
 use Rattle.tree.specs.Telling.{allSaid, said-both}
+use Rattle.silk.specs.PulseRowLaws.{later, later-writable}
 use Rattle.silk.specs.RowSays.{row-says, says-row}
 use Rattle.silk.specs.PulseSyntax.{row, Block, headOf, tailOf, each, laterRow, countSaid, lowCounts, count, counts, total, split, shell, lowBits, blockLows, signRowOf, sign, blockSigns, shifted, excitation}
+use Rattle.silk.specs.PulseTold.{said-most}
 use Rattle.silk.specs.PulseBlocks.{Sixteen}
 use Rattle.silk.specs.PulseWriting.{shiftedBy, blockBy, blockSays, shiftOk, firstFrom, smallest, blocksBy, excited, shiftsOf, writeRule}
 use Rattle.silk.specs.PulseWritten.{Suits, AllSuit, whole, total-parts, one-value, next-bit}
@@ -32,14 +35,7 @@ use Rattle.silk.specs.PulseWritten.{Suits, AllSuit, whole, total-parts, 
 -- a symbol after j low bits: after ten, 17 is none
 later-says : {R A : Type 0} {y : R} {r : A} (j : ℕ) {w : R → ℕ} {f : ℕ → Asks R A} → w y ≤ 17 → (j ≡ 10 → w y ≤ 16) → Says y r (f (w y))
     → Says y r (ask (row (laterRow j)) w f)
-unfolding sizes
-later-says {y = y} {r = r} j {w = w} {f = f} h k p =
-    chosen (λ (l : List ℕ). Says y r (ask (row l) w f)) (eqb j 10)
-    (λ e. says-row 58 (omega arith) (omega (arith, k (eqb-true j 10 e), row-size 58)) p)
-    (λ e. says-row 57 (omega arith) (omega (arith, row-size 57)) p)
-
-said-most : (j : ℕ) (b : Block) → b .count ≤ 16 → countSaid j b ≤ 17
-said-most j b h = chosen (λ (v : ℕ). v ≤ 17) (ltb j (b .lows)) (λ e. omega arith) (λ e. omega arith)
+later-says {y = y} j {w = w} h k p = says (symbol-accepts 8 (laterRow j) (w y) (later j .good) (later-writable j (w y) h k)) p
 
 said-last : (j : ℕ) (b : Block) → b .lows ≤ j → b .count ≤ 16 → countSaid j b ≤ 16
 said-last j b l h = rw (le-ltb j (b .lows) l) h
@@ -54,13 +50,13 @@ low-counts-says (suc n) j b e l m h =
     by-lt j (b .lows)
     (λ p.
     rw (lt-ltb j (b .lows) p)
-    (later-says (suc j) (said-most (suc j) b h) (λ t. said-last (suc j) b (omega arith) h) (low-counts-says n (suc j) b (omega arith) p m h)))
+    (later-says (suc j) (said-most b (suc j) h) (λ t. said-last (suc j) b (omega arith) h) (low-counts-says n (suc j) b (omega arith) p m h)))
     (λ p. rw (le-ltb j (b .lows) p, ne-eqb (b .count) 17 (λ r. omega arith)) (block-means j (b .count) b refl (omega arith)))
 
 count-says : (level : ℕ) (b : Block) → level ≤ 8 → b .lows ≤ 10 → b .count ≤ 16 → Says b b (count level)
 unfolding count
 count-says level b g m h =
-    says-row (48 + level) (omega arith) (omega (arith, said-most 0 b h, count-stands level (omega arith) .size)) (low-counts-says 10 0 b refl (omega arith) m h)
+    says-row (48 + level) (omega arith) (omega (arith, said-most b 0 h, count-stands level (omega arith) .size)) (low-counts-says 10 0 b refl (omega arith) m h)
 
 -- ---- splits
 

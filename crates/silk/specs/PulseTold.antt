@@ -3,7 +3,7 @@
 use Prim.Native.Nat.{ℕ, zero, suc, _+_, _-_, _*_, _/_, _%_, _^_, _<_, _≤_}
 use mathlib.Core.Path.{_≡_, refl, sym, subst, _∙_}
 use mathlib.Core.Bool.{cond}
-use mathlib.Core.List.{List, [], _∷_, _++_, map, append-nil}
+use mathlib.Core.List.{List, [], _∷_, _++_, map}
 use native.Mathlib.Numerals.{add-one}
 use native.Mathlib.Omega.{arith}
 use borrow.Author.Tests.{lt-ltb, le-ltb, ne-eqb}
@@ -18,8 +18,8 @@ use Rattle.sheet.specs.Directory.{countRow, shellRow, lowBitRow}
 use Rattle.entcode.specs.Models.{tab}
 use Rattle.entcode.specs.Flat.{Out}
 use Rattle.entcode.specs.WriterFacts.{Core, Wrote}
-use Rattle.tree.specs.Asks.{Asks, done, ask, then, of, symbols, meant}
-use Rattle.tree.specs.AsksLaws.{symbols-then, symbols-of}
+use Rattle.tree.specs.Asks.{Asks, ask, symbols}
+use Rattle.tree.specs.AsksLaws.{symbols-cons}
 use Rattle.tree.specs.Told.{Told, told-done, told-ask, told-then, told-of, told-within, Midway, midway-start, midway-next, midway-ask, midway-end}
 use Rattle.silk.specs.PulseSyntax.{row, Block, headOf, tailOf, each, laterRow, countSaid, lowCounts, count, counts, total, split, shell, lowBits, sign}
 use Rattle.silk.specs.PulseSteps.{less-suc, blockAt, blocksFrom}
@@ -28,18 +28,10 @@ use Rattle.silk.specs.PulseWritten.{split-meant, next-bit}
 
 -- ---- lists of trees
 
-cons-said : {A B : Type 0} (e y : A) (ys : List A) (t : Asks A B) (u : Asks (List A) (List B))
-    → symbols (y ∷ ys) (then (of (headOf e) t) (λ a. then (of tailOf u) (λ l. done (a ∷ l)))) ≡ symbols y t ++ symbols ys u
-unfolding symbols
-cons-said e y ys t u =
-    let first = symbols-then (y ∷ ys) (of (headOf e) t) (λ a. then (of tailOf u) (λ l. done (a ∷ l))) in
-    let others = symbols-then (y ∷ ys) (of tailOf u) (λ l. done (meant (y ∷ ys) (of (headOf e) t) ∷ l)) in
-    first ∙ rw (symbols-of (y ∷ ys) (headOf e) t, others, symbols-of (y ∷ ys) tailOf u, append-nil (symbols ys u))
-
 each-said : {P Q A : Type 0} (e : Q) (f : P → Asks Q A) (y : Q) (ys : List Q) (p : P) (ps : List P)
     → symbols (y ∷ ys) (each e f (p ∷ ps)) ≡ symbols y (f p) ++ symbols ys (each e f ps)
 unfolding each
-each-said e f y ys p ps = cons-said e y ys (f p) (each e f ps)
+each-said e f y ys p ps = symbols-cons (y ∷ ys) (headOf e) (f p) tailOf (each e f ps)
 
 -- a loop over the places ys, which tells a tree of at most m bits for each
 module _ {P Q A : Type 0} (e : Q) (f : P → Asks Q A) (h : Q → P) (m : ℕ) (o : Out) (ys : List Q) where
@@ -57,7 +49,7 @@ module _ {P Q A : Type 0} (e : Q) (f : P → Asks Q A) (h : Q → P) (m : ℕ) (
 
 -- ---- counts
 
-said-most : (b : Block) (j : ℕ) → b .count ≤ 16 → countSaid j b ≤ 17
+pub said-most : (b : Block) (j : ℕ) → b .count ≤ 16 → countSaid j b ≤ 17
 said-most b j h = chosen (λ (v : ℕ). v ≤ 17) (ltb j (b .lows)) (λ t. omega arith) (λ t. omega arith)
 
 pub first-writable : (b : Block) (level : ℕ) → b .count ≤ 16 → level < 10 → Writable 8 (countRow level) (countSaid 0 b)
@@ -83,7 +75,7 @@ pub counts-said : (c l : List ℕ) (level n i : ℕ) → i < n
 unfolding counts blocksFrom
 counts-said c l level n i h =
     rw (add-one, less-suc n i h)
-    (cons-said (record { count = 0; lows = 0 }) (blockAt c l i) (blocksFrom c l (suc i) (n - suc i)) (count level) (counts level (n - suc i)))
+    (symbols-cons (blockAt c l i ∷ blocksFrom c l (suc i) (n - suc i)) (headOf (record { count = 0; lows = 0 })) (count level) tailOf (counts level (n - suc i)))
 
 pub counts-silent : (c l : List ℕ) (level n i : ℕ) → n ≤ i → symbols (blocksFrom c l i (n - i)) (counts level (n - i)) ≡ []
 unfolding counts symbols
@@ -137,11 +129,9 @@ unfolding lowBits symbols
 bits-silent y v = refl
 
 no-lows-said : (ys vs : List ℕ) → symbols ys (each 0 (lowBits 0) vs) ≡ []
-unfolding each lowBits symbols then of
+unfolding each lowBits symbols
 no-lows-said ys [] = refl
-no-lows-said ys (v ∷ vs) =
-    symbols-then ys (of tailOf (each 0 (lowBits 0) vs)) (λ l. done (v ∷ l))
-    ∙ rw (symbols-of ys tailOf (each 0 (lowBits 0) vs), no-lows-said (tailOf ys) vs)
+no-lows-said ys (v ∷ vs) = symbols-cons ys (headOf 0) (lowBits 0 v) tailOf (each 0 (lowBits 0) vs) ∙ no-lows-said (tailOf ys) vs
 
 -- a block with no low bits says none
 pub no-lows-told : {o : Out} {m : ℕ} (n : ℕ) (ys vs : List ℕ) → n ≡ 0 → Core o → Told o ys (each 0 (lowBits n) vs) m o

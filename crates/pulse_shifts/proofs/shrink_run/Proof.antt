@@ -31,7 +31,7 @@ value c =
     let b = c .before .before .before .before .before in
     let k = c .before .before .before .loop .k in
     let f : SFits w16 (getD (b .args .part .now) k (pos 0)) = sfits-of (c .before .magnitude-arg .given) in
-    ap (λ (m : ℕ). m / 2 ^ b .args .j) (c .magnitude .ensures .0 ∙ ap natAbs (toZ-ofZ f)) ∙ sym (shifted-at (b .args .j) (b .args .part .now) k)
+    ap (λ (m : ℕ). m / 2 ^ b .args .j) (c .magnitude .ensures ∙ ap natAbs (toZ-ofZ f)) ∙ sym (shifted-at (b .args .j) (b .args .part .now) k)
 
 loop-holds : tie.Need-loop-holds Inv-loop μ-loop
 loop-holds c = (omega arith, c .before .pre .0, refl)

@@ -7,6 +7,7 @@ use native.Mathlib.Omega.{arith}
 use lib.IntN.{pos, natAbs}
 use lib.ListN.{getD, take}
 use lib.Seq.{take-all}
+use lib.Signed.{natAbs-le}
 use mir.Syntax.{w16}
 use mir.Val.{SFits}
 use mir.Facts.{toZ-ofZ}
@@ -21,6 +22,16 @@ Inv-loop part j sum₀ k₀ sum k = (k ≤ 16) × (sum ≡ total (take k (shifte
 
 abbrev μ-loop : tie.MeasureT-loop
 μ-loop part j sum₀ k₀ sum k = 16 - k
+
+-- the magnitude of this turn
+read : (c : tie.After-magnitude Inv-loop μ-loop)
+    → let z = getD (c .before .before .before .before .args .part .now) (c .before .before .before .loop .k) (pos 0) in
+    (c .magnitude .result ≡ natAbs z) × (c .magnitude .result ≤ 32768)
+read c =
+    let z = getD (c .before .before .before .before .args .part .now) (c .before .before .before .loop .k) (pos 0) in
+    let f : SFits w16 z = sfits-of (c .before .magnitude-arg .given) in
+    let e : c .magnitude .result ≡ natAbs z = c .magnitude .ensures ∙ ap natAbs (toZ-ofZ f) in
+    (e, omega (arith, natAbs-le z (f .sfits)))
 
 loop-holds : tie.Need-loop-holds Inv-loop μ-loop
 unfolding total
@@ -41,7 +52,7 @@ shr-sum c = search needs
 add-sum : tie.Need-add-sum Inv-loop μ-loop
 add-sum c =
     let b = c .before .before .before .before in
-    omega (arith, c .magnitude .ensures .1, div-le-self (c .magnitude .result) (2 ^ b .args .j), c .before .before .before .loop .inv .2)
+    omega (arith, read c .1, div-le-self (c .magnitude .result) (2 ^ b .args .j), c .before .before .before .loop .inv .2)
 
 add-k : tie.Need-add-k Inv-loop μ-loop
 add-k c = search needs
@@ -53,14 +64,11 @@ loop-again : tie.Need-loop-again Inv-loop μ-loop
 loop-again c =
     let b = c .before .before .before .before in
     let l = c .before .before .before .loop in
-    let z = getD (b .args .part .now) (l .k) (pos 0) in
-    let f : SFits w16 z = sfits-of (c .before .magnitude-arg .given) in
-    let m = c .magnitude .result in
-    let e : m ≡ natAbs z = c .magnitude .ensures .0 ∙ ap natAbs (toZ-ofZ f) in (
+    let m = c .magnitude .result in (
       omega arith,
-      ap (λ (t : ℕ). t + m / 2 ^ b .args .j) (l .inv .1) ∙ ap (λ (t : ℕ). total (take (l .k) (shiftedBy (b .args .j) (b .args .part .now))) + t / 2 ^ b .args .j) e
+      ap (λ (t : ℕ). t + m / 2 ^ b .args .j) (l .inv .1) ∙ ap (λ (t : ℕ). total (take (l .k) (shiftedBy (b .args .j) (b .args .part .now))) + t / 2 ^ b .args .j) (read c .0)
           ∙ sym (total-more (b .args .j) (b .args .part .now) (l .k) (omega arith)),
-      omega (arith, c .magnitude .ensures .1, div-le-self m (2 ^ b .args .j), l .inv .2),
+      omega (arith, read c .1, div-le-self m (2 ^ b .args .j), l .inv .2),
     )
 
 returns : tie.Need-returns Inv-loop μ-loop
