@@ -96,7 +96,7 @@ fn contour_start(khz: u32, subframes: u32) -> usize
     }
 }
 
-fn contour_size(khz: u32, subframes: u32) -> usize
+pub fn contour_size(khz: u32, subframes: u32) -> usize
     ensures { λ n. ⌜ n ≡ contourSize khz subframes ⌝ }
 {
     if khz == 8 {

@@ -37,6 +37,10 @@ pub subframes-least : {n : ℕ} → Subframes n → 2 ≤ n
 subframes-least two = omega arith
 subframes-least four = omega arith
 
+pub only-two : {n : ℕ} → Subframes n → (n ≡ 4 → ⊥) → n ≡ 2
+only-two two h = refl
+only-two four h = absurd (h refl)
+
 pub rate-most : {khz : ℕ} → Rate khz → khz / 16 ≤ 1
 rate-most eight = omega arith
 rate-most twelve = omega arith

@@ -69,6 +69,19 @@ midway-next {p = p} {u = u} {t = t} {v = v} {next = next} h f e l =
       most = omega (arith, h .most, f .most);
     }
 
+-- a turn writes one symbol
+pub midway-ask : {R A Q B : Type 0} {o p q : Out} {y : R} {whole : Asks R A} {n k : ℕ} {z : Q} {r u : List ℕ} {w : Q → ℕ} {g : ℕ → Asks Q B} {v : ℕ}
+    → Midway o y whole n p z (ask (tab 8 u) w g) → r ≡ u → v ≡ w z → Wrote p (record { model = tab 8 r; value = v }) q → n + 16 ≤ k
+    → Midway o y whole k q z (g (w z))
+unfolding symbols writtenAll
+midway-ask h e f t l =
+    record {
+      is = h .is ∙ rw (t .is, e, f);
+      core = t .core;
+      least = omega (arith, h .least, t .least);
+      most = omega (arith, h .most, t .most);
+    }
+
 pub midway-end : {R A Q B : Type 0} {o p : Out} {y : R} {whole : Asks R A} {n : ℕ} {z : Q} {left : Asks Q B}
     → Midway o y whole n p z left → symbols z left ≡ [] → Told o y whole n p
 unfolding writtenAll
