@@ -1,5 +1,5 @@
-// The splits of a block's pulses, written as the reader reads them. Each half is added up where it is split, so the crate's combine_pulses has no
-// arrays here.
+// The splits of a block's pulses, written as the reader reads them. Each half is added up where it is split: the crate's combine_pulses without its
+// arrays.
 ghost use mathlib.Core.Path.{_≡_};
 ghost use mathlib.Core.List.{List};
 ghost use Prim.Native.Nat.{ℕ, _^_, _<_, _≤_};

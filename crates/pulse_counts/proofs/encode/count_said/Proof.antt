@@ -1,6 +1,5 @@
 -- `count_said` meets its contract. Assumes nothing.
 use borrow.Author.Tests.{lt-ltb, le-ltb}
-use native.Mathlib.Omega.{arith}
 use Rattle.pulse_counts.proofs.encode.count_said.Statement.{statement}
 use Rattle.pulse_counts.proofs.encode.count_said.Tie as tie
 

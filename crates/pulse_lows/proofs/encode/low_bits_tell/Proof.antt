@@ -1,8 +1,8 @@
 -- `low_bits_tell` meets its contract. The invariant: all but k low bits are told. Assumes nothing.
 use borrow.Author.Needs.{needs}
-use Prim.Native.Nat.{ℕ, suc, _-_, _*_, _/_, _%_, _^_, _≤_}
+use Prim.Native.Nat.{ℕ, _-_, _*_, _/_, _%_, _^_, _≤_}
 use native.Mathlib.Omega.{arith}
-use mathlib.Core.Path.{_≡_, refl, ap, _∙_}
+use mathlib.Core.Path.{_≡_, refl, _∙_}
 use lib.ListN.{length}
 use Rattle.sheet.specs.SheetRule.{row-good, row-writable}
 use Rattle.entcode.specs.Flat.{Out, out}

@@ -9,7 +9,7 @@ use lib.IntN.{ℤ, pos, negsuc, natAbs, _-ℤ_, +ℤ-idl}
 use lib.Signed.{ltZ, nonNeg, natAbs-le}
 use mir.Facts.{toZ-ofZ, sfits-widen}
 use mir.Syntax.{w16, w32}
-use mir.Val.{Fits, SFits}
+use mir.Val.{SFits}
 use Rattle.pulse_lows.proofs.encode.magnitude.Statement.{statement}
 use Rattle.pulse_lows.proofs.encode.magnitude.Tie as tie
 
