@@ -16,6 +16,7 @@ pub mod IndexCalls
 pub mod IndexCases
 pub mod IndexWriting
 pub mod IndexSays
+pub mod IndexTold
 pub mod PulseCallLaws
 pub mod PulseWriting
 pub mod PulseWritten
