@@ -20,7 +20,7 @@ use Rattle.entcode.specs.Flat.{Out}
 use Rattle.entcode.specs.WriterFacts.{Core, Wrote}
 use Rattle.tree.specs.Asks.{Asks, ask, symbols}
 use Rattle.tree.specs.AsksLaws.{symbols-cons}
-use Rattle.tree.specs.Told.{Told, told-done, told-ask, told-then, told-of, told-within, Midway, midway-start, midway-next, midway-ask, midway-end}
+use Rattle.tree.specs.Told.{Told, told-done, told-ask, told-then, told-of, told-within, Midway, midway-start, midway-next, midway-asked, midway-end}
 use Rattle.silk.specs.PulseSyntax.{row, Block, headOf, tailOf, each, laterRow, countSaid, lowCounts, count, counts, total, split, shell, lowBits, sign}
 use Rattle.silk.specs.PulseSteps.{less-suc, blockAt, blocksFrom}
 use Rattle.silk.specs.PulseRowLaws.{count-writable, later-writable}
@@ -122,7 +122,7 @@ pub bit-told : {R A : Type 0} {o p q : Out} {z : R} {whole : Asks R A} {n m : �
 unfolding lowBits
 bit-told {o = o} {p = p} {q = q} {z = z} {whole = whole} {n = n} {m = m} k j y s h e w l =
     subst (λ (v : ℕ). Midway o z whole m q y (lowBits j v)) (sym (next-bit j y))
-    (midway-ask (subst (λ (i : ℕ). Midway o z whole n p y (lowBits i (y / 2 ^ i))) s h) e refl w l)
+    (midway-asked (subst (λ (i : ℕ). Midway o z whole n p y (lowBits i (y / 2 ^ i))) s h) e refl w l)
 
 pub bits-silent : (y v : ℕ) → symbols y (lowBits 0 v) ≡ []
 unfolding lowBits symbols

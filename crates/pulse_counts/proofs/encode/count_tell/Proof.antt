@@ -6,7 +6,7 @@ use native.Mathlib.Omega.{arith}
 use lib.ListN.{length}
 use Rattle.sheet.specs.SheetRule.{row-good}
 use Rattle.entcode.specs.Flat.{Out, out}
-use Rattle.tree.specs.Told.{Midway, midway-start, midway-ask, midway-end, told-ask, told-within}
+use Rattle.tree.specs.Told.{Midway, midway-start, midway-asked, midway-end, told-ask, told-within}
 use Rattle.silk.specs.PulseSyntax.{Block, countSaid, lowCounts, count}
 use Rattle.silk.specs.PulseRowLaws.{count-in, later-in, later-within, later}
 use Rattle.silk.specs.PulseTold.{first-writable, said-writable, lows-left, lows-said}
@@ -111,7 +111,7 @@ loop-again c =
     let e = later-in (z .args .rows .now) (l .j + 1) (at .result) (z .pre .1 .1 .0) (at .ensures) in
     let v = c .before .before .before .before .before .count-said2 .ensures in
     record {
-      midway = midway-ask (rw (lows-left (said z) 10 (l .j) (omega arith) t) at (l .inv .midway)) e v (a .ensures) (omega arith);
+      midway = midway-asked (rw (lows-left (said z) 10 (l .j) (omega arith) t) at (l .inv .midway)) e v (a .ensures) (omega arith);
       to = omega arith;
       kept = a .kept .0 ∙ l .inv .kept;
     }
