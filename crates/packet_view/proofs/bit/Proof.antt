@@ -3,7 +3,6 @@ use contract.Running.{givenOf, tables, tablesOf}
 use denote.Triple.Spec.{tripleOf}
 use denote.Triple.Table.{entered, cited}
 use Rattle.entcode.specs.Models.{bit as a-bit}
-use Rattle.entcode.specs.Reading.{decSym}
 use Rattle.entdec.proofs.ec_dec_bit_logp.Symbol as called
 use Rattle.entdec.proofs.ec_dec_bit_logp.Symbol.{name as #called}
 use Rattle.entdec.proofs.ec_dec_bit_logp.Met as called-thm
@@ -18,5 +17,5 @@ unfolding code.routine tablesOf
 bit-spec 𝓤 H 𝓜 𝓖 𝓡 =
     entered 𝓤 H (tripleOf 𝓤 H (𝓖 .A) bit.signature (bit.spec 𝓤 H (𝓖 .A) (𝓜 .mem) (𝓡 .run)))
     (tables 𝓤 H 𝓜 𝓡 code.env .C) (tables 𝓤 H 𝓜 𝓡 code.env .Λ) #bit code.function (code.unfolded 𝓤 H 𝓜 𝓡)
-    (meets 𝓤 H (𝓖 .A) (givenOf 𝓤 H 𝓜 𝓖) (λ b d n. decSym b d (a-bit n)) #called (tablesOf 𝓤 H 𝓜 (tables 𝓤 H 𝓜 𝓡 code.env))
-    (cited 𝓤 H (Called 𝓤 H (𝓖 .A) (λ b d n. decSym b d (a-bit n))) 𝓜 𝓡 code.env #called called.routine code.calls-entdec·ec-dec-bit-logp (called-thm.met 𝓤 H 𝓜 𝓖 𝓡)))
+    (meets 𝓤 H (𝓖 .A) (givenOf 𝓤 H 𝓜 𝓖) a-bit #called (tablesOf 𝓤 H 𝓜 (tables 𝓤 H 𝓜 𝓡 code.env))
+    (cited 𝓤 H (Called 𝓤 H (𝓖 .A) a-bit) 𝓜 𝓡 code.env #called called.routine code.calls-entdec·ec-dec-bit-logp (called-thm.met 𝓤 H 𝓜 𝓖 𝓡)))

@@ -3,7 +3,6 @@ use contract.Running.{givenOf, tables, tablesOf}
 use denote.Triple.Spec.{tripleOf}
 use denote.Triple.Table.{entered, cited}
 use Rattle.entcode.specs.Models.{raw}
-use Rattle.entcode.specs.Reading.{decSym}
 use Rattle.entdec.proofs.ec_dec_bits.Symbol as called
 use Rattle.entdec.proofs.ec_dec_bits.Symbol.{name as #called}
 use Rattle.entdec.proofs.ec_dec_bits.Met as called-thm
@@ -18,5 +17,5 @@ unfolding code.routine tablesOf
 raw-bits-spec 𝓤 H 𝓜 𝓖 𝓡 =
     entered 𝓤 H (tripleOf 𝓤 H (𝓖 .A) raw-bits.signature (raw-bits.spec 𝓤 H (𝓖 .A) (𝓜 .mem) (𝓡 .run)))
     (tables 𝓤 H 𝓜 𝓡 code.env .C) (tables 𝓤 H 𝓜 𝓡 code.env .Λ) #raw-bits code.function (code.unfolded 𝓤 H 𝓜 𝓡)
-    (meets 𝓤 H (𝓖 .A) (givenOf 𝓤 H 𝓜 𝓖) (λ b d n. decSym b d (raw n)) #called (tablesOf 𝓤 H 𝓜 (tables 𝓤 H 𝓜 𝓡 code.env))
-    (cited 𝓤 H (Called 𝓤 H (𝓖 .A) (λ b d n. decSym b d (raw n))) 𝓜 𝓡 code.env #called called.routine code.calls-entdec·ec-dec-bits (called-thm.met 𝓤 H 𝓜 𝓖 𝓡)))
+    (meets 𝓤 H (𝓖 .A) (givenOf 𝓤 H 𝓜 𝓖) raw #called (tablesOf 𝓤 H 𝓜 (tables 𝓤 H 𝓜 𝓡 code.env))
+    (cited 𝓤 H (Called 𝓤 H (𝓖 .A) raw) 𝓜 𝓡 code.env #called called.routine code.calls-entdec·ec-dec-bits (called-thm.met 𝓤 H 𝓜 𝓖 𝓡)))
