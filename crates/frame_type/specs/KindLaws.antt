@@ -1,6 +1,6 @@
 -- Laws of a frame's types: what an accepted call was given, and that its answer is the first symbol of the type row. Assumes nothing.
 use Prim.Native.Nat.{ℕ, _+_, _*_, _≤_, _<_}
-use mathlib.Core.Path.{_≡_, sym, ap, subst⁻¹, _∙_}
+use mathlib.Core.Path.{_≡_, ap, subst⁻¹, _∙_}
 use mathlib.Core.List.{List}
 use native.Mathlib.Omega.{arith}
 use borrow.Author.Tests.{eq-eqb, ne-eqb}
@@ -19,7 +19,6 @@ use Rattle.entcode.specs.Reading.{decOpen, decSym}
 use Rattle.tree.specs.Asks.{run}
 use Rattle.silk.specs.IndexSyntax.{kind}
 use Rattle.packet_view.specs.Opening.{opens, first-runs}
-use Rattle.frame_type.specs.declared.FrameType.{FrameType}
 use Rattle.frame_type.specs.Kind.{typeRule, typesOf, refusedType, frameType}
 
 pub type-accepts : (b : List ℕ) (active : ℕ) → typeRule b active ≡ 0 → (length b ≤ 1275) × (active < 2)
