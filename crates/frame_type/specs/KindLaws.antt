@@ -3,12 +3,12 @@ use Prim.Native.Nat.{ℕ, _+_, _*_, _≤_, _<_}
 use mathlib.Core.Path.{_≡_, ap, subst⁻¹, _∙_}
 use mathlib.Core.List.{List}
 use native.Mathlib.Omega.{arith}
-use borrow.Author.Tests.{eq-eqb, ne-eqb}
+use borrow.Author.Tests.{eq-eqb, ne-eqb, le-leb}
 use lib.ListN.{length}
 use Rattle.tests.specs.Choice.{chosen-le}
 use Rattle.icdf.specs.Rule.{Icdf}
 use Rattle.icdf.specs.RuleLaws.{icdf-accepts}
-use Rattle.refusals.specs.First.{first-none}
+use Rattle.refusals.specs.First.{first-none, none-first}
 use Rattle.sheet.specs.Directory.{typeRow}
 use Rattle.entcode.specs.declared.Decoded.{Decoded}
 use Rattle.entcode.specs.Models.{tab}
@@ -28,6 +28,10 @@ type-accepts b active e =
       chosen-le (λ (a : Decoded). a .refusal ≡ 0 → length b ≤ 1275) (length b) 1275 (λ h z. h) (λ h z. absurd (omega arith)) (f .0),
       chosen-le (λ (n : ℕ). n ≡ 0 → active < 2) active 1 (λ h z. omega arith) (λ h z. absurd (omega arith)) (f .1),
     )
+
+pub type-passes : (b : List ℕ) (active : ℕ) → length b ≤ 1275 → active < 2 → typeRule b active ≡ 0
+unfolding typeRule
+type-passes b active short flag = none-first _ _ (ap (λ (a : Decoded). a .refusal) (opens b short)) (let l : active ≤ 1 = omega arith in rw (le-leb _ _ l))
 
 -- the first symbol of the type row t gives the types
 pub record Types (b : List ℕ) (active : ℕ) (t : List ℕ) : Type 0 where
