@@ -42,7 +42,8 @@ module _ (s : Setting) (x : Indices) (r : Rate (s .khz)) (f : Subframes (s .subf
     abbrev so-far : ℕ → Indices
     so-far i = withInterp (withNlsfs (withGains (withKind x k) l) m) i
 
-    typed : (i : ℕ) (y : Indices) → Voiced (k / 2) (relativeIn (s .mode) (s .prevtype)) (s .khz) (s .subframes) (s .mode) (so-far i) y → (w : ℕ) → Typed k (withSeed y w)
+    typed : (i : ℕ) (y : Indices)
+        → Voiced (k / 2) (relativeIn (s .mode) (s .prevtype)) (s .khz) (s .subframes) (s .mode) (so-far i) y → (w : ℕ) → Typed k (withSeed y w)
     typed i y (voiced e z c q v o t) w = record { signal = refl; offset = refl }
     typed i y (unvoiced e) w = record { signal = refl; offset = refl }
 
@@ -80,7 +81,8 @@ types-agree b x s y h z =
     let c = a .numbers in
     let p = ends-run (kind-ends (s .active) (c .active)) b d y (a .passed .sound .core) in
     let k = run b d (kind (s .active)) .value in
-    let e = ends-run (types-stay s x (c .rate) (c .subframes) h k (omega (arith, p .holds .most, c .active))) b (run b d (kind (s .active)) .state) y (p .core) in
+    let e = ends-run (types-stay s x (c .rate) (c .subframes) h k (omega (arith, p .holds .most, c .active))) b
+    (run b d (kind (s .active)) .state) y (p .core) in
     let t : Typed k (run b d (indices s x) .value) = subst⁻¹ (λ (g : Got Indices). Typed k (g .value)) (run-then b d (kind (s .active)) _) (e .holds) in
     let u : Typed k (decodeIndices b d x s .indices) = subst (λ (g : IndicesRead). Typed k (g .indices)) (indices-runs b d x s z) t in
     let o = eq-eqb _ _ (type-passes b (s .active) (a .passed .sound .core .short) (c .active)) in

@@ -123,7 +123,8 @@ module _ {M : Type 1} (𝓤 : URA M) (H : Heap 𝓤) (A : Atoms 𝓤) (W : Given
   to = (((κ, tt), (q, tt), tt, (d .packet, (d .reader, (n, tt))), passed), tt)
 
   asked : ent 𝓤 (onEntry 𝓤 H A by-value.signature (κ, tt) (q, tt) (d .packet, (d .reader, (n, tt))) passed) (Called 𝓤 H A m .pre to)
-  asked = qed W ((‵ (flft κ q) ⊛ ‵ ftrue) ∷ ‵ (owns (ShrSlice (named 0) κ u8 ∷ N.the-row ∷ u32 ∷ []) (d .packet, (d .reader, (n, tt))) passed) ∷ []) ∵ join ! $ frame ! $ done !
+  asked =
+      qed W ((‵ (flft κ q) ⊛ ‵ ftrue) ∷ ‵ (owns (ShrSlice (named 0) κ u8 ∷ N.the-row ∷ u32 ∷ []) (d .packet, (d .reader, (n, tt))) passed) ∷ []) ∵ join ! $ frame ! $ done !
 
   -- what the view owns gives what the reader by value asks, and is kept
   apart : ent 𝓤 (onEntry 𝓤 H A (ended .signature) (κ, tt) (q, tt) (d, (n, tt)) at) (sep 𝓤 (Called 𝓤 H A m .pre to) (sem 𝓤 H A (OwnView α d)))
@@ -143,7 +144,8 @@ module _ {M : Type 1} (𝓤 : URA M) (H : Heap 𝓤) (A : Atoms 𝓤) (W : Given
       → ent 𝓤 (⋆ 𝓤 H A (‵ (OwnAnswer r) ∷ (‵ (flft κ q) ⊛ ‵ ftrue) ∷ ‵ (OwnView α d) ∷ [])) (Post (Read′.lowered (handed (d .packet) r)))
   exits-lowered r e =
       qed W (‵ (OwnAnswer r) ∷ (‵ (flft κ q) ⊛ ‵ ftrue) ∷ ‵ (OwnView α d) ∷ []) ∵
-      suffices ! _ (ends-at 𝓤 H A ended stayed (clauses 𝓤 H A m) W (((κ, tt), (q, tt), tt, (d, (n, tt)), at), tt) (Read′.lowered (handed (d .packet) r)) (handed (d .packet) r) (tt, (tt, tt)) (tt, (tt, tt))) $
+      suffices ! _ (ends-at 𝓤 H A ended stayed (clauses 𝓤 H A m) W (((κ, tt), (q, tt), tt, (d, (n, tt)), at), tt)
+      (Read′.lowered (handed (d .packet) r)) (handed (d .packet) r) (tt, (tt, tt)) (tt, (tt, tt))) $
       says ! (ap (handed (d .packet)) e) $ move ! (1 ∷ []) $ frame ! $ move ! (1 ∷ 0 ∷ []) $
       use2 W (‵ (OwnView α d) ⊛ ‵ (OwnRead α (handed (d .packet) r))) (put-behind 𝓤 H A W α d r) $ split ! $
       nothing ! $ owned ! u32 (Is u32) (uint-makes 𝓤 H A W w32) n _ (refl, ok) $ fjoin ! $ move ! (1 ∷ 0 ∷ []) $ fjoin ! $ frame ! $ done !
@@ -165,9 +167,11 @@ module _ {M : Type 1} (𝓤 : URA M) (H : Heap 𝓤) (A : Atoms 𝓤) (W : Given
         assigns ! (of-opd ! (load ! (from ! (fld ! refl (stop !))) (look-in ! 8 (sub ! 1 refl (whole !))))) (from ! (stop !)) (init ! 0 refl (tt, wt .1 .1 .0)) $
         move ! (12 ∷ []) $ use1 W (raw (Called 𝓤 H A m .pre to) ⊛ ‵ (OwnView α d)) apart $ split ! $
         calls-at ! fm (Called 𝓤 H A m) known to
-        (and-then ! (load ! (from ! (stop !)) (look ! 6 refl)) (and-then ! (load ! (from ! (stop !)) (look ! 2 refl)) (and-then ! (load ! (from ! (stop !)) (look ! 8 refl)) (no-more !)))) (λ u.
+        (and-then ! (load ! (from ! (stop !)) (look ! 6 refl)) (and-then ! (load ! (from ! (stop !)) (look ! 2 refl))
+        (and-then ! (load ! (from ! (stop !)) (look ! 8 refl)) (no-more !)))) (λ u.
         use1 W (later (some (λ (r : Decoded). ((‵ (flft κ q) ⊛ ‵ ftrue) ⊛ ‵ (D.the-row .own r (u ∷ []))) ⊛
-        raw (ensured 𝓤 H A by-value.ended (clauses-by-value 𝓤 H A m) (κ, tt) (d .packet, (d .reader, (n, tt))) tt r)))) (id⊢ 𝓤 _) $ await ! tt $ pick ! (λ r.
+        raw (ensured 𝓤 H A by-value.ended (clauses-by-value 𝓤 H A m) (κ, tt) (d .packet, (d .reader, (n, tt))) tt r)))) (id⊢ 𝓤 _) $ await ! tt $
+        pick ! (λ r.
         split ! $ move ! (1 ∷ []) $ use1 W (raw (fact 𝓤 (r ≡ found))) (said r) $ heard ! (r ≡ found) (λ e. split ! $ move ! (1 ∷ []) $
         -- [the answer; the token; what the view owns; _5; …; room for _4; …; _3; …; _2; …; _1; …; room for _0; …]
         peeks ! D.the-row (Is D.the-row) (shows 𝓤 H A D.the-row) r (u ∷ []) (λ is.
@@ -175,11 +179,13 @@ module _ {M : Type 1} (𝓤 : URA M) (H : Heap 𝓤) (A : Atoms 𝓤) (W : Given
         assigns ! (agg ! (and-then ! (load ! (from ! (stop !)) (look ! 7 refl)) (and-then ! (load ! (from ! (stop !)) (look ! 5 refl)) (no-more !)))) (from ! (stop !))
         (init ! 13 refl (handed-typed (d .packet) r u is, (wt .1 .0, (LL.lawful D.the-type D′.the-laws 𝓤 H A W .typed r _ is .0 .1, tt)))) $
         returns ! (look ! 13 refl) $ forget ! 3 refl $ forget ! 5 refl $ forget ! 7 refl $ forget ! 9 refl $ forget ! 11 refl $ forget ! 13 refl $
-        move ! (13 ∷ 14 ∷ []) $ free1 ! $ move ! (11 ∷ 12 ∷ []) $ free1 ! $ move ! (9 ∷ 10 ∷ []) $ free1 ! $ move ! (7 ∷ 8 ∷ []) $ free1 ! $ move ! (5 ∷ 6 ∷ []) $ free1 ! $
+        move ! (13 ∷ 14 ∷ []) $ free1 ! $ move ! (11 ∷ 12 ∷ []) $ free1 ! $ move ! (9 ∷ 10 ∷ []) $ free1 ! $ move ! (7 ∷ 8 ∷ []) $ free1 ! $
+        move ! (5 ∷ 6 ∷ []) $ free1 ! $
         move ! (3 ∷ 4 ∷ []) $ free1 ! $ free0 ! $ by ! (exits r u is e)))))))))))
 
 module _ {M : Type 1} (𝓤 : URA M) (H : Heap 𝓤) (A : Atoms 𝓤) (W : Given 𝓤 H A) (m : ℕ → Model) (name : Name) where
-  walks : (C : Calls 𝓤 H) (Λ : Loops 𝓤 H) → FmC 𝓤 H (W .laws) C → Triple 𝓤 (C name) (Called 𝓤 H A m) → Walks 𝓤 H A ended stayed (WpFn 𝓤 H C Λ (function name)) (clauses 𝓤 H A m)
+  walks : (C : Calls 𝓤 H) (Λ : Loops 𝓤 H) → FmC 𝓤 H (W .laws) C → Triple 𝓤 (C name) (Called 𝓤 H A m)
+      → Walks 𝓤 H A ended stayed (WpFn 𝓤 H C Λ (function name)) (clauses 𝓤 H A m)
   walks C Λ fm known =
       walked 𝓤 H A ended stayed (clauses 𝓤 H A m) (WpFn 𝓤 H C Λ (function name))
       (λ κs. (LL.vals (View.the-type (namedLft 1 0 tt κs)) (View′.the-laws (namedLft 1 0 tt κs)), (uint-vals w32, tt)))
@@ -187,7 +193,8 @@ module _ {M : Type 1} (𝓤 : URA M) (H : Heap 𝓤) (A : Atoms 𝓤) (W : Given
       (λ κs qs bounds a g are. via 𝓤 _ (fst∗ 𝓤 _ (emp 𝓤)) (walk 𝓤 H A W m (κs .0) (qs .0) (a .0) (a .1 .0) (are .1 .0 .1) name C Λ fm known
       (LL.lawful (View.the-type (namedLft 1 0 tt κs)) (View′.the-laws (namedLft 1 0 tt κs)) 𝓤 H A W .typed (a .0) _ (are .0) .0)))
 
-  pub meets : (𝓣 : Tables 𝓤 H) → Triple 𝓤 (𝓣 .C name) (Called 𝓤 H A m) → Meets 𝓤 H A (ended .signature) (WpFn 𝓤 H (𝓣 .C) (𝓣 .Λ) (function name)) (closing 𝓤 H A ended (clauses 𝓤 H A m))
+  pub meets : (𝓣 : Tables 𝓤 H) → Triple 𝓤 (𝓣 .C name) (Called 𝓤 H A m)
+      → Meets 𝓤 H A (ended .signature) (WpFn 𝓤 H (𝓣 .C) (𝓣 .Λ) (function name)) (closing 𝓤 H A ended (clauses 𝓤 H A m))
   meets 𝓣 known =
       walk-meets 𝓤 H A ended stayed W (goes-none 𝓤 H A W 1 B yes (λ κs x y. refl), (goes-none 𝓤 H A W 1 (λ _. u32) yes (λ κs x y. refl), tt)) (clauses 𝓤 H A m)
       (WpFn 𝓤 H (𝓣 .C) (𝓣 .Λ) (function name)) (WpFn-mono 𝓤 H (W .laws) 𝓣 (function name)) (walks (𝓣 .C) (𝓣 .Λ) (fmOf 𝓤 H (W .laws) 𝓣) known)

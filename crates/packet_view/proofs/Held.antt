@@ -75,7 +75,8 @@ module _ {M : Type 1} (𝓤 : URA M) (H : Heap 𝓤) (A : Atoms 𝓤) (W : Given
   taken v =
       qed W (‵ (OwnView α v) ∷ []) ∵
       use1 W (‵ (OwnView α v) ⊛ ‵ (OwnView α v)) (LL.copy (View.the-type α) (View′.the-copy α) 𝓤 H A W .twice v (View′.lowered v ∷ [])) $ split ! $
-      use1 W (given (View′.lowered v ∷ [] ≡ View′.lowered v ∷ []) (‵ (Fields α v))) (own-open 𝓤 H A W (View.the-type α) (View′.the-laws α) (v .packet, (v .reader, tt)) (View′.lowered v)) $
+      use1 W (given (View′.lowered v ∷ [] ≡ View′.lowered v ∷ []) (‵ (Fields α v)))
+      (own-open 𝓤 H A W (View.the-type α) (View′.the-laws α) (v .packet, (v .reader, tt)) (View′.lowered v)) $
       learn ! (λ _. done !)
 
   -- an answer is put behind its packet
@@ -96,7 +97,8 @@ module _ {M : Type 1} (𝓤 : URA M) (H : Heap 𝓤) (A : Atoms 𝓤) (W : Given
   pub answered : (a : PacketRead) → ent 𝓤 (sem 𝓤 H A (OwnRead α a)) (sem 𝓤 H A (OwnAnswer (a .read)))
   answered a =
       qed W (‵ (OwnRead α a) ∷ []) ∵
-      use1 W (given (Read′.lowered a ∷ [] ≡ Read′.lowered a ∷ []) (‵ (Parts α a))) (own-open 𝓤 H A W (Read.the-type α) (Read′.the-laws α) (a .packet, (a .read, tt)) (Read′.lowered a)) $
+      use1 W (given (Read′.lowered a ∷ [] ≡ Read′.lowered a ∷ []) (‵ (Parts α a)))
+      (own-open 𝓤 H A W (Read.the-type α) (Read′.the-laws α) (a .packet, (a .read, tt)) (Read′.lowered a)) $
       learn ! (λ _. fsplit ! $ drop ! $ fsplit ! $ move ! (1 ∷ []) $ drop ! $ done !)
 
   -- packet and state of an answer are a view
@@ -104,10 +106,13 @@ module _ {M : Type 1} (𝓤 : URA M) (H : Heap 𝓤) (A : Atoms 𝓤) (W : Given
   at-place a =
       qed W (‵ (OwnRead α a) ∷ []) ∵
       use1 W (‵ (OwnRead α a) ⊛ ‵ (OwnRead α a)) (LL.copy (Read.the-type α) (Read′.the-copy α) 𝓤 H A W .twice a (Read′.lowered a ∷ [])) $ split ! $
-      use1 W (given (Read′.lowered a ∷ [] ≡ Read′.lowered a ∷ []) (‵ (Parts α a))) (own-open 𝓤 H A W (Read.the-type α) (Read′.the-laws α) (a .packet, (a .read, tt)) (Read′.lowered a)) $
+      use1 W (given (Read′.lowered a ∷ [] ≡ Read′.lowered a ∷ []) (‵ (Parts α a)))
+      (own-open 𝓤 H A W (Read.the-type α) (Read′.the-laws α) (a .packet, (a .read, tt)) (Read′.lowered a)) $
       learn ! (λ _. fsplit ! $ move ! (1 ∷ []) $ fsplit ! $
       -- [the answer; nothing; the packet; the whole]
-      use1 W (given (D′.lowered (a .read) ∷ [] ≡ D′.lowered (a .read) ∷ []) (‵ (all-own (D.the-type .parts) D′.the-laws (a .read .refusal, (a .read .value, (a .read .state, tt))))))
+      use1 W (given (D′.lowered (a .read) ∷ [] ≡ D′.lowered (a .read) ∷ [])
+      (‵ (all-own (D.the-type .parts) D′.the-laws (a .read .refusal, (a .read .value, (a .read .state, tt))))))
       (own-open 𝓤 H A W D.the-type D′.the-laws (a .read .refusal, (a .read .value, (a .read .state, tt))) (D′.lowered (a .read))) $ learn ! (λ _.
       fsplit ! $ drop ! $ fsplit ! $ drop ! $ move ! (2 ∷ 0 ∷ []) $ fjoin ! $
-      use1 W (‵ (OwnView α (viewAt a))) (own-shut 𝓤 H A W (View.the-type α) (View′.the-laws α) (a .packet, (a .read .state, tt))) $ frame ! $ drop ! $ done !))
+      use1 W (‵ (OwnView α (viewAt a))) (own-shut 𝓤 H A W (View.the-type α) (View′.the-laws α) (a .packet, (a .read .state, tt))) $ frame ! $
+      drop ! $ done !))

@@ -21,15 +21,18 @@ accepts c = type-accepts _ _ (sym (c .before .type-rule .ensures) ∙ c .if1 .ta
 abbrev lent : List ℕ → ℕ → List ℕ
 lent l active = take (active * 2 + (2 + active * 2) - active * 2) (drop (active * 2) l)
 
+abbrev start : tie.After-index-rows → tie.Start
+start c = c .before .before .before .before
+
 row : (c : tie.After-index-rows)
-    → Row (2 + c .before .before .before .before .args .active) (2 + c .before .before .before .before .args .active * 2) (lent (c .index-rows .result) (c .before .before .before .before .args .active))
-row c = type-row (index-rows (c .index-rows .result) (c .index-rows .ensures)) (c .before .before .before .before .args .active) (accepts (c .before) .1)
+    → Row (2 + start c .args .active) (2 + start c .args .active * 2) (lent (c .index-rows .result) (start c .args .active))
+row c = type-row (index-rows (c .index-rows .result) (c .index-rows .ensures)) (start c .args .active) (accepts (c .before) .1)
 
 -- the symbol that was read, and the types that it means
-types : (c : tie.After-index-rows) → Types (c .before .before .before .before .args .packet .now) (c .before .before .before .before .args .active) (lent (c .index-rows .result) (c .before .before .before .before .args .active))
+types : (c : tie.After-index-rows)
+    → Types (start c .args .packet .now) (start c .args .active) (lent (c .index-rows .result) (start c .args .active))
 types c =
-    let z = c .before .before .before .before in
-    let y : Bytes (z .args .packet .now) = λ i. omega (arith, c .before .before .before .shared-slice-known .given i) in
+    let y : Bytes (start c .args .packet .now) = λ i. omega (arith, c .before .before .before .shared-slice-known .given i) in
     first-types _ _ _ y (row c .good) (row c .is) (sym (c .before .before .type-rule .ensures) ∙ c .before .if1 .taken)
 
 type-rule-requires : tie.Need-type-rule-requires
@@ -70,7 +73,7 @@ add-kind c =
 returns : tie.Need-returns
 returns c =
     let i = c .before .before .before .before in
-    ap (λ (a : Decoded). typesOf (a .value + i .before .before .before .before .args .active * 2)) (c .before .first-symbol .ensures) ∙ types i .is
+    ap (λ (a : Decoded). typesOf (a .value + start i .args .active * 2)) (c .before .first-symbol .ensures) ∙ types i .is
 
 returns-2 : tie.Need-returns-2
 returns-2 c = refused-types _ _ _ (c .before .type-rule .ensures) (c .if1 .left)

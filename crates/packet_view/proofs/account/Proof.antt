@@ -68,7 +68,8 @@ module _ {M : Type 1} (𝓤 : URA M) (H : Heap 𝓤) (A : Atoms 𝓤) (mem : Mem
   abbrev Called : Contract 𝓤
   Called = tripleOf 𝓤 H A by-value.signature (by-value.spec 𝓤 H A mem run)
 
-module _ {M : Type 1} (𝓤 : URA M) (H : Heap 𝓤) (A : Atoms 𝓤) (W : Given 𝓤 H A) (mem : Memory → SProp 𝓤) (run : Routine → Fun 𝓤) (κ : Lft) (q : Share) (d : PacketView) where
+module _ {M : Type 1} (𝓤 : URA M) (H : Heap 𝓤) (A : Atoms 𝓤) (W : Given 𝓤 H A) (mem : Memory → SProp 𝓤) (run : Routine → Fun 𝓤)
+    (κ : Lft) (q : Share) (d : PacketView) where
   abbrev α : NamedLft
   α = namedLft 1 0 tt (κ, tt)
 
@@ -89,7 +90,8 @@ module _ {M : Type 1} (𝓤 : URA M) (H : Heap 𝓤) (A : Atoms 𝓤) (W : Given
   to = (((κ, tt), (q, tt), tt, (d .packet, (d .reader, tt)), passed), tt)
 
   asked : ent 𝓤 (onEntry 𝓤 H A by-value.signature (κ, tt) (q, tt) (d .packet, (d .reader, tt)) passed) (Called 𝓤 H A mem run .pre to)
-  asked = qed W ((‵ (flft κ q) ⊛ ‵ ftrue) ∷ ‵ (owns (ShrSlice (named 0) κ u8 ∷ N.the-row ∷ []) (d .packet, (d .reader, tt)) passed) ∷ []) ∵ join ! $ frame ! $ done !
+  asked =
+      qed W ((‵ (flft κ q) ⊛ ‵ ftrue) ∷ ‵ (owns (ShrSlice (named 0) κ u8 ∷ N.the-row ∷ []) (d .packet, (d .reader, tt)) passed) ∷ []) ∵ join ! $ frame ! $ done !
 
   -- what the struct owns gives what the callee asks, and is kept
   apart : ent 𝓤 (onEntry 𝓤 H A account.signature (κ, tt) (q, tt) (d, tt) (mach ∷ [], tt)) (sep 𝓤 (Called 𝓤 H A mem run .pre to) (sem 𝓤 H A (OwnView α d)))
@@ -103,11 +105,15 @@ module _ {M : Type 1} (𝓤 : URA M) (H : Heap 𝓤) (A : Atoms 𝓤) (W : Given
   said : (r : Decoded) → ent 𝓤 (ensured 𝓤 H A by-value.ended (by-value.clauses 𝓤 H A mem run) (κ, tt) (d .packet, (d .reader, tt)) tt r) (fact 𝓤 (r ≡ found))
   said r = exE 𝓤 _ (λ ws. snd∗ 𝓤 (sem 𝓤 H A (lasts by-value.ended (κ, tt) (d .packet, (d .reader, tt)) ws)) (fact 𝓤 (r ≡ found)))
 
-  exits-lowered : (r : Decoded) → r ≡ found → ent 𝓤 (⋆ 𝓤 H A (‵ (OwnAnswer r) ∷ (‵ (flft κ q) ⊛ ‵ ftrue) ∷ ‵ (OwnView α d) ∷ [])) (Post (Read′.lowered (handed (d .packet) r)))
+  exits-lowered : (r : Decoded) → r ≡ found
+      → ent 𝓤 (⋆ 𝓤 H A (‵ (OwnAnswer r) ∷ (‵ (flft κ q) ⊛ ‵ ftrue) ∷ ‵ (OwnView α d) ∷ [])) (Post (Read′.lowered (handed (d .packet) r)))
   exits-lowered r e =
       qed W (‵ (OwnAnswer r) ∷ (‵ (flft κ q) ⊛ ‵ ftrue) ∷ ‵ (OwnView α d) ∷ []) ∵
-      suffices ! _ (ends-at 𝓤 H A account.ended stayed (account.clauses 𝓤 H A mem run) W (((κ, tt), (q, tt), tt, (d, tt), (mach ∷ [], tt)), tt) (Read′.lowered (handed (d .packet) r)) (handed (d .packet) r) (tt, tt) (tt, tt)) $ says ! (ap (handed (d .packet)) e) $
-      move ! (1 ∷ []) $ frame ! $ move ! (1 ∷ 0 ∷ []) $ use2 W (‵ (OwnView α d) ⊛ ‵ (OwnRead α (handed (d .packet) r))) (put-behind 𝓤 H A W α d r) $ split ! $
+      suffices ! _ (ends-at 𝓤 H A account.ended stayed (account.clauses 𝓤 H A mem run) W (((κ, tt), (q, tt), tt, (d, tt), (mach ∷ [], tt)), tt)
+      (Read′.lowered (handed (d .packet) r)) (handed (d .packet) r) (tt, tt) (tt, tt)) $
+      says ! (ap (handed (d .packet)) e) $
+      move ! (1 ∷ []) $ frame ! $ move ! (1 ∷ 0 ∷ []) $ use2 W (‵ (OwnView α d) ⊛ ‵ (OwnRead α (handed (d .packet) r))) (put-behind 𝓤 H A W α d r) $
+      split ! $
       nothing ! $ move ! (1 ∷ 0 ∷ []) $ fjoin ! $ frame ! $ done !
 
   exits : (r : Decoded) (u : Val) → Is D.the-row r (u ∷ []) → r ≡ found
@@ -117,16 +123,19 @@ module _ {M : Type 1} (𝓤 : URA M) (H : Heap 𝓤) (A : Atoms 𝓤) (W : Given
       (lowered-is r u is) (exits-lowered r e)
 
   module _ (C : Calls 𝓤 H) (Λ : Loops 𝓤 H) (fm : FmC 𝓤 H (W .laws) C) (known : Triple 𝓤 (C #called) (Called 𝓤 H A mem run)) where
-    walk : Holds (hasTy (View′.mir (named 0)) mach) × WT mach → ent 𝓤 (onEntry 𝓤 H A account.signature (κ, tt) (q, tt) (d, tt) (mach ∷ [], tt)) (WpFn 𝓤 H C Λ code.function (mach ∷ []) Post)
+    walk : Holds (hasTy (View′.mir (named 0)) mach) × WT mach
+        → ent 𝓤 (onEntry 𝓤 H A account.signature (κ, tt) (q, tt) (d, tt) (mach ∷ [], tt)) (WpFn 𝓤 H C Λ code.function (mach ∷ []) Post)
     walk wt =
         qed W (raw (onEntry 𝓤 H A account.signature (κ, tt) (q, tt) (d, tt) (mach ∷ [], tt)) ∷ []) ∵ enter ! C Λ code.function (mach ∷ []) _ $
         alloc1 ! (λ l₀. alloc1 ! (λ l₁. alloc1 ! (λ l₂. alloc1 ! (λ l₃. alloc1 ! (λ l₄. alloc0 ! $ params1 ! $ pass1 ! (init ! 6 refl wt) $ pass0 ! $
         assigns ! (of-opd ! (load ! (from ! (fld ! refl (stop !))) (look-in ! 6 (sub ! 0 refl (whole !))))) (from ! (stop !)) (init ! 4 refl (tt, wt .1 .0)) $
         assigns ! (of-opd ! (load ! (from ! (fld ! refl (stop !))) (look-in ! 6 (sub ! 1 refl (whole !))))) (from ! (stop !)) (init ! 0 refl (tt, wt .1 .1 .0)) $
         move ! (10 ∷ []) $ use1 W (raw (Called 𝓤 H A mem run .pre to) ⊛ ‵ (OwnView α d)) apart $ split ! $
-        calls-at ! fm (Called 𝓤 H A mem run) known to (and-then ! (load ! (from ! (stop !)) (look ! 6 refl)) (and-then ! (load ! (from ! (stop !)) (look ! 2 refl)) (no-more !))) (λ u.
+        calls-at ! fm (Called 𝓤 H A mem run) known to
+        (and-then ! (load ! (from ! (stop !)) (look ! 6 refl)) (and-then ! (load ! (from ! (stop !)) (look ! 2 refl)) (no-more !))) (λ u.
         use1 W (later (some (λ (r : Decoded). ((‵ (flft κ q) ⊛ ‵ ftrue) ⊛ ‵ (D.the-row .own r (u ∷ []))) ⊛
-        raw (ensured 𝓤 H A by-value.ended (by-value.clauses 𝓤 H A mem run) (κ, tt) (d .packet, (d .reader, tt)) tt r)))) (id⊢ 𝓤 _) $ await ! tt $ pick ! (λ r.
+        raw (ensured 𝓤 H A by-value.ended (by-value.clauses 𝓤 H A mem run) (κ, tt) (d .packet, (d .reader, tt)) tt r)))) (id⊢ 𝓤 _) $ await ! tt $
+        pick ! (λ r.
         split ! $ move ! (1 ∷ []) $ use1 W (raw (fact 𝓤 (r ≡ found))) (said r) $ heard ! (r ≡ found) (λ e. split ! $ move ! (1 ∷ []) $
         -- [the answer; the token; what the view owns; _4; …; room for _3; …; _2; …; _1; …; room for _0; …]
         peeks ! D.the-row (Is D.the-row) (shows 𝓤 H A D.the-row) r (u ∷ []) (λ is.

@@ -120,7 +120,9 @@ module _ {M : Type 1} (𝓤 : URA M) (H : Heap 𝓤) (A : Atoms 𝓤) (W : Given
       use1 W (‵ (OwnLent α s) ⊛ ‵ (OwnLent α s)) (shr-slice-copy 𝓤 H A W (named 0) κ u8 .twice s (lentVal s ∷ [])) $ split ! $
       -- [the packet; the packet; table and scale; the table's token; nothing; the packet's token]
       nothing ! $ move ! (1 ∷ 0 ∷ []) $ fjoin ! $ move ! (5 ∷ 4 ∷ []) $ join ! $
-      use2 W (raw (Open 𝓤 H A mem run .pre to-open)) (qed W ((‵ (flft κ q) ⊛ ‵ ftrue) ∷ ‵ (owns (ShrSlice (named 0) κ u8 ∷ []) (s, tt) (lentVal s ∷ [], tt)) ∷ []) ∵ join ! $ frame ! $ done !) $
+      use2 W (raw (Open 𝓤 H A mem run .pre to-open))
+      (qed W ((‵ (flft κ q) ⊛ ‵ ftrue) ∷ ‵ (owns (ShrSlice (named 0) κ u8 ∷ []) (s, tt) (lentVal s ∷ [], tt)) ∷ []) ∵ join ! $
+      frame ! $ done !) $
       frame ! $ move ! (2 ∷ []) $ frame ! $ frame ! $ fsplit ! $ move ! (1 ∷ []) $ drop ! $ done !
 
   open-said : (a : PacketRead) → ent 𝓤 (ensured 𝓤 H A open-fn.ended (open-fn.clauses 𝓤 H A mem run) (κ, tt) (s, tt) tt a) (fact 𝓤 (a ≡ viewOpen s))
@@ -131,9 +133,11 @@ module _ {M : Type 1} (𝓤 : URA M) (H : Heap 𝓤) (A : Atoms 𝓤) (W : Given
   abbrev to-reached : PacketRead → Val → Reached 𝓤 H A mem run .Ghost
   to-reached a u = (((κ, tt), (q, tt), tt, (a, tt), (u ∷ [], tt)), tt)
 
-  goes-reached : (a : PacketRead) (u : Val) → ent 𝓤 (⋆ 𝓤 H A (‵ (Read.the-row α .own a (u ∷ [])) ∷ (‵ (flft κ q) ⊛ ‵ ftrue) ∷ [])) (Reached 𝓤 H A mem run .pre (to-reached a u))
+  goes-reached : (a : PacketRead) (u : Val)
+      → ent 𝓤 (⋆ 𝓤 H A (‵ (Read.the-row α .own a (u ∷ [])) ∷ (‵ (flft κ q) ⊛ ‵ ftrue) ∷ [])) (Reached 𝓤 H A mem run .pre (to-reached a u))
   goes-reached a u =
-      qed W (‵ (Read.the-row α .own a (u ∷ [])) ∷ (‵ (flft κ q) ⊛ ‵ ftrue) ∷ []) ∵ nothing ! $ move ! (1 ∷ 0 ∷ []) $ fjoin ! $ move ! (1 ∷ 0 ∷ []) $ join ! $ frame ! $ done !
+      qed W (‵ (Read.the-row α .own a (u ∷ [])) ∷ (‵ (flft κ q) ⊛ ‵ ftrue) ∷ []) ∵ nothing ! $ move ! (1 ∷ 0 ∷ []) $ fjoin ! $ move ! (1 ∷ 0 ∷ []) $
+      join ! $ frame ! $ done !
 
   reached-said : (a : PacketRead) (v : PacketView) → ent 𝓤 (ensured 𝓤 H A reached.ended (reached.clauses 𝓤 H A mem run) (κ, tt) (a, tt) tt v) (fact 𝓤 (v ≡ viewAt a))
   reached-said a v = exE 𝓤 _ (λ ws. snd∗ 𝓤 (sem 𝓤 H A (lasts reached.ended (κ, tt) (a, tt) ws)) (fact 𝓤 (v ≡ viewAt a)))
@@ -144,17 +148,20 @@ module _ {M : Type 1} (𝓤 : URA M) (H : Heap 𝓤) (A : Atoms 𝓤) (W : Given
   to-symbol v w = ((κs, (q, (q′, tt)), tt, (v, (t, (n, tt))), (w ∷ [], (lentVal t ∷ [], (vint w32 n ∷ [], tt)))), tt)
 
   goes-symbol : (v : PacketView) (w : Val)
-      → ent 𝓤 (sep 𝓤 (⋆ 𝓤 H A (‵ (View.the-row α .own v (w ∷ [])) ∷ (‵ (flft κ q) ⊛ ‵ ftrue) ∷ [])) (sep 𝓤 (sem 𝓤 H A (flft κ′ q′)) (sep 𝓤 (sem 𝓤 H A (OwnLent α s)) (sem 𝓤 H A (OwnLent β t)))))
+      → ent 𝓤 (sep 𝓤 (⋆ 𝓤 H A (‵ (View.the-row α .own v (w ∷ [])) ∷ (‵ (flft κ q) ⊛ ‵ ftrue) ∷ []))
+      (sep 𝓤 (sem 𝓤 H A (flft κ′ q′)) (sep 𝓤 (sem 𝓤 H A (OwnLent α s)) (sem 𝓤 H A (OwnLent β t)))))
       (sep 𝓤 (Symbol 𝓤 H A mem run .pre (to-symbol v w)) (sep 𝓤 (sem 𝓤 H A (OwnLent α s)) (sem 𝓤 H A (OwnLent β t))))
   goes-symbol v w =
       qed W ((‵ (View.the-row α .own v (w ∷ [])) ⊛ (‵ (flft κ q) ⊛ ‵ ftrue)) ∷ (‵ (flft κ′ q′) ⊛ ‵ (OwnLent α s) ⊛ ‵ (OwnLent β t)) ∷ []) ∵
       split ! $ move ! (2 ∷ []) $ split ! $ move ! (1 ∷ []) $ split ! $ move ! (1 ∷ []) $
       use1 W (‵ (OwnLent β t) ⊛ ‵ (OwnLent β t)) (shr-slice-copy 𝓤 H A W (named 1) κ′ u8 .twice t (lentVal t ∷ [])) $ split ! $
       -- [the table; the table; the packet; the table's token; the view; the packet's token]
-      nothing ! $ owned ! u32 (Is u32) (uint-makes 𝓤 H A W w32) n _ (refl, ok) $ fjoin ! $ move ! (1 ∷ 0 ∷ []) $ fjoin ! $ move ! (4 ∷ 0 ∷ []) $ fjoin ! $
+      nothing ! $ owned ! u32 (Is u32) (uint-makes 𝓤 H A W w32) n _ (refl, ok) $ fjoin ! $ move ! (1 ∷ 0 ∷ []) $ fjoin ! $ move ! (4 ∷ 0 ∷ []) $
+      fjoin ! $
       move ! (4 ∷ []) $ split ! $ move ! (5 ∷ 1 ∷ []) $ join ! $ move ! (1 ∷ 0 ∷ []) $ join ! $
       use2 W (raw (Symbol 𝓤 H A mem run .pre (to-symbol v w)))
-      (qed W ((‵ (flft κ q) ⊛ ‵ (flft κ′ q′) ⊛ ‵ ftrue) ∷ ‵ (owns (View.the-row α ∷ ShrSlice (named 1) κ′ u8 ∷ u32 ∷ []) (v, (t, (n, tt))) (w ∷ [], (lentVal t ∷ [], (vint w32 n ∷ [], tt)))) ∷ []) ∵
+      (qed W ((‵ (flft κ q) ⊛ ‵ (flft κ′ q′) ⊛ ‵ ftrue) ∷ ‵ (owns (View.the-row α ∷ ShrSlice (named 1) κ′ u8 ∷ u32 ∷ [])
+      (v, (t, (n, tt))) (w ∷ [], (lentVal t ∷ [], (vint w32 n ∷ [], tt)))) ∷ []) ∵
       join ! $ frame ! $ done !) $ frame ! $ move ! (1 ∷ 0 ∷ []) $ frame ! $ done !
 
   symbol-said : (v : PacketView) (r : PacketRead)
@@ -167,18 +174,23 @@ module _ {M : Type 1} (𝓤 : URA M) (H : Heap 𝓤) (A : Atoms 𝓤) (W : Given
   read-is r x is = ap only (LL.tells (Read.the-type α) (Read′.the-laws α) r (x ∷ []) is)
 
   exits-lowered : (r : PacketRead) → r .read ≡ found
-      → ent 𝓤 (⋆ 𝓤 H A (‵ (OwnRead α r) ∷ (‵ (flft κ q) ⊛ ‵ (flft κ′ q′) ⊛ ‵ ftrue) ∷ (‵ (OwnLent α s) ⊛ ‵ (OwnLent β t)) ∷ [])) (Post (D′.lowered (r .read)))
+      → ent 𝓤 (⋆ 𝓤 H A (‵ (OwnRead α r) ∷ (‵ (flft κ q) ⊛ ‵ (flft κ′ q′) ⊛ ‵ ftrue) ∷ (‵ (OwnLent α s) ⊛ ‵ (OwnLent β t)) ∷ []))
+      (Post (D′.lowered (r .read)))
   exits-lowered r e =
       qed W (‵ (OwnRead α r) ∷ (‵ (flft κ q) ⊛ ‵ (flft κ′ q′) ⊛ ‵ ftrue) ∷ (‵ (OwnLent α s) ⊛ ‵ (OwnLent β t)) ∷ []) ∵
-      suffices ! _ (ends-at 𝓤 H A first.ended stayed (first.clauses 𝓤 H A mem run) W ((κs, (q, (q′, tt)), tt, args, at), tt) (D′.lowered (r .read)) (r .read) (tt, (tt, (tt, tt))) (tt, (tt, (tt, tt)))) $
+      suffices ! _ (ends-at 𝓤 H A first.ended stayed (first.clauses 𝓤 H A mem run) W ((κs, (q, (q′, tt)), tt, args, at), tt)
+      (D′.lowered (r .read)) (r .read) (tt, (tt, (tt, tt))) (tt, (tt, (tt, tt)))) $
       says ! e $ move ! (1 ∷ []) $ frame ! $ use1 W (‵ (OwnAnswer (r .read))) (answered 𝓤 H A W α r) $ move ! (1 ∷ []) $ split ! $
       -- [the packet; the table; the answer]
-      nothing ! $ owned ! u32 (Is u32) (uint-makes 𝓤 H A W w32) n _ (refl, ok) $ fjoin ! $ move ! (2 ∷ 0 ∷ []) $ fjoin ! $ move ! (1 ∷ 0 ∷ []) $ fjoin ! $ frame ! $ done !
+      nothing ! $ owned ! u32 (Is u32) (uint-makes 𝓤 H A W w32) n _ (refl, ok) $ fjoin ! $ move ! (2 ∷ 0 ∷ []) $ fjoin ! $ move ! (1 ∷ 0 ∷ []) $
+      fjoin ! $ frame ! $ done !
 
   exits : (r : PacketRead) (x : Val) → Is (Read.the-row α) r (x ∷ []) → r .read ≡ found
-      → ent 𝓤 (⋆ 𝓤 H A (‵ (Read.the-row α .own r (x ∷ [])) ∷ (‵ (flft κ q) ⊛ ‵ (flft κ′ q′) ⊛ ‵ ftrue) ∷ (‵ (OwnLent α s) ⊛ ‵ (OwnLent β t)) ∷ [])) (Post (D′.lowered (r .read)))
+      → ent 𝓤 (⋆ 𝓤 H A (‵ (Read.the-row α .own r (x ∷ [])) ∷ (‵ (flft κ q) ⊛ ‵ (flft κ′ q′) ⊛ ‵ ftrue) ∷ (‵ (OwnLent α s) ⊛ ‵ (OwnLent β t)) ∷ []))
+      (Post (D′.lowered (r .read)))
   exits r x is e =
-      subst⁻¹ (λ (y : Val). ent 𝓤 (⋆ 𝓤 H A (‵ (Read.the-row α .own r (y ∷ [])) ∷ (‵ (flft κ q) ⊛ ‵ (flft κ′ q′) ⊛ ‵ ftrue) ∷ (‵ (OwnLent α s) ⊛ ‵ (OwnLent β t)) ∷ [])) (Post (D′.lowered (r .read))))
+      subst⁻¹ (λ (y : Val). ent 𝓤 (⋆ 𝓤 H A (‵ (Read.the-row α .own r (y ∷ [])) ∷ (‵ (flft κ q) ⊛ ‵ (flft κ′ q′) ⊛ ‵ ftrue) ∷ (‵ (OwnLent α s) ⊛ ‵ (OwnLent β t)) ∷ []))
+      (Post (D′.lowered (r .read))))
       (read-is r x is) (exits-lowered r e)
 
   read-typed : (r : PacketRead) (x : Val) → Is (Read.the-row α) r (x ∷ []) → Holds (hasTy (Read′.mir erased) x) × WT x
@@ -192,34 +204,43 @@ module _ {M : Type 1} (𝓤 : URA M) (H : Heap 𝓤) (A : Atoms 𝓤) (W : Given
         qed W (raw (onEntry 𝓤 H A first.signature κs (q, (q′, tt)) args at) ∷ []) ∵ enter ! C Λ code.function (lentVal s ∷ lentVal t ∷ vint w32 n ∷ []) _ $
         alloc1 ! (λ l₀. alloc1 ! (λ l₁. alloc1 ! (λ l₂. alloc1 ! (λ l₃. alloc1 ! (λ l₄. alloc1 ! (λ l₅. alloc1 ! (λ l₆. alloc0 ! $ params1 ! $
         pass1 ! (init ! 10 refl (shr-slice-lawful 𝓤 H A W (named 0) κ u8 .typed s (lentVal s ∷ []) p .0)) $
-        pass1 ! (init ! 8 refl (shr-slice-lawful 𝓤 H A W (named 1) κ′ u8 .typed t (lentVal t ∷ []) p′ .0)) $ pass1 ! (init ! 6 refl (tt, record { fits = ok })) $ pass0 ! $
+        pass1 ! (init ! 8 refl (shr-slice-lawful 𝓤 H A W (named 1) κ′ u8 .typed t (lentVal t ∷ []) p′ .0)) $
+        pass1 ! (init ! 6 refl (tt, record { fits = ok })) $ pass0 ! $
         move ! (14 ∷ []) $ use1 W (raw (Open 𝓤 H A mem run .pre to-open) ⊛ (‵ (flft κ′ q′) ⊛ ‵ (OwnLent α s) ⊛ ‵ (OwnLent β t))) goes-open $ split ! $
         calls-at ! fm (Open 𝓤 H A mem run) known-open to-open (and-then ! (load ! (from ! (stop !)) (look ! 12 refl)) (no-more !)) (λ u.
         use1 W (later (some (λ (a : PacketRead). ((‵ (flft κ q) ⊛ ‵ ftrue) ⊛ ‵ (Read.the-row α .own a (u ∷ []))) ⊛
         raw (ensured 𝓤 H A open-fn.ended (open-fn.clauses 𝓤 H A mem run) (κ, tt) (s, tt) tt a)))) (id⊢ 𝓤 _) $ await ! tt $ pick ! (λ a.
         split ! $ move ! (1 ∷ []) $ use1 W (raw (fact 𝓤 (a ≡ viewOpen s))) (open-said a) $ heard ! (a ≡ viewOpen s) (λ e₁. split ! $ move ! (1 ∷ []) $
         -- [the opening's answer; the packet's token; what is kept; room for _6; …; _5; …; _4; …; _3; …; _2; …; _1; …; room for _0; …]
-        peeks ! (Read.the-row α) (Is (Read.the-row α)) (shows 𝓤 H A (Read.the-row α)) a (u ∷ []) (λ is₁. land ! (from ! (stop !)) (init ! 3 refl (read-typed a u is₁)) $
+        peeks ! (Read.the-row α) (Is (Read.the-row α)) (shows 𝓤 H A (Read.the-row α)) a (u ∷ []) (λ is₁.
+        land ! (from ! (stop !)) (init ! 3 refl (read-typed a u is₁)) $
         use2 W (raw (Reached 𝓤 H A mem run .pre (to-reached a u))) (goes-reached a u) $
         calls-at ! fm (Reached 𝓤 H A mem run) known-reached (to-reached a u) (and-then ! (load ! (from ! (stop !)) (look ! 2 refl)) (no-more !)) (λ w.
         use1 W (later (some (λ (v : PacketView). ((‵ (flft κ q) ⊛ ‵ ftrue) ⊛ ‵ (View.the-row α .own v (w ∷ []))) ⊛
         raw (ensured 𝓤 H A reached.ended (reached.clauses 𝓤 H A mem run) (κ, tt) (a, tt) tt v)))) (id⊢ 𝓤 _) $ await ! tt $ pick ! (λ v.
-        split ! $ move ! (1 ∷ []) $ use1 W (raw (fact 𝓤 (v ≡ viewAt a))) (reached-said a v) $ heard ! (v ≡ viewAt a) (λ e₂. split ! $ move ! (1 ∷ []) $
+        split ! $ move ! (1 ∷ []) $ use1 W (raw (fact 𝓤 (v ≡ viewAt a))) (reached-said a v) $ heard ! (v ≡ viewAt a) (λ e₂. split ! $
+        move ! (1 ∷ []) $
         -- [the view; the packet's token; what is kept; _6; …; room for _5; …]
         peeks ! (View.the-row α) (Is (View.the-row α)) (shows 𝓤 H A (View.the-row α)) v (w ∷ []) (λ is₂.
         land ! (from ! (stop !)) (init ! 5 refl (LL.lawful (View.the-type αᵉ) (View′.the-laws αᵉ) 𝓤 H A W .typed v _ is₂ .0)) $
         join ! $ use2 W (raw (Symbol 𝓤 H A mem run .pre (to-symbol v w)) ⊛ (‵ (OwnLent α s) ⊛ ‵ (OwnLent β t))) (goes-symbol v w) $ split ! $
         calls-at ! fm (Symbol 𝓤 H A mem run) known-symbol (to-symbol v w)
-        (and-then ! (load ! (from ! (stop !)) (look ! 4 refl)) (and-then ! (load ! (from ! (stop !)) (look ! 10 refl)) (and-then ! (load ! (from ! (stop !)) (look ! 8 refl)) (no-more !)))) (λ x.
+        (and-then ! (load ! (from ! (stop !)) (look ! 4 refl)) (and-then ! (load ! (from ! (stop !)) (look ! 10 refl))
+        (and-then ! (load ! (from ! (stop !)) (look ! 8 refl)) (no-more !)))) (λ x.
         use1 W (later (some (λ (r : PacketRead). ((‵ (flft κ q) ⊛ ‵ (flft κ′ q′) ⊛ ‵ ftrue) ⊛ ‵ (Read.the-row α .own r (x ∷ []))) ⊛
         raw (ensured 𝓤 H A symbol.ended (symbol.clauses 𝓤 H A mem run) κs (v, (t, (n, tt))) tt r)))) (id⊢ 𝓤 _) $ await ! tt $ pick ! (λ r.
-        split ! $ move ! (1 ∷ []) $ use1 W (raw (fact 𝓤 (r ≡ viewSym v (tab n (now t))))) (symbol-said v r) $ heard ! (r ≡ viewSym v (tab n (now t))) (λ e₃. split ! $ move ! (1 ∷ []) $
+        split ! $ move ! (1 ∷ []) $ use1 W (raw (fact 𝓤 (r ≡ viewSym v (tab n (now t))))) (symbol-said v r) $
+        heard ! (r ≡ viewSym v (tab n (now t))) (λ e₃. split ! $ move ! (1 ∷ []) $
         -- [the symbol's answer; the tokens; what is kept; _6; …; _5; …; room for _4; …]: the answer is read out of the struct in _4
-        peeks ! (Read.the-row α) (Is (Read.the-row α)) (shows 𝓤 H A (Read.the-row α)) r (x ∷ []) (λ is₃. land ! (from ! (stop !)) (init ! 7 refl (read-typed r x is₃)) $
+        peeks ! (Read.the-row α) (Is (Read.the-row α)) (shows 𝓤 H A (Read.the-row α)) r (x ∷ []) (λ is₃.
+        land ! (from ! (stop !)) (init ! 7 refl (read-typed r x is₃)) $
         rewrite ! 7 (λ (y : Val). ‵ (fat fullShare (Read′.mir erased) l₄ 0 y)) (read-is r x is₃) refl $
-        assigns ! (of-opd ! (load ! (from ! (fld ! refl (stop !))) (look-in ! 7 (sub ! 1 refl (whole !))))) (from ! (stop !)) (init ! 15 refl (tt, subst WT (read-is r x is₃) (read-typed r x is₃ .1) .1 .0)) $
-        returns ! (look ! 15 refl) $ forget ! 3 refl $ forget ! 5 refl $ forget ! 7 refl $ forget ! 9 refl $ forget ! 11 refl $ forget ! 13 refl $ forget ! 15 refl $
-        move ! (15 ∷ 16 ∷ []) $ free1 ! $ move ! (13 ∷ 14 ∷ []) $ free1 ! $ move ! (11 ∷ 12 ∷ []) $ free1 ! $ move ! (9 ∷ 10 ∷ []) $ free1 ! $ move ! (7 ∷ 8 ∷ []) $ free1 ! $
+        assigns ! (of-opd ! (load ! (from ! (fld ! refl (stop !))) (look-in ! 7 (sub ! 1 refl (whole !))))) (from ! (stop !))
+        (init ! 15 refl (tt, subst WT (read-is r x is₃) (read-typed r x is₃ .1) .1 .0)) $
+        returns ! (look ! 15 refl) $ forget ! 3 refl $ forget ! 5 refl $ forget ! 7 refl $ forget ! 9 refl $ forget ! 11 refl $ forget ! 13 refl $
+        forget ! 15 refl $
+        move ! (15 ∷ 16 ∷ []) $ free1 ! $ move ! (13 ∷ 14 ∷ []) $ free1 ! $ move ! (11 ∷ 12 ∷ []) $ free1 ! $ move ! (9 ∷ 10 ∷ []) $ free1 ! $
+        move ! (7 ∷ 8 ∷ []) $ free1 ! $
         move ! (5 ∷ 6 ∷ []) $ free1 ! $ move ! (3 ∷ 4 ∷ []) $ free1 ! $ free0 ! $
         by ! (exits r x is₃ (ap (λ (y : PacketRead). y .read) (e₃ ∙ ap (λ (y : PacketView). viewSym y (tab n (now t))) (e₂ ∙ ap viewAt e₁)))))))))))))))))))))))
 
@@ -238,8 +259,10 @@ module _ {M : Type 1} (𝓤 : URA M) (H : Heap 𝓤) (A : Atoms 𝓤) (W : Given
       → Triple 𝓤 (𝓣 .C #open) (Open 𝓤 H A mem run) → Triple 𝓤 (𝓣 .C #reached) (Reached 𝓤 H A mem run) → Triple 𝓤 (𝓣 .C #symbol) (Symbol 𝓤 H A mem run)
       → Meets 𝓤 H A first.signature (WpFn 𝓤 H (𝓣 .C) (𝓣 .Λ) code.function) (first.spec 𝓤 H A mem run)
   meets 𝓣 known-open known-reached known-symbol =
-      walk-meets 𝓤 H A first.ended stayed W
-      (goes-none-slice 𝓤 H A W 2 (0 ∷ []) tt (plain (λ _. u8)) yes, (goes-none-slice 𝓤 H A W 2 (1 ∷ []) tt (plain (λ _. u8)) yes, (goes-none 𝓤 H A W 2 (λ _. u32) yes (λ κs x f. refl), tt)))
+      walk-meets 𝓤 H A first.ended stayed W (
+        goes-none-slice 𝓤 H A W 2 (0 ∷ []) tt (plain (λ _. u8)) yes,
+        (goes-none-slice 𝓤 H A W 2 (1 ∷ []) tt (plain (λ _. u8)) yes, (goes-none 𝓤 H A W 2 (λ _. u32) yes (λ κs x f. refl), tt)),
+      )
       (first.clauses 𝓤 H A mem run) (WpFn 𝓤 H (𝓣 .C) (𝓣 .Λ) code.function) (WpFn-mono 𝓤 H (W .laws) 𝓣 code.function)
       (walks (𝓣 .C) (𝓣 .Λ) (fmOf 𝓤 H (W .laws) 𝓣) known-open known-reached known-symbol)
 

@@ -58,7 +58,8 @@ module _ {M : Type 1} (𝓤 : URA M) (H : Heap 𝓤) (A : Atoms 𝓤) (mem : Mem
   abbrev Called : Contract 𝓤
   Called = tripleOf 𝓤 H A by-value.signature (by-value.spec 𝓤 H A mem run)
 
-module _ {M : Type 1} (𝓤 : URA M) (H : Heap 𝓤) (A : Atoms 𝓤) (W : Given 𝓤 H A) (mem : Memory → SProp 𝓤) (run : Routine → Fun 𝓤) (κ : Lft) (q : Share) (s : RefT (List ℕ)) where
+module _ {M : Type 1} (𝓤 : URA M) (H : Heap 𝓤) (A : Atoms 𝓤) (W : Given 𝓤 H A) (mem : Memory → SProp 𝓤) (run : Routine → Fun 𝓤)
+    (κ : Lft) (q : Share) (s : RefT (List ℕ)) where
   abbrev α : NamedLft
   α = namedLft 1 0 tt (κ, tt)
 
@@ -75,18 +76,22 @@ module _ {M : Type 1} (𝓤 : URA M) (H : Heap 𝓤) (A : Atoms 𝓤) (W : Given
   asked : ent 𝓤 (onEntry 𝓤 H A open-fn.signature (κ, tt) (q, tt) (s, tt) (lentVal s ∷ [], tt)) (sep 𝓤 (Called 𝓤 H A mem run .pre to) (sem 𝓤 H A (OwnLent α s)))
   asked =
       qed W ((‵ (flft κ q) ⊛ ‵ ftrue) ∷ ‵ (owns (ShrSlice (named 0) κ u8 ∷ []) (s, tt) (lentVal s ∷ [], tt)) ∷ []) ∵
-      move ! (1 ∷ []) $ fsplit ! $ use1 W (‵ (OwnLent α s) ⊛ ‵ (OwnLent α s)) (shr-slice-copy 𝓤 H A W (named 0) κ u8 .twice s (lentVal s ∷ [])) $ split ! $
+      move ! (1 ∷ []) $ fsplit ! $ use1 W (‵ (OwnLent α s) ⊛ ‵ (OwnLent α s)) (shr-slice-copy 𝓤 H A W (named 0) κ u8 .twice s (lentVal s ∷ [])) $
+      split ! $
       move ! (0 ∷ 2 ∷ []) $ fjoin ! $ move ! (2 ∷ 0 ∷ []) $ use2 W (raw (Called 𝓤 H A mem run .pre to))
-      (qed W ((‵ (flft κ q) ⊛ ‵ ftrue) ∷ ‵ (owns (ShrSlice (named 0) κ u8 ∷ []) (s, tt) (lentVal s ∷ [], tt)) ∷ []) ∵ join ! $ frame ! $ done !) $ frame ! $ done !
+      (qed W ((‵ (flft κ q) ⊛ ‵ ftrue) ∷ ‵ (owns (ShrSlice (named 0) κ u8 ∷ []) (s, tt) (lentVal s ∷ [], tt)) ∷ []) ∵ join ! $ frame ! $ done !) $
+      frame ! $ done !
 
   -- of what the call ensures, the clause alone: it has no `&mut`, so what is said of last values is dropped
   said : (r : Decoded) → ent 𝓤 (ensured 𝓤 H A by-value.ended (by-value.clauses 𝓤 H A mem run) (κ, tt) (s, tt) tt r) (fact 𝓤 (r ≡ found))
   said r = exE 𝓤 _ (λ ws. snd∗ 𝓤 (sem 𝓤 H A (lasts by-value.ended (κ, tt) (s, tt) ws)) (fact 𝓤 (r ≡ found)))
 
-  exits-lowered : (r : Decoded) → r ≡ found → ent 𝓤 (⋆ 𝓤 H A (‵ (OwnAnswer r) ∷ (‵ (flft κ q) ⊛ ‵ ftrue) ∷ ‵ (OwnLent α s) ∷ [])) (Post (Read′.lowered (handed s r)))
+  exits-lowered : (r : Decoded) → r ≡ found
+      → ent 𝓤 (⋆ 𝓤 H A (‵ (OwnAnswer r) ∷ (‵ (flft κ q) ⊛ ‵ ftrue) ∷ ‵ (OwnLent α s) ∷ [])) (Post (Read′.lowered (handed s r)))
   exits-lowered r e =
       qed W (‵ (OwnAnswer r) ∷ (‵ (flft κ q) ⊛ ‵ ftrue) ∷ ‵ (OwnLent α s) ∷ []) ∵
-      suffices ! _ (ends-at 𝓤 H A open-fn.ended stayed (open-fn.clauses 𝓤 H A mem run) W (((κ, tt), (q, tt), tt, (s, tt), (lentVal s ∷ [], tt)), tt) (Read′.lowered (handed s r)) (handed s r) (tt, tt) (tt, tt)) $
+      suffices ! _ (ends-at 𝓤 H A open-fn.ended stayed (open-fn.clauses 𝓤 H A mem run) W (((κ, tt), (q, tt), tt, (s, tt), (lentVal s ∷ [], tt)), tt)
+      (Read′.lowered (handed s r)) (handed s r) (tt, tt) (tt, tt)) $
       says ! (ap (handed s) e) $ move ! (1 ∷ []) $ frame ! $ move ! (1 ∷ []) $
       use1 W (‵ (OwnLent α s) ⊛ ‵ (OwnLent α s)) (shr-slice-copy 𝓤 H A W (named 0) κ u8 .twice s (lentVal s ∷ [])) $ split ! $
       nothing ! $ move ! (1 ∷ 0 ∷ []) $ fjoin ! $ frame ! $ by ! (put 𝓤 H A W α s r)
@@ -94,10 +99,12 @@ module _ {M : Type 1} (𝓤 : URA M) (H : Heap 𝓤) (A : Atoms 𝓤) (W : Given
   exits : (r : Decoded) (u : Val) → Is D.the-row r (u ∷ []) → r ≡ found
       → ent 𝓤 (⋆ 𝓤 H A (‵ (D.the-row .own r (u ∷ [])) ∷ (‵ (flft κ q) ⊛ ‵ ftrue) ∷ ‵ (OwnLent α s) ∷ [])) (Post (handedVal s u))
   exits r u is e =
-      subst⁻¹ (λ (x : Val). ent 𝓤 (⋆ 𝓤 H A (‵ (D.the-row .own r (x ∷ [])) ∷ (‵ (flft κ q) ⊛ ‵ ftrue) ∷ ‵ (OwnLent α s) ∷ [])) (Post (handedVal s x))) (lowered-is r u is) (exits-lowered r e)
+      subst⁻¹ (λ (x : Val). ent 𝓤 (⋆ 𝓤 H A (‵ (D.the-row .own r (x ∷ [])) ∷ (‵ (flft κ q) ⊛ ‵ ftrue) ∷ ‵ (OwnLent α s) ∷ [])) (Post (handedVal s x)))
+      (lowered-is r u is) (exits-lowered r e)
 
   module _ (C : Calls 𝓤 H) (Λ : Loops 𝓤 H) (fm : FmC 𝓤 H (W .laws) C) (known : Triple 𝓤 (C #called) (Called 𝓤 H A mem run)) where
-    walk : Is (ShrSlice (named 0) κ u8) s (lentVal s ∷ []) → ent 𝓤 (onEntry 𝓤 H A open-fn.signature (κ, tt) (q, tt) (s, tt) (lentVal s ∷ [], tt)) (WpFn 𝓤 H C Λ code.function (lentVal s ∷ []) Post)
+    walk : Is (ShrSlice (named 0) κ u8) s (lentVal s ∷ [])
+        → ent 𝓤 (onEntry 𝓤 H A open-fn.signature (κ, tt) (q, tt) (s, tt) (lentVal s ∷ [], tt)) (WpFn 𝓤 H C Λ code.function (lentVal s ∷ []) Post)
     walk p =
         let wt = shr-slice-lawful 𝓤 H A W (named 0) κ u8 .typed s (lentVal s ∷ []) p .0 in
         qed W (raw (onEntry 𝓤 H A open-fn.signature (κ, tt) (q, tt) (s, tt) (lentVal s ∷ [], tt)) ∷ []) ∵ enter ! C Λ code.function (lentVal s ∷ []) _ $
@@ -119,7 +126,8 @@ module _ {M : Type 1} (𝓤 : URA M) (H : Heap 𝓤) (A : Atoms 𝓤) (W : Given
   walks : (C : Calls 𝓤 H) (Λ : Loops 𝓤 H) → FmC 𝓤 H (W .laws) C → Triple 𝓤 (C #called) (Called 𝓤 H A mem run)
       → Walks 𝓤 H A open-fn.ended stayed (WpFn 𝓤 H C Λ code.function) (open-fn.clauses 𝓤 H A mem run)
   walks C Λ fm known =
-      walked 𝓤 H A open-fn.ended stayed (open-fn.clauses 𝓤 H A mem run) (WpFn 𝓤 H C Λ code.function) (λ κs. (slice-vals, tt)) (λ κs. (shr-slice-tells (named 0) (κs .0) u8, tt))
+      walked 𝓤 H A open-fn.ended stayed (open-fn.clauses 𝓤 H A mem run) (WpFn 𝓤 H C Λ code.function)
+      (λ κs. (slice-vals, tt)) (λ κs. (shr-slice-tells (named 0) (κs .0) u8, tt))
       (λ κs qs bounds a g are. via 𝓤 _ (fst∗ 𝓤 _ (emp 𝓤)) (walk 𝓤 H A W mem run (κs .0) (qs .0) (a .0) C Λ fm known (are .0)))
 
   meets : (𝓣 : Tables 𝓤 H) → Triple 𝓤 (𝓣 .C #called) (Called 𝓤 H A mem run)

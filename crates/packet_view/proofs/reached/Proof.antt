@@ -46,7 +46,8 @@ B κs = Read.the-row (namedLft 1 0 tt κs)
 abbrev stayed : Stays (reached.ended .signature .params) (reached.ended .kept)
 stayed = (stay-none B yes, tt)
 
-module _ {M : Type 1} (𝓤 : URA M) (H : Heap 𝓤) (A : Atoms 𝓤) (W : Given 𝓤 H A) (mem : Memory → SProp 𝓤) (run : Routine → Fun 𝓤) (κ : Lft) (q : Share) (a : PacketRead) where
+module _ {M : Type 1} (𝓤 : URA M) (H : Heap 𝓤) (A : Atoms 𝓤) (W : Given 𝓤 H A) (mem : Memory → SProp 𝓤) (run : Routine → Fun 𝓤)
+    (κ : Lft) (q : Share) (a : PacketRead) where
   abbrev α : NamedLft
   α = namedLft 1 0 tt (κ, tt)
 
@@ -59,18 +60,21 @@ module _ {M : Type 1} (𝓤 : URA M) (H : Heap 𝓤) (A : Atoms 𝓤) (W : Given
   exits : ent 𝓤 (onEntry 𝓤 H A reached.signature (κ, tt) (q, tt) (a, tt) (mach ∷ [], tt)) (Post (View′.lowered (viewAt a)))
   exits =
       qed W ((‵ (flft κ q) ⊛ ‵ ftrue) ∷ ‵ (owns (B (κ, tt) ∷ []) (a, tt) (mach ∷ [], tt)) ∷ []) ∵
-      suffices ! _ (ends-at 𝓤 H A reached.ended stayed (reached.clauses 𝓤 H A mem run) W (((κ, tt), (q, tt), tt, (a, tt), (mach ∷ [], tt)), tt) (View′.lowered (viewAt a)) (viewAt a) (tt, tt) (tt, tt)) $
+      suffices ! _ (ends-at 𝓤 H A reached.ended stayed (reached.clauses 𝓤 H A mem run) W (((κ, tt), (q, tt), tt, (a, tt), (mach ∷ [], tt)), tt)
+      (View′.lowered (viewAt a)) (viewAt a) (tt, tt) (tt, tt)) $
       says ! refl $ frame ! $ fsplit ! $ use1 W (‵ (OwnView α (viewAt a)) ⊛ ‵ (OwnRead α a)) (at-place 𝓤 H A W α a) $ split ! $
       -- [what the view owns; what the answer owns; nothing]
       move ! (1 ∷ 2 ∷ []) $ fjoin ! $ frame ! $ done !
 
   module _ (C : Calls 𝓤 H) (Λ : Loops 𝓤 H) where
-    walk : Holds (hasTy (Read′.mir (named 0)) mach) × WT mach → ent 𝓤 (onEntry 𝓤 H A reached.signature (κ, tt) (q, tt) (a, tt) (mach ∷ [], tt)) (WpFn 𝓤 H C Λ code.function (mach ∷ []) Post)
+    walk : Holds (hasTy (Read′.mir (named 0)) mach) × WT mach
+        → ent 𝓤 (onEntry 𝓤 H A reached.signature (κ, tt) (q, tt) (a, tt) (mach ∷ [], tt)) (WpFn 𝓤 H C Λ code.function (mach ∷ []) Post)
     walk wt =
         qed W (raw (onEntry 𝓤 H A reached.signature (κ, tt) (q, tt) (a, tt) (mach ∷ [], tt)) ∷ []) ∵ enter ! C Λ code.function (mach ∷ []) _ $
         alloc1 ! (λ l₀. alloc1 ! (λ l₁. alloc1 ! (λ l₂. alloc1 ! (λ l₃. alloc0 ! $ params1 ! $ pass1 ! (init ! 4 refl wt) $ pass0 ! $
         assigns ! (of-opd ! (load ! (from ! (fld ! refl (stop !))) (look-in ! 4 (sub ! 0 refl (whole !))))) (from ! (stop !)) (init ! 2 refl (tt, wt .1 .0)) $
-        assigns ! (of-opd ! (load ! (from ! (fld ! refl (fld ! refl (stop !)))) (look-in ! 4 (sub ! 2 refl (sub ! 1 refl (whole !)))))) (from ! (stop !)) (init ! 0 refl (tt, wt .1 .1 .0 .1 .1 .0)) $
+        assigns ! (of-opd ! (load ! (from ! (fld ! refl (fld ! refl (stop !)))) (look-in ! 4 (sub ! 2 refl (sub ! 1 refl (whole !)))))) (from ! (stop !))
+        (init ! 0 refl (tt, wt .1 .1 .0 .1 .1 .0)) $
         assigns ! (agg ! (and-then ! (load ! (from ! (stop !)) (look ! 2 refl)) (and-then ! (load ! (from ! (stop !)) (look ! 0 refl)) (no-more !)))) (from ! (stop !))
         (init ! 6 refl (tt, (wt .1 .0, (wt .1 .1 .0 .1 .1 .0, tt)))) $
         returns ! (look ! 6 refl) $ forget ! 0 refl $ forget ! 2 refl $ forget ! 4 refl $ forget ! 6 refl $

@@ -133,19 +133,23 @@ module _ {M : Type 1} (𝓤 : URA M) (H : Heap 𝓤) (A : Atoms 𝓤) (W : Given
   said r = exE 𝓤 _ (λ ws. snd∗ 𝓤 (sem 𝓤 H A (lasts by-value.ended κs given-args ws)) (fact 𝓤 (r ≡ found)))
 
   exits-lowered : (r : Decoded) → r ≡ found
-      → ent 𝓤 (⋆ 𝓤 H A (‵ (OwnAnswer r) ∷ (‵ (flft κ q) ⊛ ‵ (flft κ′ q′) ⊛ ‵ ftrue) ∷ (‵ (OwnView α d) ⊛ ‵ OwnT) ∷ [])) (Post (Read′.lowered (handed (d .packet) r)))
+      → ent 𝓤 (⋆ 𝓤 H A (‵ (OwnAnswer r) ∷ (‵ (flft κ q) ⊛ ‵ (flft κ′ q′) ⊛ ‵ ftrue) ∷ (‵ (OwnView α d) ⊛ ‵ OwnT) ∷ []))
+      (Post (Read′.lowered (handed (d .packet) r)))
   exits-lowered r e =
       qed W (‵ (OwnAnswer r) ∷ (‵ (flft κ q) ⊛ ‵ (flft κ′ q′) ⊛ ‵ ftrue) ∷ (‵ (OwnView α d) ⊛ ‵ OwnT) ∷ []) ∵
       suffices ! _ (ends-at 𝓤 H A symbol.ended stayed (symbol.clauses 𝓤 H A mem run) W ((κs, (q, (q′, tt)), tt, args, at), tt)
       (Read′.lowered (handed (d .packet) r)) (handed (d .packet) r) (tt, (tt, (tt, tt))) (tt, (tt, (tt, tt)))) $
       says ! (ap (handed (d .packet)) e) $ move ! (1 ∷ []) $ frame ! $ move ! (1 ∷ []) $ split ! $ move ! (0 ∷ 2 ∷ []) $
       use2 W (‵ (OwnView α d) ⊛ ‵ (OwnRead α (handed (d .packet) r))) (put-behind 𝓤 H A W α d r) $ split ! $
-      nothing ! $ owned ! u32 (Is u32) (uint-makes 𝓤 H A W w32) n _ (refl, ok) $ fjoin ! $ move ! (3 ∷ 0 ∷ []) $ fjoin ! $ move ! (1 ∷ 0 ∷ []) $ fjoin ! $ frame ! $ done !
+      nothing ! $ owned ! u32 (Is u32) (uint-makes 𝓤 H A W w32) n _ (refl, ok) $ fjoin ! $ move ! (3 ∷ 0 ∷ []) $ fjoin ! $ move ! (1 ∷ 0 ∷ []) $
+      fjoin ! $ frame ! $ done !
 
   exits : (r : Decoded) (u : Val) → Is D.the-row r (u ∷ []) → r ≡ found
-      → ent 𝓤 (⋆ 𝓤 H A (‵ (D.the-row .own r (u ∷ [])) ∷ (‵ (flft κ q) ⊛ ‵ (flft κ′ q′) ⊛ ‵ ftrue) ∷ (‵ (OwnView α d) ⊛ ‵ OwnT) ∷ [])) (Post (handedVal (d .packet) u))
+      → ent 𝓤 (⋆ 𝓤 H A (‵ (D.the-row .own r (u ∷ [])) ∷ (‵ (flft κ q) ⊛ ‵ (flft κ′ q′) ⊛ ‵ ftrue) ∷ (‵ (OwnView α d) ⊛ ‵ OwnT) ∷ []))
+      (Post (handedVal (d .packet) u))
   exits r u is e =
-      subst⁻¹ (λ (x : Val). ent 𝓤 (⋆ 𝓤 H A (‵ (D.the-row .own r (x ∷ [])) ∷ (‵ (flft κ q) ⊛ ‵ (flft κ′ q′) ⊛ ‵ ftrue) ∷ (‵ (OwnView α d) ⊛ ‵ OwnT) ∷ [])) (Post (handedVal (d .packet) x)))
+      subst⁻¹ (λ (x : Val). ent 𝓤 (⋆ 𝓤 H A (‵ (D.the-row .own r (x ∷ [])) ∷ (‵ (flft κ q) ⊛ ‵ (flft κ′ q′) ⊛ ‵ ftrue) ∷ (‵ (OwnView α d) ⊛ ‵ OwnT) ∷ []))
+      (Post (handedVal (d .packet) x)))
       (lowered-is r u is) (exits-lowered r e)
 
   module _ (C : Calls 𝓤 H) (Λ : Loops 𝓤 H) (fm : FmC 𝓤 H (W .laws) C) (known : Triple 𝓤 (C #called) (Called 𝓤 H A mem run)) where
@@ -170,8 +174,10 @@ module _ {M : Type 1} (𝓤 : URA M) (H : Heap 𝓤) (A : Atoms 𝓤) (W : Given
         land ! (from ! (stop !)) (init ! 5 refl (LL.lawful D.the-type D′.the-laws 𝓤 H A W .typed r _ is .0)) $
         assigns ! (agg ! (and-then ! (load ! (from ! (stop !)) (look ! 7 refl)) (and-then ! (load ! (from ! (stop !)) (look ! 5 refl)) (no-more !)))) (from ! (stop !))
         (init ! 15 refl (handed-typed (d .packet) r u is, (wt .1 .0, (LL.lawful D.the-type D′.the-laws 𝓤 H A W .typed r _ is .0 .1, tt)))) $
-        returns ! (look ! 15 refl) $ forget ! 3 refl $ forget ! 5 refl $ forget ! 7 refl $ forget ! 9 refl $ forget ! 11 refl $ forget ! 13 refl $ forget ! 15 refl $
-        move ! (15 ∷ 16 ∷ []) $ free1 ! $ move ! (13 ∷ 14 ∷ []) $ free1 ! $ move ! (11 ∷ 12 ∷ []) $ free1 ! $ move ! (9 ∷ 10 ∷ []) $ free1 ! $ move ! (7 ∷ 8 ∷ []) $ free1 ! $
+        returns ! (look ! 15 refl) $ forget ! 3 refl $ forget ! 5 refl $ forget ! 7 refl $ forget ! 9 refl $ forget ! 11 refl $ forget ! 13 refl $
+        forget ! 15 refl $
+        move ! (15 ∷ 16 ∷ []) $ free1 ! $ move ! (13 ∷ 14 ∷ []) $ free1 ! $ move ! (11 ∷ 12 ∷ []) $ free1 ! $ move ! (9 ∷ 10 ∷ []) $ free1 ! $
+        move ! (7 ∷ 8 ∷ []) $ free1 ! $
         move ! (5 ∷ 6 ∷ []) $ free1 ! $ move ! (3 ∷ 4 ∷ []) $ free1 ! $ free0 ! $ by ! (exits r u is e))))))))))))
 
 module _ {M : Type 1} (𝓤 : URA M) (H : Heap 𝓤) (A : Atoms 𝓤) (W : Given 𝓤 H A) (mem : Memory → SProp 𝓤) (run : Routine → Fun 𝓤) where
@@ -181,14 +187,20 @@ module _ {M : Type 1} (𝓤 : URA M) (H : Heap 𝓤) (A : Atoms 𝓤) (W : Given
       walked 𝓤 H A symbol.ended stayed (symbol.clauses 𝓤 H A mem run) (WpFn 𝓤 H C Λ code.function)
       (λ κs. (LL.vals (View.the-type (namedLft 2 0 tt κs)) (View′.the-laws (namedLft 2 0 tt κs)), (slice-vals, (uint-vals w32, tt))))
       (λ κs. (LL.tells (View.the-type (namedLft 2 0 tt κs)) (View′.the-laws (namedLft 2 0 tt κs)), (shr-slice-tells (named 1) (κs .1 .0) u8, (uint-tells w32, tt))))
-      (λ κs qs bounds a g are. via 𝓤 _ (fst∗ 𝓤 _ (emp 𝓤)) (walk 𝓤 H A W mem run (κs .0) (κs .1 .0) (qs .0) (qs .1 .0) (a .0) (a .1 .0) (a .1 .1 .0) (are .1 .1 .0 .1) C Λ fm known
+      (λ κs qs bounds a g are. via 𝓤 _ (fst∗ 𝓤 _ (emp 𝓤)) (walk 𝓤 H A W mem run (κs .0) (κs .1 .0) (qs .0) (qs .1 .0) (a .0) (a .1 .0) (a .1 .1 .0) (are .1 .1 .0 .1)
+      C Λ fm known
       (LL.lawful (View.the-type (namedLft 2 0 tt κs)) (View′.the-laws (namedLft 2 0 tt κs)) 𝓤 H A W .typed (a .0) _ (are .0) .0) (are .1 .0)))
 
   meets : (𝓣 : Tables 𝓤 H) → Triple 𝓤 (𝓣 .C #called) (Called 𝓤 H A mem run)
       → Meets 𝓤 H A symbol.signature (WpFn 𝓤 H (𝓣 .C) (𝓣 .Λ) code.function) (symbol.spec 𝓤 H A mem run)
   meets 𝓣 known =
-      walk-meets 𝓤 H A symbol.ended stayed W
-      (goes-none 𝓤 H A W 2 B yes (λ κs x f. refl), (goes-none-slice 𝓤 H A W 2 (1 ∷ []) tt (plain (λ _. u8)) yes, (goes-none 𝓤 H A W 2 (λ _. u32) yes (λ κs x f. refl), tt)))
+      walk-meets 𝓤 H A symbol.ended stayed W (
+        goes-none 𝓤 H A W 2 B yes (λ κs x f. refl),
+        (
+          goes-none-slice 𝓤 H A W 2 (1 ∷ []) tt (plain (λ _. u8)) yes,
+          (goes-none 𝓤 H A W 2 (λ _. u32) yes (λ κs x f. refl), tt),
+        ),
+      )
       (symbol.clauses 𝓤 H A mem run) (WpFn 𝓤 H (𝓣 .C) (𝓣 .Λ) code.function) (WpFn-mono 𝓤 H (W .laws) 𝓣 code.function) (walks (𝓣 .C) (𝓣 .Λ) (fmOf 𝓤 H (W .laws) 𝓣) known)
 
 pub symbol-spec : {M : Type 1} → stated.statement M
