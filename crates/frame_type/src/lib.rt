@@ -1,6 +1,9 @@
 // The types of a packet's first frame (RFC 6716, section 4.2.7.3), for a host that wants to know them before it decodes: read through a packet view
 // that is opened here and not kept.
 ghost use mathlib.Core.Path.{_≡_};
+ghost use mathlib.Core.Bool.{cond};
+ghost use lib.Dec.{leb};
+ghost use Rattle.entcode.specs.Reading.{decOpen};
 ghost use Rattle.frame_type.specs.Kind.{typeRule, frameType};
 use tables::rows::index_rows;
 
@@ -12,15 +15,29 @@ pub struct FrameType {
     pub offset: u32,
 }
 
+// ---- refusals
+
+fn length_rule(packet: &[u8]) -> u32
+    ensures { λ n. ⌜ n ≡ decOpen (now (packet .entry)) .refusal ⌝ }
+{
+    if packet.len() <= 1275 { 0 } else { 1 }
+}
+
+fn active_rule(active: u32) -> u32
+    ensures { λ n. ⌜ n ≡ cond (leb active 1) 0 4 ⌝ }
+{
+    if active <= 1 { 0 } else { 4 }
+}
+
 fn type_rule(packet: &[u8], active: u32) -> u32
     ensures { λ n. ⌜ n ≡ typeRule (now (packet .entry)) active ⌝ }
 {
-    if packet.len() <= 1275 {
-        if active <= 1 { 0 } else { 4 }
-    } else {
-        1
-    }
+    let packets = length_rule(packet);
+    let flags = active_rule(active);
+    refusals::first_refusal(packets, flags)
 }
+
+// ---- the call
 
 pub fn frame_type(packet: &[u8], active: u32) -> FrameType
     ensures { λ a. ⌜ a ≡ frameType (now (packet .entry)) active ⌝ }
