@@ -32,9 +32,9 @@ fn active_rule(active: u32) -> u32
 fn type_rule(packet: &[u8], active: u32) -> u32
     ensures { λ n. ⌜ n ≡ typeRule (now (packet .entry)) active ⌝ }
 {
-    let packets = length_rule(packet);
-    let flags = active_rule(active);
-    refusals::first_refusal(packets, flags)
+    let of_packet = length_rule(packet);
+    let of_active = active_rule(active);
+    refusals::first_refusal(of_packet, of_active)
 }
 
 // ---- the call
