@@ -90,6 +90,15 @@ tg_written tg_enc_bits(uint8_t *buf, size_t len, tg_writer w, uint32_t value, ui
  * Refusals 1 to 3. */
 tg_written tg_enc_done(uint8_t *buf, size_t len, tg_writer w);
 
+typedef struct {
+    uint32_t refusal, signal_type, offset_type;
+} tg_types;
+
+/* The types of the frame that a packet starts with, before any of it is decoded: active 0 or 1;
+ * signal_type 0 to 2 (2 is voiced), offset_type 0 or 1. Refusals 1, then 4 (active); a refusal
+ * answers both types as 0. */
+tg_types tg_frame_type(const uint8_t *packet, size_t len, uint32_t active);
+
 /* The side indices of a frame. */
 typedef struct {
     int8_t gains[4], ltp[4], nlsf[17];

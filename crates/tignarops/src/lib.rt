@@ -6,11 +6,13 @@ ghost use Rattle.entcode.specs.Flat.{out};
 ghost use Rattle.entcode.specs.Writing.{sent, encSym, encTell, encDone, encOpen};
 ghost use Rattle.silk.specs.Record.{settingOf};
 ghost use Rattle.silk.specs.FrameCalls.{decodeIndices, pulsed, decodePulses};
+ghost use Rattle.frame_type.specs.Kind.{frameType};
 ghost use Rattle.spectrum.specs.Calls.{stabiliseCall, decodeCall};
 use entcode::Dec;
 use entcode::Decoded;
 use entcode::Enc;
 use entcode::Encoded;
+use frame_type::FrameType;
 use silk::Indices;
 use silk::IndicesRead;
 use spectrum::Moves;
@@ -115,6 +117,15 @@ pub extern "C" fn tg_enc_done(buf: &mut [u8], w: Enc) -> Encoded
     ensures { λ a. ⌜ sent (now (buf .exit)) a ≡ encDone (out (now (buf .entry)) w) ⌝ }
 {
     entenc::ec_enc_done(buf, w)
+}
+
+// ---- the types of a packet's first frame
+
+#[no_mangle]
+pub extern "C" fn tg_frame_type(packet: &[u8], active: u32) -> FrameType
+    ensures { λ a. ⌜ a ≡ frameType (now (packet .entry)) active ⌝ }
+{
+    frame_type::frame_type(packet, active)
 }
 
 // ---- side indices
