@@ -14,6 +14,7 @@ use Rattle.tignarops.proofs.tg_enc_icdf.Reads as enc-icdf
 use Rattle.tignarops.proofs.tg_enc_uint.Reads as enc-uint
 use Rattle.tignarops.proofs.tg_enc_bits.Reads as enc-bits
 use Rattle.tignarops.proofs.tg_enc_done.Reads as enc-done
+use Rattle.tignarops.proofs.tg_frame_type.Reads as frame-type
 use Rattle.tignarops.proofs.tg_decode_indices.Reads as decode-indices
 use Rattle.tignarops.proofs.tg_decode_pulses.Reads as decode-pulses
 use Rattle.tignarops.proofs.tg_nlsf_decode.Reads as nlsf-decode
@@ -70,6 +71,9 @@ enc-bits-one k x a c e f p q = (one (λ s. s .answer) p q, one (λ s. s .buf) p 
 
 pub enc-done-one : Leaves enc-done.Post (λ e. e .0 .now)
 enc-done-one k x a c e f p q = (one (λ s. s .answer) p q, one (λ s. s .buf) p q)
+
+pub frame-type-one : Answers frame-type.Post
+frame-type-one k x a c e f p q = one (λ s. s) p q
 
 pub decode-indices-one : Answers decode-indices.Post
 decode-indices-one k x a c e f p q = one (λ s. s) p q
