@@ -3,27 +3,20 @@ use borrow.Author.Needs.{needs}
 use mathlib.Core.Path.{_≡_}
 use native.Mathlib.Omega.{arith}
 use borrow.Author.Tests.{eq-eqb, ne-eqb}
-use Prim.Native.Nat.{ℕ}
-use lib.Dec.{T}
-use lib.IntN.{ℤ, pos, negsuc, natAbs}
-use lib.Signed.{nonNeg}
-use mir.Syntax.{w8, w16, w32}
-use mir.Val.{Fits, SFits}
+use lib.IntN.{natAbs}
+use mir.Syntax.{w8, w16}
+use mir.Val.{SFits}
 use mir.Facts.{toZ-ofZ}
-use Rattle.silk.specs.IndexParts.{Upto}
+use Rattle.silk.specs.IndexParts.{upto-fits}
 use Rattle.silk.specs.FrameCalls.{nextLag}
 use Rattle.decode_indices.proofs.accepted.Statement.{statement}
 use Rattle.decode_indices.proofs.accepted.Tie as tie
-
-signal-fits : (z : ℤ) → Upto 2 z → T (nonNeg z) × Fits w32 (natAbs z)
-signal-fits (pos n) h = (tt, omega (arith, h .most))
-signal-fits (negsuc n) h = let e = h .least in let q : _≡_ {A = ℕ} 0 1 = cc in absurd (omega arith)
 
 cast-signal : tie.Need-cast-signal
 cast-signal c =
     let z = c .before .before in
     let f : SFits w8 (z .args .x .signal) = search needs in
-    rw (toZ-ofZ f) (signal-fits (z .args .x .signal) (z .pre))
+    rw (toZ-ofZ f) (upto-fits (z .args .x .signal) (omega arith) (z .pre))
 
 returns : tie.Need-returns
 unfolding nextLag
