@@ -6,10 +6,14 @@ use mathlib.Core.Bool.{Bool, true, false, cond}
 use mathlib.Core.List.{List, flatten}
 use native.Mathlib.Omega.{arith}
 use borrow.Author.Tests.{eqb-true, eqb-false}
-use lib.Dec.{eqb}
+use lib.Dec.{T, eqb}
 use lib.IntN.{ℤ, pos, negsuc, natAbs, _-ℤ_}
 use lib.ListN.{length, getD, set, length-set}
 use lib.Seq.{getD-set-same, getD-set-other}
+use lib.Signed.{nonNeg}
+use mir.Syntax.{Width, w32}
+use mir.Val.{Fits, hbits, toZ, ofZ}
+use mir.Facts.{toZ-ofZ}
 use Rattle.tests.specs.Choice.{chosen, by-lt}
 use Rattle.ints.specs.Parts.{up, down}
 use Rattle.ints.specs.Sums.{up-diff, down-diff}
@@ -36,6 +40,16 @@ pub record Upto (n : ℕ) (z : ℤ) : Type 0 where
 
 pub upto : {n : ℕ} (v : ℕ) → v ≤ n → Upto n (pos v)
 upto v h = record { least = refl; most = h }
+
+-- a number from -n to n is kept by a signed type that holds n
+pub abs-kept : {n : ℕ} (w : Width) (z : ℤ) → natAbs z ≤ n → n < 2 ^ hbits w → toZ w (ofZ w z) ≡ z
+abs-kept w (pos v) h l = toZ-ofZ {w = w} (record { sfits = omega arith })
+abs-kept w (negsuc v) h l = toZ-ofZ {w = w} (record { sfits = omega arith })
+
+-- one from 0 to n is one of 32 bits without a sign
+pub upto-fits : {n : ℕ} (z : ℤ) → n < 2 ^ 32 → Upto n z → T (nonNeg z) × Fits w32 (natAbs z)
+upto-fits (pos v) l h = (tt, omega (arith, h .most))
+upto-fits (negsuc v) l h = let e = h .least in let q : _≡_ {A = ℕ} 0 1 = cc in absurd (omega arith)
 
 -- m is l but for n places from k on, which have P
 pub record Filled (P : ℤ → Type 0) (k n : ℕ) (l m : List ℤ) : Type 0 where
@@ -95,6 +109,9 @@ more-gains-end (suc n) k x h =
 -- the first gain: 0 to 63 by itself, 0 to 40 against the frame before
 abbrev pub firstMost : ℕ → ℕ
 firstMost mode = cond (eqb mode 2) 40 63
+
+pub first-most : (mode : ℕ) → firstMost mode ≤ 63
+first-most mode = chosen (λ (n : ℕ). n ≤ 63) (eqb mode 2) (λ e. omega arith) (λ e. omega arith)
 
 first-gain-end : (mode signal : ℕ) (x : Indices) → signal < 3 → 0 < length (x .gains)
     → Ends (Gained (Filled (Upto (firstMost mode)) 0 1) x) 2 (firstGain mode signal x)

@@ -17,6 +17,7 @@ pub mod IndexCases
 pub mod IndexWriting
 pub mod IndexSays
 pub mod IndexFields
+pub mod IndexTold
 pub mod PulseCallLaws
 pub mod PulseWriting
 pub mod PulseWritten
