@@ -10,6 +10,8 @@ use entdec_run::ec_dec_icdf8_run;
 use silk::Indices;
 use silk::IndicesPart;
 
+pub mod tell; // tell.rt: what a record says of them, written
+
 // ---- lag
 
 // Where the row of a lag's low part starts; it has khz / 2 entries.

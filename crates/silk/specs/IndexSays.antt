@@ -245,12 +245,12 @@ spectrum-says khz signal x r p h i =
 
 -- ---- pitch
 
-high-part : (khz v : ℕ) → Rate khz → v ≤ 16 * khz - 1 → v / (khz / 2) < 32
+pub high-part : (khz v : ℕ) → Rate khz → v ≤ 16 * khz - 1 → v / (khz / 2) < 32
 high-part khz v eight h = omega arith
 high-part khz v twelve h = omega arith
 high-part khz v sixteen h = omega arith
 
-low-part : (khz v : ℕ) → Rate khz → v % (khz / 2) < khz / 2
+pub low-part : (khz v : ℕ) → Rate khz → v % (khz / 2) < khz / 2
 low-part khz v eight = omega arith
 low-part khz v twelve = omega arith
 low-part khz v sixteen = omega arith

@@ -1,5 +1,5 @@
--- One turn of each loop that writes side indices: what is left to say before a turn is what it writes, then what is left to say after it. Counted as
--- code counts, by k + 1; the tree starts from the record itself, and stays at it. Assumes nothing.
+-- Writing side indices part by part, and one turn of each loop: what is left to say before a turn is what it writes, then what is left to say after
+-- it. Counted as code counts, by k + 1; the tree starts from the record itself, and stays at it. Assumes nothing.
 use Prim.Native.Nat.{ℕ, suc, _+_, _-_, _*_, _/_, _≤_, _<_}
 use mathlib.Core.Path.{_≡_, refl, ap, ap₂, _∙_}
 use mathlib.Core.List.{List, [], _∷_, _++_}
@@ -9,16 +9,25 @@ use lib.IntN.{ℤ, pos, natAbs}
 use lib.ListN.{length, getD}
 use Rattle.sheet.specs.Directory.{deltaGainRow, residualRow, filterRow}
 use Rattle.entcode.specs.Models.{Sym, tab}
+use Rattle.entcode.specs.Flat.{Out}
 use Rattle.tree.specs.Asks.{Asks, symbols, meant, of}
 use Rattle.tree.specs.AsksLaws.{symbols-then, symbols-of, meant-of}
 use Rattle.tree.specs.Says.{says-means}
+use Rattle.tree.specs.Told.{Told}
 use Rattle.silk.specs.declared.Indices.{Indices}
 use Rattle.silk.specs.Record.{withNlsf}
-use Rattle.silk.specs.IndexRows.{Rate, rate-most}
+use Rattle.silk.specs.IndexRows.{Writing, Rate, rate-most}
 use Rattle.silk.specs.IndexSyntax.{saidAt, moreGains, residualPick, residual, residuals, filters}
 use Rattle.silk.specs.IndexSteps.{less-suc}
 use Rattle.silk.specs.IndexParts.{Upto}
 use Rattle.silk.specs.IndexSays.{gain-same, filter-same, residual-same, residual-says}
+
+-- a part was written: the next one may be
+pub writing-next : {R A : Type 0} {o q : Out} {y : R} {t : Asks R A} {l : List ℕ} {n m : ℕ} (k : ℕ)
+    → Writing o l n → Told o y t m q → n + m ≤ k → Writing q l k
+writing-next k h p e = record { core = p .core; few = omega (arith, h .few, p .most); rows = h .rows }
+
+-- ---- loops
 
 -- a symbol of a row
 abbrev pub symbolOf : List ℕ → ℕ → Sym
