@@ -5,12 +5,12 @@ use mathlib.Core.Path.{_≡_, refl, sym, ap, subst, _∙_}
 use mathlib.Core.Bool.{Bool, true, false, cond}
 use mathlib.Core.List.{List}
 use native.Mathlib.Omega.{arith}
-use borrow.Author.Tests.{eqb-true, eq-eqb}
+use borrow.Author.Tests.{eqb-true, eq-eqb, ne-eqb}
 use lib.Dec.{eqb}
 use lib.IntN.{pos}
 use Rattle.tests.specs.Choice.{chosen}
-use Rattle.tests.specs.Decides.{Decides, decides-as}
-use Rattle.refusals.specs.First.{firstOf, first-none}
+use Rattle.tests.specs.Decides.{Decides, decides-as, decides-alike}
+use Rattle.refusals.specs.First.{firstOf, first-none, none-first, first-first}
 use Rattle.entcode.specs.declared.Dec.{Dec}
 use Rattle.entcode.specs.Flat.{Out, out}
 use Rattle.entcode.specs.Sound.{gateW}
@@ -26,7 +26,7 @@ use Rattle.silk.specs.IndexSyntax.{relativeIn, indices}
 use Rattle.silk.specs.IndexParts.{Upto}
 use Rattle.silk.specs.IndexRanges.{Shape, indices-end}
 use Rattle.silk.specs.FrameCalls.{settingOk, decodeIndices}
-use Rattle.silk.specs.IndexCalls.{Chosen, chosen-setting, indices-accepted}
+use Rattle.silk.specs.IndexCalls.{Chosen, setting-chosen, chosen-setting, four-none, indices-accepted}
 use Rattle.silk.specs.IndexFields.{WritesIn, range-writes}
 use Rattle.silk.specs.IndexWriting.{sayable, all-said, tellRule, IndicesSent, indicesTold, encodeIndices, indices-told, told-sayable}
 use Rattle.encode_indices.specs.Fields.{fields-sayable}
@@ -35,6 +35,28 @@ use Rattle.encode_indices.specs.Accepted.{sayable-writes}
 -- refusal 8 is exactly a field outside its range
 pub fields-decide : (s : Setting) (x : Indices) → Chosen s → Shape x → Decides (sayable s x) (WritesIn s x)
 fields-decide s x c h = record { sure = sayable-writes s x c h; seen = fields-sayable s x c h }
+
+-- ---- the order of refusals: n is the first of gate and numbers, and where it is 0 the fields decide
+
+module _ (o : Out) (x : Indices) (s : Setting) (n : ℕ) (e : n ≡ firstOf (gateW (o .buf) (o .state)) (cond (settingOk s) 0 4)) where
+  rule-is : firstOf n (cond (sayable s x) 0 8) ≡ tellRule o s x
+  rule-is =
+      ap (λ (m : ℕ). firstOf m (cond (sayable s x) 0 8)) e
+      ∙ sym (first-first (gateW (o .buf) (o .state)) (cond (settingOk s) 0 4) (cond (sayable s x) 0 8))
+
+  pub rule-chosen : n ≡ 0 → Chosen s
+  rule-chosen z = setting-chosen s (four-none (settingOk s) (first-none (gateW (o .buf) (o .state)) _ (sym e ∙ z) .1))
+
+  pub rule-early : (n ≡ 0 → ⊥) → n ≡ tellRule o s x
+  unfolding firstOf
+  rule-early h = subst (λ (t : Bool). cond t (cond (sayable s x) 0 8) n ≡ tellRule o s x) (ne-eqb n 0 h) rule-is
+
+  rule-late : n ≡ 0 → cond (sayable s x) 0 8 ≡ tellRule o s x
+  unfolding firstOf
+  rule-late z = subst (λ (t : Bool). cond t (cond (sayable s x) 0 8) n ≡ tellRule o s x) (eq-eqb n 0 z) rule-is
+
+  pub rule-fields : n ≡ 0 → Shape x → (t : Bool) → Decides t (WritesIn s x) → cond t 0 8 ≡ tellRule o s x
+  rule-fields z h t d = ap (λ (u : Bool). cond u 0 8) (decides-alike d (fields-decide s x (rule-chosen z) h)) ∙ rule-late z
 
 -- ---- an accepted call
 
@@ -73,11 +95,6 @@ module _ (o : Out) (x : Indices) (s : Setting) where
 
 -- ---- a record that was read from a packet, whatever it held and whatever fields were handed in
 
--- past gate and numbers the fields decide
-late : (o : Out) (x : Indices) (s : Setting) → gateW (o .buf) (o .state) ≡ 0 → settingOk s ≡ true → tellRule o s x ≡ cond (sayable s x) 0 8
-unfolding firstOf
-late o x s g e = rw (eq-eqb _ _ g, e)
-
 module _ (b : List ℕ) (d : Dec) (x : Indices) (s : Setting) (y : Bytes b) (h : Shape x) (z : decodeIndices b d x s .refusal ≡ 0) where
   abbrev read : Indices
   read = decodeIndices b d x s .indices
@@ -93,7 +110,9 @@ module _ (b : List ℕ) (d : Dec) (x : Indices) (s : Setting) (y : Bytes b) (h :
 
   module _ (o : Out) (g : gateW (o .buf) (o .state) ≡ 0) where
     answers : encodeIndices o read s .answer .refusal ≡ cond (sayable s read) 0 8
-    answers = refusal-is o read s ∙ late o read s g (chosen-setting s (indices-accepted b d x s y h z .was .numbers))
+    answers =
+        let c = chosen-setting s (indices-accepted b d x s y h z .was .numbers) in
+        refusal-is o read s ∙ sym (rule-late o read s 0 (sym (none-first _ _ g (ap (λ (t : Bool). cond t 0 4) c))) refl)
 
     pub read-taken : LagWrites → encodeIndices o read s .answer .refusal ≡ 0
     read-taken l = answers ∙ ap (λ (t : Bool). cond t 0 8) (read-decides .seen l)
