@@ -16,13 +16,19 @@ ghost use Rattle.silk.specs.IndexWriting.{tellRule, encodeIndices};
 use entcode::Enc;
 use entenc::gate::gate;
 use index_fields::fields_ok_run;
+use index_gains::tell::gains_tell_run;
+use index_gains::tell::interpolation_tell_run;
+use index_gains::tell::kind_tell_run;
+use index_gains::tell::seed_tell_run;
 use index_numbers::next_lag_run;
 use index_numbers::next_type_run;
 use index_numbers::numbers_rule;
 use index_pitch::tell::pitch_tell_run;
+use index_spectrum::tell::spectrum_tell_run;
 use refusals::first_refusal;
 use silk::Indices;
 use silk::IndicesWritten;
+use tables::rows::index_rows;
 
 // ---- refusals
 
@@ -39,7 +45,10 @@ fn refusal(
 ) -> u32
     ensures { λ n. ⌜ ((prevlag : ℤ) → n ≡ tellRule (out (now (buf .entry)) w) (settingOf khz subframes active mode prevtype prevlag) x) ⌝ }
 {
-    let n = first_refusal(gate(buf, w), numbers_rule(khz, subframes, active, mode, prevtype));
+    let n = first_refusal(
+        gate(buf, w),
+        numbers_rule(khz, subframes, active, mode, prevtype),
+    );
     if n == 0 {
         if fields_ok_run(x, khz, subframes, active, mode) {
             0
@@ -75,6 +84,32 @@ fn voicing_tell(
     w
 }
 
+// All of them, in order.
+fn all_tell(
+    buf: &mut [u8],
+    w: Enc,
+    rows: &[u8],
+    x: Indices,
+    khz: u32,
+    subframes: u32,
+    active: u32,
+    mode: u32,
+    prevtype: u32,
+) -> Enc
+    requires { ⌜ Writing (out (now buf) w) (now rows) (2 ^ 26) ⌝ }
+    requires { ⌜ Rate khz × Subframes subframes × (active < 2) × Writes khz subframes active mode x ⌝ }
+    ensures { λ r. ⌜ ((prevlag : ℤ) → Told (out (now (buf .entry)) w) x (indices (settingOf khz subframes active mode prevtype prevlag) x) 816 (out (now (buf .exit)) r)) ⌝ }
+{
+    let signal = next_type_run(x);
+    let relative = (mode == 2) & (prevtype == 2);
+    let k = kind_tell_run(buf, w, rows, x, active);
+    let g = gains_tell_run(buf, k, rows, x, mode, subframes, signal);
+    let q = spectrum_tell_run(buf, g, rows, x, khz, signal);
+    let i = interpolation_tell_run(buf, q, rows, x, subframes);
+    let v = voicing_tell(buf, i, rows, x, signal, relative, khz, subframes, mode);
+    seed_tell_run(buf, v, rows, x)
+}
+
 // ---- the call
 
 // The state behind a record that was written, and what the next frame is told.
@@ -89,5 +124,43 @@ fn accepted(state: Enc, x: Indices, before: i16) -> IndicesWritten
         state,
         prevtype,
         prevlag,
+    }
+}
+
+pub fn silk_encode_indices(
+    buf: &mut [u8],
+    w: Enc,
+    record: Indices,
+    khz: u32,
+    subframes: u32,
+    active: u32,
+    mode: u32,
+    prevtype: u32,
+    prevlag: i16,
+) -> IndicesWritten
+    ensures { λ a. ⌜ record { buf = now (buf .exit); answer = a } ≡ encodeIndices (out (now (buf .entry)) w) «record» (settingOf khz subframes active mode prevtype prevlag) ⌝ }
+{
+    let n = refusal(buf, w, record, khz, subframes, active, mode, prevtype);
+    if n == 0 {
+        let rows = index_rows();
+        let q = all_tell(
+            buf,
+            w,
+            &rows,
+            record,
+            khz,
+            subframes,
+            active,
+            mode,
+            prevtype,
+        );
+        accepted(q, record, prevlag)
+    } else {
+        IndicesWritten {
+            refusal: n,
+            state: w,
+            prevtype,
+            prevlag,
+        }
     }
 }
