@@ -16,6 +16,8 @@ use nlsf_unpack::wide_selectors_run;
 use silk::Indices;
 use silk::IndicesPart;
 
+pub mod tell; // tell.rt: what a record says of them, written
+
 // ---- one residual
 
 // A residual, and the reader behind it.

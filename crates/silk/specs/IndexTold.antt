@@ -1,37 +1,48 @@
 -- Writing side indices part by part, and one turn of each loop: what is left to say before a turn is what it writes, then what is left to say after
 -- it. Counted as code counts, by k + 1; the tree starts from the record itself, and stays at it. Assumes nothing.
 use Prim.Native.Nat.{ℕ, suc, _+_, _-_, _*_, _/_, _≤_, _<_}
-use mathlib.Core.Path.{_≡_, refl, ap, ap₂, _∙_}
+use mathlib.Core.Path.{_≡_, refl, sym, ap, ap₂, subst, _∙_}
 use mathlib.Core.List.{List, [], _∷_, _++_}
 use native.Mathlib.Numerals.{add-one}
 use native.Mathlib.Omega.{arith}
 use lib.IntN.{ℤ, pos, natAbs}
 use lib.ListN.{length, getD}
-use Rattle.sheet.specs.Directory.{deltaGainRow, residualRow, filterRow}
+use Rattle.sheet.specs.Directory.{deltaGainRow, firstIndexRow, residualRow, filterRow}
 use Rattle.entcode.specs.Models.{Sym, tab}
 use Rattle.entcode.specs.Flat.{Out}
+use Rattle.entcode.specs.WriterFacts.{Wrote}
 use Rattle.tree.specs.Asks.{Asks, symbols, meant, of}
 use Rattle.tree.specs.AsksLaws.{symbols-then, symbols-of, meant-of}
 use Rattle.tree.specs.Says.{says-means}
-use Rattle.tree.specs.Told.{Told}
+use Rattle.tree.specs.Told.{Told, told-ask}
 use Rattle.silk.specs.declared.Indices.{Indices}
 use Rattle.silk.specs.Record.{withNlsf}
 use Rattle.silk.specs.IndexRows.{Writing, Rate, rate-most}
-use Rattle.silk.specs.IndexSyntax.{saidAt, moreGains, residualPick, residual, residuals, filters}
+use Rattle.silk.specs.IndexSyntax.{saidAt, moreGains, bookOf, selectorsOf, residualPick, residual, residuals, spectrum, filters}
 use Rattle.silk.specs.IndexSteps.{less-suc}
 use Rattle.silk.specs.IndexParts.{Upto}
-use Rattle.silk.specs.IndexSays.{gain-same, filter-same, residual-same, residual-says}
+use Rattle.silk.specs.IndexSays.{gain-same, filter-same, index-same, residual-same, residual-says}
 
 -- a part was written: the next one may be
 pub writing-next : {R A : Type 0} {o q : Out} {y : R} {t : Asks R A} {l : List ℕ} {n m : ℕ} (k : ℕ)
     → Writing o l n → Told o y t m q → n + m ≤ k → Writing q l k
 writing-next k h p e = record { core = p .core; few = omega (arith, h .few, p .most); rows = h .rows }
 
--- ---- loops
-
 -- a symbol of a row
 abbrev pub symbolOf : List ℕ → ℕ → Sym
 symbolOf r v = record { model = tab 8 r; value = v }
+
+-- the first index v, by the row r that was lent, then the residuals by its selectors
+pub spectrum-told : {o p q : Out} {r : List ℕ} {v n : ℕ} (khz signal : ℕ) (x : Indices) → length (x .nlsf) ≡ 17 → Upto 31 (getD (x .nlsf) 0 (pos 0))
+    → r ≡ firstIndexRow khz signal → v ≡ saidAt (x .nlsf) 0 → Wrote o (symbolOf r v) p
+    → Told p x (residuals khz (selectorsOf khz v) (bookOf khz .order) 0 x) n q → Told o x (spectrum khz signal x) (16 + n) q
+unfolding spectrum
+spectrum-told {p = p} {q = q} {v = v} {n = n} khz signal x s u e f h k =
+    told-ask e f h
+    (subst (λ (y : Indices). Told p x (residuals khz (selectorsOf khz v) (bookOf khz .order) 0 y) n q)
+    (sym (index-same x 31 v (omega (arith, s)) u f)) k)
+
+-- ---- loops
 
 module _ (n k : ℕ) (x : Indices) where
   pub gains-told-end : n ≤ k → symbols x (moreGains (n - k) k x) ≡ []
