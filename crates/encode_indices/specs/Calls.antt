@@ -2,7 +2,7 @@
 -- a reader gave it accepts. Assumes nothing.
 use Prim.Native.Nat.{ℕ, _+_, _-_, _*_, _≤_}
 use mathlib.Core.Path.{_≡_, refl, sym, ap, subst, _∙_}
-use mathlib.Core.Bool.{Bool, true, false, cond}
+use mathlib.Core.Bool.{Bool, false, cond}
 use mathlib.Core.List.{List}
 use native.Mathlib.Omega.{arith}
 use borrow.Author.Tests.{eqb-true, eq-eqb, ne-eqb}
@@ -67,10 +67,23 @@ module _ (o : Out) (x : Indices) (s : Setting) where
   refusal-is =
       chosen (λ (q : IndicesSent). q .answer .refusal ≡ tellRule o s x) (eqb (tellRule o s x) 0) (λ t. sym (eqb-true _ _ t)) (λ t. refl)
 
-  pub record IndicesTaken (q : IndicesSent) : Type 0 where
-    pub was : Open o
+  -- no refusal: the state passed the gate, the numbers are those of a frame, and the fields lie in their ranges
+  pub record Takes : Type 0 where
+    pub passed : Open o
     pub numbers : Chosen s
     pub fields : WritesIn s x
+
+  pub rule-takes : Shape x → tellRule o s x ≡ 0 → Takes
+  rule-takes h e =
+      let t = told-sayable o x s e in
+      record {
+        passed = gate-open o (first-none (gateW (o .buf) (o .state)) _ e .0);
+        numbers = t .0;
+        fields = sayable-writes s x (t .0) h (t .1);
+      }
+
+  pub record IndicesTaken (q : IndicesSent) : Type 0 where
+    pub was : Takes
     pub least : o .state .total ≤ q .answer .state .total
     pub most : q .answer .state .total ≤ o .state .total + 816
     pub sound : Joint o → SoundNext (out (q .buf) (q .answer .state))
@@ -78,18 +91,16 @@ module _ (o : Out) (x : Indices) (s : Setting) where
   pub indices-taken : Shape x → encodeIndices o x s .answer .refusal ≡ 0 → IndicesTaken (encodeIndices o x s)
   indices-taken h z =
       let e : tellRule o s x ≡ 0 = sym refusal-is ∙ z in
-      let g = gate-open o (first-none (gateW (o .buf) (o .state)) _ e .0) in
-      let t = told-sayable o x s e in
-      let w = indices-end s x (t .0 .rate) (t .0 .subframes) h (t .0 .active) in
-      let a = all-said s x (t .1) in
-      let m = total-told o x w a g in
+      let t = rule-takes h e in
+      let c = t .numbers in
+      let w = indices-end s x (c .rate) (c .subframes) h (c .active) in
+      let a = all-said s x (fields-decide s x c h .seen (t .fields)) in
+      let m = total-told o x w a (t .passed) in
       let q : IndicesTaken (indicesTold s x (writtenAll o (symbols x (indices s x)))) = record {
-        was = g;
-        numbers = t .0;
-        fields = sayable-writes s x (t .0) h (t .1);
+        was = t;
         least = m .0;
         most = omega (arith, m .1);
-        sound = λ j. sound-told o x w a g j (omega arith);
+        sound = λ j. sound-told o x w a (t .passed) j (omega arith);
       } in
       subst IndicesTaken (indices-told o x s e) q
 

@@ -1,6 +1,6 @@
 -- The parts of a frame's side indices, written one after the other, are the whole (RFC 6716, section 4.2.7). Assumes nothing.
 use Prim.Native.Nat.{ℕ, _/_, _<_}
-use mathlib.Core.Path.{_≡_, refl, sym, subst}
+use mathlib.Core.Path.{_≡_, sym, subst}
 use native.Mathlib.Omega.{arith}
 use lib.IntN.{natAbs}
 use Rattle.entcode.specs.Flat.{Out}
@@ -9,14 +9,14 @@ use Rattle.tree.specs.Says.{says-means}
 use Rattle.tree.specs.Told.{Told, told-then}
 use Rattle.silk.specs.declared.Indices.{Indices}
 use Rattle.silk.specs.Record.{Setting}
+use Rattle.silk.specs.IndexRows.{Rate, Subframes}
 use Rattle.silk.specs.IndexSyntax.{kindOf, kind, gains, spectrum, interpolation, relativeIn, voicing, seed, indices}
 use Rattle.silk.specs.IndexRanges.{Shape}
 use Rattle.silk.specs.IndexFields.{WritesIn}
-use Rattle.silk.specs.IndexCalls.{Chosen}
 use Rattle.silk.specs.IndexSays.{kind-same, kind-says, gains-says, spectrum-says, interpolation-says}
 use Rattle.encode_indices.specs.Fields.{signal-is, voicing-says}
 
-module _ (s : Setting) (x : Indices) (c : Chosen s) (h : Shape x) (w : WritesIn s x) where
+module _ (s : Setting) (x : Indices) (rate : Rate (s .khz)) (sub : Subframes (s .subframes)) (active : s .active < 2) (h : Shape x) (w : WritesIn s x) where
   abbrev voicingOf : ℕ → Indices → Asks Indices Indices
   voicingOf n = voicing n (relativeIn (s .mode) (s .prevtype)) (s .khz) (s .subframes) (s .mode) (s .prevlag)
 
@@ -35,11 +35,11 @@ module _ (s : Setting) (x : Indices) (c : Chosen s) (h : Shape x) (w : WritesIn 
     parts-told a b d f u z =
         let p : n < 3 = omega (arith, w .kind .signal .most) in
         let t : Told k x (behind n x) 800 r
-        = told-then _ (says-means (gains-says (s .mode) (s .subframes) n x (c .subframes) p h (w .gains))) b
-        (told-then _ (says-means (spectrum-says (s .khz) n x (c .rate) p h (w .spectrum))) d
-        (told-then _ (says-means (interpolation-says (s .subframes) x (c .subframes) (w .interp) (w .fixed))) f
-        (told-then _ (says-means (voicing-says s x c h w n e)) u z))) in
-        let m : n ≡ kindOf x / 2 = omega (arith, signal-is s x c h w) in
-        told-then _ (says-means (kind-says (s .active) x (c .active) (w .kind .kind))) a
+        = told-then _ (says-means (gains-says (s .mode) (s .subframes) n x sub p h (w .gains))) b
+        (told-then _ (says-means (spectrum-says (s .khz) n x rate p h (w .spectrum))) d
+        (told-then _ (says-means (interpolation-says (s .subframes) x sub (w .interp) (w .fixed))) f
+        (told-then _ (says-means (voicing-says s x w n rate sub h e)) u z))) in
+        let m : n ≡ kindOf x / 2 = omega (arith, signal-is s x w) in
+        told-then _ (says-means (kind-says (s .active) x active (w .kind .kind))) a
         (subst (λ (y : Indices). Told k x (behind (kindOf x / 2) y) 800 r) (sym (kind-same x (w .kind .offset) (w .kind .signal)))
         (subst (λ (j : ℕ). Told k x (behind j x) 800 r) m t))

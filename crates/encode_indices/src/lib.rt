@@ -2,7 +2,7 @@
 // once, and writes each field by the row that its reader reads.
 ghost use mathlib.Core.Path.{_≡_};
 ghost use Prim.Native.Nat.{_^_, _<_};
-ghost use lib.IntN.{ℤ, pos, natAbs};
+ghost use lib.IntN.{ℤ, natAbs};
 ghost use Rattle.entcode.specs.Flat.{out};
 ghost use Rattle.tree.specs.Told.{Told};
 ghost use Rattle.silk.specs.Record.{settingOf};
