@@ -14,6 +14,8 @@ use index_gains::gains_run;
 use index_gains::interpolation_run;
 use index_gains::kind_run;
 use index_gains::seed_run;
+use index_numbers::next_lag_run;
+use index_numbers::next_type_run;
 use index_numbers::numbers_rule;
 use index_pitch::pitch_run;
 use index_spectrum::spectrum_run;
@@ -93,28 +95,19 @@ fn all_indices(
 
 // ---- the call
 
-// The previous type is this frame's, the previous lag that of a voiced frame alone.
+// A record that was read, and what the next frame is told.
 fn accepted(state: Dec, x: Indices, before: i16) -> IndicesRead
     requires { ⌜ Upto 2 (x .signal) ⌝ }
     ensures { λ a. ⌜ a ≡ indicesGot before (got x state) ⌝ }
 {
-    let signal = x.signal as u32;
-    let lag = x.lag;
-    if signal == 2 {
-        return IndicesRead {
-            refusal: 0,
-            state,
-            indices: x,
-            prevtype: signal,
-            prevlag: lag,
-        };
-    }
+    let prevtype = next_type_run(x);
+    let prevlag = next_lag_run(x, before);
     IndicesRead {
         refusal: 0,
         state,
         indices: x,
-        prevtype: signal,
-        prevlag: before,
+        prevtype,
+        prevlag,
     }
 }
 

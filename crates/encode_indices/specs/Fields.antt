@@ -1,5 +1,5 @@
 -- A record whose fields lie in their ranges is one that may be written (RFC 6716, section 4.2.7; document 01, "Side indices"). Assumes nothing.
-use Prim.Native.Nat.{_-_, _/_, _<_}
+use Prim.Native.Nat.{ℕ, _/_, _<_}
 use mathlib.Core.Path.{_≡_, sym, ap, subst, _∙_}
 use mathlib.Core.Bool.{true}
 use native.Mathlib.Omega.{arith}
@@ -12,6 +12,7 @@ use Rattle.tree.specs.Asks.{Asks}
 use Rattle.tree.specs.Says.{Says, means, says-then, says-all, says-means}
 use Rattle.silk.specs.declared.Indices.{Indices}
 use Rattle.silk.specs.Record.{Setting}
+use Rattle.silk.specs.IndexRows.{Rate, Subframes}
 use Rattle.silk.specs.IndexSyntax.{kindOf, gains, relativeIn, voicing, indices}
 use Rattle.silk.specs.IndexRanges.{Shape}
 use Rattle.silk.specs.IndexWriting.{sayable, same-sure}
@@ -19,29 +20,32 @@ use Rattle.silk.specs.IndexFields.{WritesIn}
 use Rattle.silk.specs.IndexCalls.{Chosen}
 use Rattle.silk.specs.IndexSays.{kind-same, kind-says, gains-says, spectrum-says, interpolation-says, pitch-says, seed-says}
 
-module _ (s : Setting) (x : Indices) (c : Chosen s) (h : Shape x) (w : WritesIn s x) where
-  signal-is : kindOf x / 2 ≡ natAbs (x .signal)
+module _ (s : Setting) (x : Indices) (w : WritesIn s x) where
+  -- signal type and offset type, taken apart again
+  pub signal-is : kindOf x / 2 ≡ natAbs (x .signal)
   signal-is = omega (arith, w .kind .offset .most)
 
-  voicing-says : Says x x (voicing (kindOf x / 2) (relativeIn (s .mode) (s .prevtype)) (s .khz) (s .subframes) (s .mode) (s .prevlag) x)
+  pub voicing-says : (n : ℕ) → Rate (s .khz) → Subframes (s .subframes) → Shape x → n ≡ natAbs (x .signal)
+      → Says x x (voicing n (relativeIn (s .mode) (s .prevtype)) (s .khz) (s .subframes) (s .mode) (s .prevlag) x)
   unfolding voicing
-  voicing-says =
-      chosen (λ (q : Asks Indices Indices). Says x x q) (eqb (kindOf x / 2) 2)
-      (λ e. let v : x .signal ≡ pos 2 = w .kind .signal .least ∙ ap pos (sym signal-is ∙ eqb-true _ _ e) in
-      pitch-says _ _ _ x (c .rate) (c .subframes) h (w .pitch v) _ _)
-      (λ e. means)
+  voicing-says n r f h e =
+      chosen (λ (q : Asks Indices Indices). Says x x q) (eqb n 2)
+      (λ t. let v : x .signal ≡ pos 2 = w .kind .signal .least ∙ ap pos (sym e ∙ eqb-true n 2 t) in
+      pitch-says _ _ _ x r f h (w .pitch v) _ _)
+      (λ t. means)
 
+module _ (s : Setting) (x : Indices) (c : Chosen s) (h : Shape x) (w : WritesIn s x) where
   indices-says : Says x x (indices s x)
   unfolding indices
   indices-says =
-      let p : kindOf x / 2 < 3 = omega (arith, w .kind .signal .most, signal-is) in
+      let p : kindOf x / 2 < 3 = omega (arith, w .kind .signal .most, signal-is s x w) in
       says-then _ (kind-says (s .active) x (c .active) (w .kind .kind))
       (says-then _
       (subst (λ (z : Indices). Says x x (gains (s .mode) (s .subframes) (kindOf x / 2) z)) (sym (kind-same x (w .kind .offset) (w .kind .signal)))
       (gains-says (s .mode) (s .subframes) (kindOf x / 2) x (c .subframes) p h (w .gains)))
       (says-then _ (spectrum-says (s .khz) (kindOf x / 2) x (c .rate) p h (w .spectrum))
       (says-then _ (interpolation-says (s .subframes) x (c .subframes) (w .interp) (w .fixed))
-      (says-then _ voicing-says (seed-says x (w .seed))))))
+      (says-then _ (voicing-says s x w (kindOf x / 2) (c .rate) (c .subframes) h (signal-is s x w)) (seed-says x (w .seed))))))
 
   -- such a record is accepted
   pub fields-sayable : sayable s x ≡ true

@@ -1,2 +1,4 @@
 pub mod Fields
+pub mod Parts
 pub mod Accepted
+pub mod Calls

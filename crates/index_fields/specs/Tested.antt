@@ -34,9 +34,6 @@ equal-tested {w} n z f h =
       seen = λ e. eq-eqb _ _ (ap (ofZ w) e);
     }
 
-pub upto-bits : (w : Width) {n : ℕ} {z : ℤ} → Upto n z → ofZ w z ≡ natAbs z
-upto-bits w u = ap (ofZ w) (u .least)
-
 -- ---- numbers in a row
 
 -- the entries of l from a to e

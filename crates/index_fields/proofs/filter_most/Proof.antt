@@ -3,7 +3,7 @@ use mathlib.Core.Path.{_≡_, sym, _∙_}
 use native.Mathlib.Omega.{arith}
 use lib.IntN.{natAbs}
 use mir.Syntax.{w8}
-use Rattle.index_fields.specs.Tested.{upto-bits}
+use Rattle.silk.specs.IndexParts.{upto-bits}
 use Rattle.index_fields.proofs.filter_most.Statement.{statement}
 use Rattle.index_fields.proofs.filter_most.Tie as tie
 
