@@ -81,7 +81,7 @@ signs-requires c κs =
     let u = c .before .before .before .lows .ensures in
     let n = b .pre .1 .1 .1 .0 in (
       u .core,
-      (omega (arith, a .most, f .most, t .most, u .most, b .pre .1 .0, n .0), (b .pre .1 .1 .0, (n .0, n .1, n .2, n .3))),
+      (omega (arith, a .most, f .most, t .most, u .most, b .pre .1 .0, n .0), (b .pre .1 .1 .0, (n .0, n .1, n .2, n .3, b .pre .1 .1 .1 .1))),
     )
 
 same-length : tie.Need-same-length
