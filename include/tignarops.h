@@ -128,6 +128,13 @@ tg_indices_read tg_decode_indices(const uint8_t *packet, size_t len, tg_reader r
 tg_read tg_decode_pulses(const uint8_t *packet, size_t len, tg_reader r, int16_t *pulses, size_t n, uint32_t khz,
                          uint32_t subframes, uint32_t signal_type, uint32_t offset_type);
 
+/* The pulses of a frame, as tg_decode_pulses takes them, with a rate level 0 to 8: each block's low
+ * bits are the fewest, 0 to 10, at which the magnitudes shifted by them total at most 16. Reading back
+ * gives the same pulses. Refusals 1 to 4, 6 (n), and 8 for a block that ten low bits do not do for: a
+ * magnitude of 17,408 has none. A refusal leaves the buffer as it is. */
+tg_written tg_encode_pulses(uint8_t *buf, size_t len, tg_writer w, const int16_t *pulses, size_t n, uint32_t khz,
+                            uint32_t subframes, uint32_t signal_type, uint32_t offset_type, uint32_t rate_level);
+
 /* The spectrum indices of a frame: index[0] picks a book's vector, the others one residual each. */
 typedef struct {
     int8_t index[17];

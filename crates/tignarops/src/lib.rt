@@ -7,6 +7,7 @@ ghost use Rattle.entcode.specs.Writing.{sent, encSym, encTell, encDone, encOpen
 ghost use Rattle.silk.specs.Record.{settingOf};
 ghost use Rattle.silk.specs.FrameCalls.{decodeIndices, pulsed, decodePulses};
 ghost use Rattle.frame_type.specs.Kind.{frameType};
+ghost use Rattle.silk.specs.PulseWriting.{encodePulses};
 ghost use Rattle.spectrum.specs.Calls.{stabiliseCall, decodeCall};
 use entcode::Dec;
 use entcode::Decoded;
@@ -172,6 +173,22 @@ pub extern "C" fn tg_decode_pulses(
     ensures { λ a. ⌜ pulsed (now (pulses .exit)) a ≡ decodePulses (now (packet .entry)) r (now (pulses .entry)) khz subframes signal offset ⌝ }
 {
     decode_pulses::silk_decode_pulses(packet, r, pulses, khz, subframes, signal, offset)
+}
+
+#[no_mangle]
+pub extern "C" fn tg_encode_pulses(
+    buf: &mut [u8],
+    w: Enc,
+    pulses: &[i16],
+    khz: u32,
+    subframes: u32,
+    signal: u32,
+    offset: u32,
+    rate: u32,
+) -> Encoded
+    ensures { λ a. ⌜ sent (now (buf .exit)) a ≡ encodePulses (out (now (buf .entry)) w) (now (pulses .entry)) khz subframes signal offset rate ⌝ }
+{
+    encode_pulses::silk_encode_pulses(buf, w, pulses, khz, subframes, signal, offset, rate)
 }
 
 // ---- line spectra

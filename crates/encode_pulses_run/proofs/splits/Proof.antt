@@ -1,5 +1,5 @@
 -- `splits` meets its contract. The invariant: the splits of i blocks are written. Assumes nothing.
-use Prim.Native.Nat.{_-_, _*_}
+use Prim.Native.Nat.{_-_}
 use mathlib.Core.Path.{_≡_, refl, sym, _∙_}
 use lib.ListN.{length}
 use Rattle.silk.specs.PulsePlans.{suited-at}
