@@ -6,6 +6,7 @@ ghost use Rattle.entcode.specs.Flat.{out};
 ghost use Rattle.entcode.specs.Writing.{sent, encSym, encTell, encDone, encOpen};
 ghost use Rattle.silk.specs.Record.{settingOf};
 ghost use Rattle.silk.specs.FrameCalls.{decodeIndices, pulsed, decodePulses};
+ghost use Rattle.silk.specs.IndexWriting.{encodeIndices};
 ghost use Rattle.spectrum.specs.Calls.{stabiliseCall, decodeCall};
 use entcode::Dec;
 use entcode::Decoded;
@@ -13,6 +14,7 @@ use entcode::Enc;
 use entcode::Encoded;
 use silk::Indices;
 use silk::IndicesRead;
+use silk::IndicesWritten;
 use spectrum::Moves;
 use spectrum::Spectrum;
 
@@ -136,6 +138,33 @@ pub extern "C" fn tg_decode_indices(
     decode_indices::silk_decode_indices(
         packet,
         r,
+        record,
+        khz,
+        subframes,
+        active,
+        mode,
+        prevtype,
+        prevlag,
+    )
+}
+
+#[no_mangle]
+pub extern "C" fn tg_encode_indices(
+    buf: &mut [u8],
+    w: Enc,
+    record: Indices,
+    khz: u32,
+    subframes: u32,
+    active: u32,
+    mode: u32,
+    prevtype: u32,
+    prevlag: i16,
+) -> IndicesWritten
+    ensures { λ a. ⌜ record { buf = now (buf .exit); answer = a } ≡ encodeIndices (out (now (buf .entry)) w) «record» (settingOf khz subframes active mode prevtype prevlag) ⌝ }
+{
+    encode_indices::silk_encode_indices(
+        buf,
+        w,
         record,
         khz,
         subframes,
