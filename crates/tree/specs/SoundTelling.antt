@@ -1,5 +1,5 @@
--- What writing along a tree keeps, where every symbol may be written: a sound writer by the joint rule of `Joint`, and a total that grows by at most 16
--- bits a question. Assumes nothing.
+-- What writing along a tree keeps, where every symbol may be written: a sound writer, by the joint rule, and a total that grows by at most 16 bits a
+-- question. Assumes nothing.
 use Prim.Native.Nat.{ℕ, _+_, _*_, _≤_}
 use mathlib.Core.Path.{_≡_, sym, ap, subst}
 use mathlib.Core.Bool.{true}
@@ -43,15 +43,16 @@ steady-write k o s e l h =
       most = omega (arith, g .most);
     }
 
-steady-all : {R A : Type 0} {P : A → Type 0} {n : ℕ} {t : Asks R A} (k : ℕ) (o : Out) (y : R) → Ends P n t → allSaid (symbols y t) ≡ true → Steady k o
-    → SteadyNext k (16 * n) o (writtenAll o (symbols y t))
+steady-all : {R A : Type 0} {P : A → Type 0} {n : ℕ} {t : Asks R A} (k : ℕ) (o : Out) (y : R) → Ends P n t → allSaid (symbols y t) ≡ true
+    → Steady k o → SteadyNext k (16 * n) o (writtenAll o (symbols y t))
 unfolding symbols allSaid writtenAll
 steady-all k o y (ends e) a h = record { steady = h; least = omega arith; most = omega arith }
 steady-all k o y (asks {m = m} {w = w} {f = f} r l g) a h =
     let p = and-both (eqb (sayRule m (w y)) 0) (allSaid (symbols y (f (w y)))) a in
     let e : sayRule m (w y) ≡ 0 = eqb-true _ _ (p .0) in
     let b = steady-write k o (record { model = m; value = w y }) e l h in
-    let c = steady-all k (written o (record { model = m; value = w y })) y (g (w y) (fits-inside m (w y) (say-open m (w y) e .fitting))) (p .1) (b .steady) in
+    let i = fits-inside m (w y) (say-open m (w y) e .fitting) in
+    let c = steady-all k (written o (record { model = m; value = w y })) y (g (w y) i) (p .1) (b .steady) in
     record { steady = c .steady; least = omega (arith, b .least, c .least); most = omega (arith, b .most, c .most) }
 
 module _ {R A : Type 0} {P : A → Type 0} {n : ℕ} {t : Asks R A} (o : Out) (y : R) (h : Ends P n t) (a : allSaid (symbols y t) ≡ true) (g : Open o) where
@@ -60,8 +61,8 @@ module _ {R A : Type 0} {P : A → Type 0} {n : ℕ} {t : Asks R A} (o : Out) (y
       let r = steady-all 1200033 o y h a (record { is = flat-as o (g .sound .fair); firm = g .sound .firm }) in
       (r .least, r .most)
 
-  -- at most 6,250 questions: 100,000 bits
-  pub sound-told : Joint o → n ≤ 6250 → SoundNext (writtenAll o (symbols y t))
+  -- a total of 1,000,000 may grow by 100,000
+  pub sound-told : Joint o → 16 * n ≤ 100000 → SoundNext (writtenAll o (symbols y t))
   sound-told j l =
       let q = writtenAll o (symbols y t) in
       let r = steady-all 0 o y h a (record { is = flat-as o (g .sound .fair); firm = firm-joint o (g .sound) j }) in
@@ -69,6 +70,7 @@ module _ {R A : Type 0} {P : A → Type 0} {n : ℕ} {t : Asks R A} (o : Out) (y
       let m : q .state .total ≤ 1100000 = omega (arith, r .most, g .low) in
       let u : 33 ≤ q .state .total = omega (arith, r .least, g .sound .least) in
       record {
-        sound = subst (λ (z : Out). soundW (z .buf) (z .state) ≡ true) (r .steady .is) (sound-flat 0 (asWriter q) (r .steady .firm) (omega arith) u m);
+        sound =
+            subst (λ (z : Out). soundW (z .buf) (z .state) ≡ true) (r .steady .is) (sound-flat 0 (asWriter q) (r .steady .firm) (omega arith) u m);
         joint = omega arith;
       }
