@@ -7,7 +7,7 @@ use lib.IntN.{ℤ, pos}
 use lib.ListN.{length, getD, take}
 use lib.Seq.{take-suc}
 use Rattle.numerals.specs.Decimal.{decimal}
-use Rattle.listing.specs.Lines.{spaced}
+use Rattle.listing.specs.Lines.{spaced, line}
 
 pub spaced-append : (xs ys : List ℤ) → spaced (xs ++ ys) ≡ spaced xs ++ spaced ys
 unfolding spaced
@@ -25,3 +25,10 @@ spaced-more xs i h =
     ap (λ (l : List ℕ). spaced (take i xs) ++ l) (sym (spaced-one (getD xs i (pos 0))))
     ∙ sym (spaced-append (take i xs) (getD xs i (pos 0) ∷ []))
     ∙ ap spaced (sym (rw add-one (take-suc xs i (pos 0) h)))
+
+-- a line in two parts
+pub line-parts : (first : List ℕ) (xs ys : List ℤ) → (first ++ spaced xs) ++ (spaced ys ++ (10 ∷ [])) ≡ line first (xs ++ ys)
+unfolding line
+line-parts first xs ys =
+    append-assoc first (spaced xs) (spaced ys ++ (10 ∷ []))
+    ∙ ap (λ (l : List ℕ). first ++ l) (sym (append-assoc (spaced xs) (spaced ys) (10 ∷ [])) ∙ ap (λ (l : List ℕ). l ++ (10 ∷ [])) (sym (spaced-append xs ys)))

@@ -1,6 +1,6 @@
 // Lines of text, put into a lent buffer at a place. Each function answers the place behind what it put.
 ghost use Prim.Native.Nat.{_+_, _*_, _≤_};
-ghost use mathlib.Core.List.{_∷_};
+ghost use mathlib.Core.List.{_∷_, _++_};
 ghost use lib.ListN.{length};
 ghost use Rattle.numerals.specs.Decimal.{decimal};
 ghost use Rattle.numerals.specs.Put.{Put};
@@ -45,13 +45,21 @@ pub fn put_numbers_run(out: &mut [u8], at: usize, xs: &[i16]) -> usize
     place
 }
 
+// A word and numbers, no newline.
+pub fn put_start_run(out: &mut [u8], at: usize, word: &[u8], xs: &[i16]) -> usize
+    requires { ⌜ at + (length (now word) + 7 * length (now xs)) ≤ length (now out) ⌝ }
+    ensures { λ n. ⌜ Put (length (now (word .entry)) + 7 * length (now (xs .entry))) (now (out .entry)) at (now (word .entry) ++ spaced (now (xs .entry))) (now (out .exit)) n ⌝ }
+{
+    let place = put_word_run(out, at, word);
+    put_numbers_run(out, place, xs)
+}
+
 // A word and numbers.
 pub fn put_line_run(out: &mut [u8], at: usize, word: &[u8], xs: &[i16]) -> usize
     requires { ⌜ at + (length (now word) + 7 * length (now xs) + 1) ≤ length (now out) ⌝ }
     ensures { λ n. ⌜ Put (length (now (word .entry)) + 7 * length (now (xs .entry)) + 1) (now (out .entry)) at (line (now (word .entry)) (now (xs .entry))) (now (out .exit)) n ⌝ }
 {
-    let place = put_word_run(out, at, word);
-    let place = put_numbers_run(out, place, xs);
+    let place = put_start_run(out, at, word, xs);
     put_byte_run(out, place, 10)
 }
 
@@ -61,8 +69,8 @@ pub fn put_counted_run(out: &mut [u8], at: usize, word: &[u8], xs: &[i16]) -> us
     requires { ⌜ length (now xs) ≤ 320 ⌝ }
     ensures { λ n. ⌜ Put (length (now (word .entry)) + 7 * length (now (xs .entry)) + 8) (now (out .entry)) at (counted (now (word .entry)) (now (xs .entry))) (now (out .exit)) n ⌝ }
 {
-    let place = put_word_run(out, at, word);
-    let place = put_spaced_run(out, place, xs.len() as i16);
+    let count = [xs.len() as i16];
+    let place = put_start_run(out, at, word, &count);
     let place = put_numbers_run(out, place, xs);
     put_byte_run(out, place, 10)
 }

@@ -1,17 +1,14 @@
 -- `put_line_run` meets its contract. Assumes nothing.
 use borrow.Author.Needs.{needs}
-use mathlib.Core.Path.{refl}
+use mathlib.Core.List.{[], _∷_, append-assoc}
 use native.Mathlib.Omega.{arith}
 use Rattle.numerals.specs.Put.{put-then, put-as}
-use Rattle.listing.specs.Lines.{line}
+use Rattle.listing.specs.Lines.{spaced, line}
 use Rattle.listing.proofs.put_line_run.Statement.{statement}
 use Rattle.listing.proofs.put_line_run.Tie as tie
 
-put-word-run-requires : tie.Need-put-word-run-requires
-put-word-run-requires c κs = search needs
-
-put-numbers-run-requires : tie.Need-put-numbers-run-requires
-put-numbers-run-requires c κs = search needs
+put-start-run-requires : tie.Need-put-start-run-requires
+put-start-run-requires c κs = search needs
 
 put-byte-run-requires : tie.Need-put-byte-run-requires
 put-byte-run-requires c κs = search needs
@@ -23,17 +20,10 @@ returns : tie.Need-returns
 unfolding line
 returns c =
     let b = c .before .before .before .before .before .before in
-    put-as
-    (put-then (b .before .before .before .before .put-word-run .ensures) (put-then (b .put-numbers-run .ensures) (c .before .before .put-byte-run .ensures)))
-    refl
+    let a = b .before .before .before .before .args in
+    put-as (put-then (b .put-start-run .ensures) (c .before .before .put-byte-run .ensures)) (append-assoc (a .word .now) (spaced (a .xs .now)) (10 ∷ []))
     (omega arith)
 
 pub put-line-run-spec : {M : Type 1} → statement M
 put-line-run-spec =
-    tie.close
-    (tie.spec
-    put-word-run-requires
-    put-numbers-run-requires
-    put-byte-run-requires
-    same-length
-    returns)
+    tie.close (tie.spec put-start-run-requires put-byte-run-requires same-length returns)
