@@ -14,7 +14,7 @@ fn numbers_ok(khz: u32, subframes: u32, signal: u32, offset: u32) -> bool
 }
 
 // Blocks of 16 in a frame of 5 x kHz x subframes places.
-fn blocks_of(khz: u32, subframes: u32) -> usize
+pub fn blocks_of_run(khz: u32, subframes: u32) -> usize
     requires { ⌜ (khz ≤ 16) × (subframes ≤ 4) ⌝ }
     ensures { λ n. ⌜ n ≡ blocksOf khz subframes ⌝ }
 {
@@ -27,7 +27,7 @@ fn pulse_rule(n: usize, khz: u32, subframes: u32, signal: u32, offset: u32) -> u
     ensures { λ r. ⌜ r ≡ pulseRule n khz subframes signal offset ⌝ }
 {
     if numbers_ok(khz, subframes, signal, offset) {
-        if n == 16 * blocks_of(khz, subframes) {
+        if n == 16 * blocks_of_run(khz, subframes) {
             0
         } else {
             6
@@ -52,7 +52,7 @@ pub fn silk_decode_pulses(
     let n = refusals::first_refusal(entdec::gate(packet, d), rule);
     if n == 0 {
         let rows = tables::rows::pulse_rows();
-        let blocks = blocks_of(khz, subframes);
+        let blocks = blocks_of_run(khz, subframes);
         let state = decode_pulses_run::silk_decode_pulses_run(
             packet,
             d,

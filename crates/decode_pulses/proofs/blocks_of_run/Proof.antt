@@ -1,9 +1,9 @@
--- `blocks_of` meets its contract. Assumes nothing.
+-- `blocks_of_run` meets its contract. Assumes nothing.
 use borrow.Author.Needs.{needs}
 use native.Mathlib.Omega.{arith}
 use Rattle.silk.specs.PulseCallLaws.{places-most}
-use Rattle.decode_pulses.proofs.blocks_of.Statement.{statement}
-use Rattle.decode_pulses.proofs.blocks_of.Tie as tie
+use Rattle.decode_pulses.proofs.blocks_of_run.Statement.{statement}
+use Rattle.decode_pulses.proofs.blocks_of_run.Tie as tie
 
 mul-places : tie.Need-mul-places
 mul-places c = search needs
@@ -20,5 +20,5 @@ cast-result c = omega (arith, places-most (c .args .khz) (c .args .subframes) (c
 returns : tie.Need-returns
 returns c = search needs
 
-pub blocks-of-spec : {M : Type 1} → statement M
-blocks-of-spec = tie.close (tie.spec mul-places mul-places-2 add-result cast-result returns)
+pub blocks-of-run-spec : {M : Type 1} → statement M
+blocks-of-run-spec = tie.close (tie.spec mul-places mul-places-2 add-result cast-result returns)

@@ -1,0 +1,2 @@
+pub mod ListerText
+pub mod Readings
