@@ -8,6 +8,7 @@ use lib.IntN.{ℤ, pos, natAbs}
 use lib.ListN.{length, drop, replicate}
 use Rattle.listing.specs.Lines.{refusedText}
 use Rattle.sections.specs.Values.{byteAt, pairAt, valueAt}
+use Rattle.entcode.specs.declared.Dec.{Dec}
 use Rattle.entcode.specs.Reading.{decOpen}
 use Rattle.silk.specs.declared.Indices.{Indices}
 use Rattle.silk.specs.declared.IndicesRead.{IndicesRead}
@@ -49,18 +50,20 @@ blank =
 abbrev pub indicesOf : List ℕ → Setting → IndicesRead
 indicesOf b s = decodeIndices b (decOpen b .state) blank s
 
--- the pulses behind the side indices
-abbrev pub pulsesOf : List ℕ → ℕ → ℕ → IndicesRead → List ℤ
-pulsesOf b khz subframes a =
-    let blank = replicate (16 * blocksOf khz subframes) (pos 0) in
-    decodePulses b (a .state) blank khz subframes (natAbs (a .indices .signal)) (natAbs (a .indices .offset)) .pulses
+-- the pulses behind them; p is what the lent slice held
+abbrev pub excitationText : List ℕ → Dec → List ℤ → ℕ → ℕ → ℕ → ℕ → List ℕ
+excitationText b d p khz subframes signal offset =
+    pulsesText (blocksOf khz subframes) (decodePulses b d p khz subframes signal offset .pulses)
+
+abbrev pub acceptedText : List ℕ → ℕ → ℕ → IndicesRead → List ℕ
+acceptedText b khz subframes a =
+    let zeros = replicate (16 * blocksOf khz subframes) (pos 0) in
+    indicesText khz subframes (a .indices) ++
+    excitationText b (a .state) zeros khz subframes (natAbs (a .indices .signal)) (natAbs (a .indices .offset))
 
 -- the frame, or the refusal, 1 or 4
 unfoldable pub readText : List ℕ → Setting → IndicesRead → List ℕ
-readText b s a =
-    cond (eqb (a .refusal) 0)
-    (indicesText (s .khz) (s .subframes) (a .indices) ++ pulsesText (blocksOf (s .khz) (s .subframes)) (pulsesOf b (s .khz) (s .subframes) a))
-    (refusedText (a .refusal))
+readText b s a = cond (eqb (a .refusal) 0) (acceptedText b (s .khz) (s .subframes) a) (refusedText (a .refusal))
 
 abbrev pub frameText : List ℕ → Setting → List ℕ
 frameText b s = readText b s (indicesOf b s)

@@ -1,7 +1,6 @@
 // What the frame lister prints for an input, put into a lent buffer.
 ghost use Prim.Native.Nat.{_+_, _*_, _≤_};
 ghost use mathlib.Core.Path.{_≡_};
-ghost use mathlib.Core.List.{_++_};
 ghost use lib.IntN.{pos, natAbs};
 ghost use lib.ListN.{length, replicate};
 ghost use Rattle.numerals.specs.Put.{Put};
@@ -10,9 +9,8 @@ ghost use Rattle.sections.specs.Values.{byteAt};
 ghost use Rattle.silk.specs.Record.{settingOf};
 ghost use Rattle.silk.specs.IndexRows.{Rate, Subframes};
 ghost use Rattle.silk.specs.IndexParts.{Upto};
-ghost use Rattle.silk.specs.FrameCalls.{blocksOf, decodePulses};
-ghost use Rattle.frame_text.specs.FrameText.{indicesText, pulsesText};
-ghost use Rattle.lister_text.specs.ListerText.{pulsesOf, frameText, listerText};
+ghost use Rattle.silk.specs.FrameCalls.{blocksOf};
+ghost use Rattle.lister_text.specs.ListerText.{excitationText, acceptedText, frameText, listerText};
 ghost use Rattle.lister_text.specs.ListerText.{blank as blankOf, whole as wholeOf};
 use decode_pulses::blocks_of_run;
 use entcode::Dec;
@@ -63,7 +61,7 @@ fn put_pulses(
 ) -> usize
     requires { ⌜ (at + 2258 ≤ length (now out)) × (khz ≤ 16) × (subframes ≤ 4) ⌝ }
     requires { ⌜ length (now pulses) ≡ 16 * blocksOf khz subframes ⌝ }
-    ensures { λ n. ⌜ Put 2258 (now (out .entry)) at (pulsesText (blocksOf khz subframes) (decodePulses (now (packet .entry)) d (now (pulses .entry)) khz subframes signal offset .pulses)) (now (out .exit)) n ⌝ }
+    ensures { λ n. ⌜ Put 2258 (now (out .entry)) at (excitationText (now (packet .entry)) d (now (pulses .entry)) khz subframes signal offset) (now (out .exit)) n ⌝ }
 {
     decode_pulses::silk_decode_pulses(packet, d, pulses, khz, subframes, signal, offset);
     let blocks = blocks_of_run(khz, subframes);
@@ -74,7 +72,7 @@ fn put_frame(out: &mut [u8], packet: &[u8], a: IndicesRead, khz: u32, subframes:
     requires { ⌜ 2564 ≤ length (now out) ⌝ }
     requires { ⌜ Rate khz × Subframes subframes ⌝ }
     requires { ⌜ (a .prevtype ≡ natAbs (a .indices .signal)) × Upto 1 (a .indices .offset) ⌝ }
-    ensures { λ n. ⌜ Put 2564 (now (out .entry)) 0 (indicesText khz subframes (a .indices) ++ pulsesText (blocksOf khz subframes) (pulsesOf (now (packet .entry)) khz subframes a)) (now (out .exit)) n ⌝ }
+    ensures { λ n. ⌜ Put 2564 (now (out .entry)) 0 (acceptedText (now (packet .entry)) khz subframes a) (now (out .exit)) n ⌝ }
 {
     let x = a.indices;
     let signal = a.prevtype;

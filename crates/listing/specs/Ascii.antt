@@ -1,6 +1,6 @@
 -- A word as its bytes in ASCII. Assumes nothing.
 use Prim.Native.Nat.{ℕ}
-use Prim.Native.Char.{Char, code}
+use Prim.Native.Char.{code}
 use Prim.Native.String.{String, [], _∷_}
 use mathlib.Core.List.{List, [] as none, _∷_ as _then_}
 

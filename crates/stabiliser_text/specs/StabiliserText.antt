@@ -4,7 +4,7 @@ use Prim.Native.Nat.{ℕ, _+_, _*_}
 use mathlib.Core.Bool.{Bool, cond}
 use mathlib.Core.List.{List, [], _∷_, _++_}
 use lib.Dec.{eqb}
-use lib.IntN.{ℤ, pos}
+use lib.IntN.{pos}
 use lib.ListN.{length}
 use Rattle.listing.specs.Ascii.{ascii}
 use Rattle.listing.specs.Lines.{line, counted, refusedText}
@@ -14,12 +14,6 @@ use Rattle.spectrum.specs.Calls.{Called, stabiliseCall}
 -- the count of gaps follows the vector
 abbrev pub gapsAt : List ℕ → ℕ
 gapsAt s = 1 + 2 * byteAt s 0
-
-abbrev pub vectorOf : List ℕ → List ℤ
-vectorOf s = valuesAt s 1 (byteAt s 0)
-
-abbrev pub gapsOf : List ℕ → List ℤ
-gapsOf s = valuesAt s (gapsAt s + 1) (byteAt s (gapsAt s))
 
 -- 9: the input ends where its last section does
 abbrev pub whole : List ℕ → Bool
@@ -32,5 +26,9 @@ answerText c =
     (line (ascii "rounds") (pos (c .answer .moves) ∷ []) ++ counted (ascii "vector") (c .vector))
     (refusedText (c .answer .refusal))
 
+-- n values of the vector, m gaps
+abbrev pub sectionsText : List ℕ → ℕ → ℕ → List ℕ
+sectionsText s n m = answerText (stabiliseCall (valuesAt s 1 n) (valuesAt s (2 + 2 * n) m))
+
 unfoldable pub stabiliserText : List ℕ → List ℕ
-stabiliserText s = cond (whole s) (answerText (stabiliseCall (vectorOf s) (gapsOf s))) (refusedText 9)
+stabiliserText s = cond (whole s) (sectionsText s (byteAt s 0) (byteAt s (gapsAt s))) (refusedText 9)

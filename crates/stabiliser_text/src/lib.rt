@@ -4,10 +4,8 @@ ghost use mathlib.Core.Path.{_≡_};
 ghost use lib.ListN.{length};
 ghost use Rattle.numerals.specs.Put.{Put};
 ghost use Rattle.listing.specs.Printed.{printed};
-ghost use Rattle.sections.specs.Values.{valuesAt};
-ghost use Rattle.spectrum.specs.Calls.{stabiliseCall};
 ghost use Rattle.stabiliser_text.specs.Answers.{Small};
-ghost use Rattle.stabiliser_text.specs.StabiliserText.{answerText, stabiliserText};
+ghost use Rattle.stabiliser_text.specs.StabiliserText.{answerText, sectionsText, stabiliserText};
 use listing::put_counted_run;
 use listing::put_line_run;
 use listing::put_refused_run;
@@ -32,7 +30,7 @@ fn put_answer(out: &mut [u8], a: Moves, vector: &[i16]) -> usize
 fn put_stabilised(out: &mut [u8], vector: &mut [i16], gaps: &mut [i16], input: &[u8]) -> usize
     requires { ⌜ 256 ≤ length (now out) ⌝ }
     requires { ⌜ length (now input) ≡ 2 + 2 * length (now vector) + 2 * length (now gaps) ⌝ }
-    ensures { λ n. ⌜ Put 256 (now (out .entry)) 0 (answerText (stabiliseCall (valuesAt (now (input .entry)) 1 (length (now (vector .entry)))) (valuesAt (now (input .entry)) (2 + 2 * length (now (vector .entry))) (length (now (gaps .entry)))))) (now (out .exit)) n ⌝ }
+    ensures { λ n. ⌜ Put 256 (now (out .entry)) 0 (sectionsText (now (input .entry)) (length (now (vector .entry))) (length (now (gaps .entry)))) (now (out .exit)) n ⌝ }
 {
     let behind = 2 + 2 * vector.len();
     fill_run(vector, input, 1);

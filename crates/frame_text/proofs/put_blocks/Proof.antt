@@ -1,14 +1,13 @@
 -- `put_blocks` meets its contract. The loop's invariant: the lines of the first i blocks are put. Its measure: how many are left.
 -- Assumes nothing.
 use borrow.Author.Needs.{needs}
-use Prim.Native.Nat.{ℕ, _+_, _-_, _*_, _≤_}
-use mathlib.Core.Path.{_≡_, refl, sym, ap, _∙_}
+use Prim.Native.Nat.{_+_, _-_, _*_, _≤_}
+use mathlib.Core.Path.{_≡_}
 use native.Mathlib.Numerals.{add-one}
 use native.Mathlib.Omega.{arith}
-use lib.ListN.{length, take, drop, length-drop}
+use lib.ListN.{length, drop, length-drop}
 use lib.Seq.{length-take-le}
 use Rattle.numerals.specs.Put.{Put, put-none, put-then, put-as}
-use Rattle.listing.specs.Lines.{numbers}
 use Rattle.frame_text.specs.FrameText.{blockLines}
 use Rattle.frame_text.specs.BlockLaws.{block-more}
 use Rattle.frame_text.proofs.put_blocks.Statement.{statement}

@@ -5,7 +5,7 @@ use native.Mathlib.Omega.{arith}
 use mir.Syntax.{w8}
 use mir.Val.{SFits}
 use mir.Facts.{toZ-ofZ}
-use Rattle.numerals.specs.Put.{put-then, put-as}
+use Rattle.numerals.specs.Put.{put-then}
 use Rattle.listing.specs.Ascii.{ascii}
 use Rattle.silk.specs.IndexRows.{subframes-most}
 use Rattle.frame_text.specs.FrameText.{indicesText}

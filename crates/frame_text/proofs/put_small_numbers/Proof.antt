@@ -1,7 +1,7 @@
 -- `put_small_numbers` meets its contract. The loop's invariant: the first i numbers are put. Its measure: how many are left.
 -- Assumes nothing.
 use borrow.Author.Needs.{needs, sfits-of}
-use Prim.Native.Nat.{ℕ, _+_, _-_, _*_, _≤_}
+use Prim.Native.Nat.{ℕ, _-_, _*_, _≤_}
 use mathlib.Core.Path.{_≡_, ap, _∙_}
 use native.Mathlib.Omega.{arith}
 use lib.IntN.{pos}

@@ -1,6 +1,6 @@
 -- `put_spectrum` meets its contract. Assumes nothing.
 use borrow.Author.Needs.{needs}
-use Prim.Native.Nat.{ℕ, _+_, _≤_}
+use Prim.Native.Nat.{ℕ, _≤_}
 use mathlib.Core.Path.{_≡_, ap, sym}
 use native.Mathlib.Omega.{arith}
 use lib.ListN.{length, take}

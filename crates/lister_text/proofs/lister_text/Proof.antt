@@ -18,7 +18,7 @@ use Rattle.listing.specs.Lines.{refusedText}
 use Rattle.listing.specs.Printed.{printed-put}
 use Rattle.sections.specs.Values.{byteAt, pairAt, valueAt}
 use Rattle.silk.specs.Record.{Setting, settingOf}
-use Rattle.lister_text.specs.ListerText.{settingAt, packetOf, whole, frameText, listerText}
+use Rattle.lister_text.specs.ListerText.{settingAt, whole, frameText, listerText}
 use Rattle.lister_text.proofs.lister_text.Statement.{statement}
 use Rattle.lister_text.proofs.lister_text.Tie as tie
 

@@ -1,6 +1,6 @@
 -- `put_frame` meets its contract. Assumes nothing.
 use borrow.Author.Needs.{needs}
-use Prim.Native.Nat.{ℕ, zero, suc, _+_, _*_, _≤_, _<_}
+use Prim.Native.Nat.{ℕ, zero, suc, _*_, _≤_}
 use mathlib.Core.Path.{_≡_, refl, sym, ap, _∙_}
 use mathlib.Core.List.{List, _∷_}
 use native.Mathlib.Omega.{arith}
@@ -15,11 +15,10 @@ use mir.Val.{Fits, SFits}
 use mir.Facts.{toZ-ofZ}
 use Rattle.ints.specs.Widths.{parts-fit}
 use Rattle.numerals.specs.Put.{put-then, put-as}
-use Rattle.silk.specs.IndexRows.{Rate, eight, twelve, sixteen, Subframes, subframes-most}
+use Rattle.silk.specs.IndexRows.{Rate, eight, twelve, sixteen, subframes-most}
 use Rattle.silk.specs.IndexParts.{Upto}
-use Rattle.silk.specs.FrameCalls.{blocksOf, decodePulses}
+use Rattle.silk.specs.FrameCalls.{blocksOf}
 use Rattle.silk.specs.PulseCallLaws.{blocks-most}
-use Rattle.frame_text.specs.FrameText.{pulsesText}
 use Rattle.lister_text.proofs.put_frame.Statement.{statement}
 use Rattle.lister_text.proofs.put_frame.Tie as tie
 

@@ -1,11 +1,8 @@
 -- `put_pulses` meets its contract. Assumes nothing.
 use borrow.Author.Needs.{needs}
-use Prim.Native.Nat.{ℕ, _≤_}
-use mathlib.Core.Path.{_≡_, ap, ap₂, _∙_}
-use mathlib.Core.List.{List}
+use Prim.Native.Nat.{_≤_}
+use mathlib.Core.Path.{ap, ap₂}
 use native.Mathlib.Omega.{arith}
-use lib.IntN.{ℤ}
-use lib.ListN.{length}
 use Rattle.numerals.specs.Put.{put-as}
 use Rattle.silk.specs.FrameCalls.{Pulsed, blocksOf}
 use Rattle.silk.specs.PulseCallLaws.{blocks-most}

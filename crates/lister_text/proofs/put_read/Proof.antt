@@ -3,7 +3,7 @@ use borrow.Author.Needs.{needs}
 use borrow.Author.Tests.{eq-eqb, ne-eqb}
 use Prim.Native.Nat.{ℕ, _≤_}
 use mathlib.Core.Path.{_≡_, sym, ap, ap₂, subst⁻¹, _∙_}
-use mathlib.Core.List.{List, _++_}
+use mathlib.Core.List.{List}
 use native.Mathlib.Omega.{arith}
 use mir.Facts.{toZ-ofZ}
 use Rattle.numerals.specs.Put.{put-as}
@@ -14,9 +14,8 @@ use Rattle.entcode.specs.ReaderLaws.{Bytes}
 use Rattle.silk.specs.declared.Indices.{Indices}
 use Rattle.silk.specs.declared.IndicesRead.{IndicesRead}
 use Rattle.silk.specs.Record.{Setting, settingOf}
-use Rattle.silk.specs.FrameCalls.{blocksOf, decodeIndices}
-use Rattle.frame_text.specs.FrameText.{indicesText, pulsesText}
-use Rattle.lister_text.specs.ListerText.{indicesOf, pulsesOf, readText}
+use Rattle.silk.specs.FrameCalls.{decodeIndices}
+use Rattle.lister_text.specs.ListerText.{indicesOf, acceptedText, readText}
 use Rattle.lister_text.specs.Readings.{Listable, listable, refusal-most}
 use Rattle.lister_text.proofs.put_read.Statement.{statement}
 use Rattle.lister_text.proofs.put_read.Tie as tie
@@ -41,8 +40,7 @@ accepted r h =
     let e = ap (λ (a : IndicesRead). a .refusal) (reading r) in
     subst⁻¹ (Listable (setting z)) (reading r) (listable (z .args .packet .now) (setting z) y (sym e ∙ h))
 
-read : (b : List ℕ) (s : Setting) (a : IndicesRead) → a .refusal ≡ 0
-    → indicesText (s .khz) (s .subframes) (a .indices) ++ pulsesText (blocksOf (s .khz) (s .subframes)) (pulsesOf b (s .khz) (s .subframes) a) ≡ readText b s a
+read : (b : List ℕ) (s : Setting) (a : IndicesRead) → a .refusal ≡ 0 → acceptedText b (s .khz) (s .subframes) a ≡ readText b s a
 unfolding readText
 read b s a h = rw (eq-eqb (a .refusal) 0 h)
 

@@ -10,9 +10,8 @@ use lib.Seq.{length-take-le}
 use Rattle.numerals.specs.Put.{Put, put-as}
 use Rattle.listing.specs.Lines.{refusedText}
 use Rattle.listing.specs.Printed.{printed-put}
-use Rattle.sections.specs.Values.{byteAt, valuesAt}
-use Rattle.spectrum.specs.Calls.{stabiliseCall}
-use Rattle.stabiliser_text.specs.StabiliserText.{gapsAt, answerText, stabiliserText}
+use Rattle.sections.specs.Values.{byteAt}
+use Rattle.stabiliser_text.specs.StabiliserText.{gapsAt, sectionsText, stabiliserText}
 use Rattle.stabiliser_text.proofs.stabiliser_text.Statement.{statement}
 use Rattle.stabiliser_text.proofs.stabiliser_text.Tie as tie
 
@@ -24,12 +23,11 @@ module _ (s : List ℕ) (n m : ℕ) (first : n ≡ byteAt s 0) (second : m ≡ b
   gap-count = second ∙ ap (byteAt s) place
 
   put-whole : {k j i : ℕ} {l b : List ℕ} → length s ≡ 1 + 2 * n + 1 + 2 * m → k ≡ n → j ≡ m
-      → Put 256 l 0 (answerText (stabiliseCall (valuesAt s 1 k) (valuesAt s (2 + 2 * k) j))) b i → Put 256 l 0 (stabiliserText s) b i
+      → Put 256 l 0 (sectionsText s k j) b i → Put 256 l 0 (stabiliserText s) b i
   unfolding stabiliserText
   put-whole {k} {j} h p q t =
-      let g : 2 + 2 * k ≡ gapsAt s + 1 = omega (arith, place) in
       rw (eq-eqb (length s) (gapsAt s + 1 + 2 * byteAt s (gapsAt s)) (omega (arith, place, gap-count)))
-      (put-as t (ap answerText (ap₂ stabiliseCall (ap (valuesAt s 1) (p ∙ first)) (ap₂ (valuesAt s) g (q ∙ gap-count)))) (omega arith))
+      (put-as t (ap₂ (sectionsText s) (p ∙ first) (q ∙ gap-count)) (omega arith))
 
   put-cut : {i : ℕ} {l b : List ℕ} → (length s ≡ 1 + 2 * n + 1 + 2 * m → ⊥) → Put 15 l 0 (refusedText 9) b i → Put 15 l 0 (stabiliserText s) b i
   unfolding stabiliserText
