@@ -2,13 +2,8 @@
 use borrow.Author.Needs.{needs}
 use native.Mathlib.Omega.{arith}
 use Rattle.silk.specs.PulseCallLaws.{places-most}
-<<<<<<<< HEAD:crates/pulse_numbers/proofs/blocks_of_run/Proof.antt
 use Rattle.pulse_numbers.proofs.blocks_of_run.Statement.{statement}
 use Rattle.pulse_numbers.proofs.blocks_of_run.Tie as tie
-========
-use Rattle.decode_pulses.proofs.blocks_of_run.Statement.{statement}
-use Rattle.decode_pulses.proofs.blocks_of_run.Tie as tie
->>>>>>>> 857b6464799d0e9d1f7199da91b0b0b6e571a9b0:crates/decode_pulses/proofs/blocks_of_run/Proof.antt
 
 mul-places : tie.Need-mul-places
 mul-places c = search needs
