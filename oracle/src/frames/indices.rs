@@ -46,11 +46,11 @@ pub struct Held {
 /// include/tignarops.h
 #[repr(C)]
 pub struct IndicesRead {
-    refusal: u32,
-    state: Reader,
-    record: Record,
-    prev_type: u32,
-    prev_lag: i16,
+    pub refusal: u32,
+    pub state: Reader,
+    pub record: Record,
+    pub prev_type: u32,
+    pub prev_lag: i16,
 }
 
 #[derive(Clone, Debug)]
@@ -258,7 +258,10 @@ impl Call {
     }
 
     /// Sets what the crate's call looks at.
-    unsafe fn set(&self, decoder: *mut silk_decoder_state) {
+    ///
+    /// # Safety
+    /// The decoder's memory can be written.
+    pub unsafe fn set(&self, decoder: *mut silk_decoder_state) {
         (*decoder).fs_kHz = self.khz as i32;
         (*decoder).nb_subfr = self.subframes as i32;
         (*decoder).LPC_order = self.order() as i32;
