@@ -12,17 +12,18 @@ use Rattle.tests.specs.Choice.{chosen}
 use Rattle.lists.specs.Every.{every}
 use Rattle.refusals.specs.First.{firstOf, first-none}
 use Rattle.sheet.specs.Directory.{rateRow}
-use Rattle.entcode.specs.Models.{Sym, Allowed}
+use Rattle.entcode.specs.Models.{Sym}
 use Rattle.entcode.specs.Sound.{gateW}
 use Rattle.entcode.specs.Rules.{sayRule}
 use Rattle.entcode.specs.Writer.{Writer, writeSym, writeAll}
 use Rattle.entcode.specs.Flat.{Out, flat}
 use Rattle.entcode.specs.FlatLaws.{as-flat}
 use Rattle.entcode.specs.Writing.{written, finished, encSym, encDone}
-use Rattle.entcode.specs.WritingLaws.{say-open, answered-ok, answered-none}
+use Rattle.entcode.specs.WritingLaws.{answered-ok, answered-none}
 use Rattle.roundtrip.specs.Statement.{AllAllowed, after}
 use Rattle.roundtrip.proofs.Accepted.{took}
 use Rattle.tree.specs.Asks.{symbols}
+use Rattle.tree.specs.Says.{says-all}
 use Rattle.tree.specs.Telling.{writtenAll}
 use Rattle.silk.specs.declared.Indices.{Indices}
 use Rattle.silk.specs.Record.{Setting}
@@ -34,9 +35,10 @@ use Rattle.silk.specs.PulseSyntax.{row}
 use Rattle.silk.specs.PulseBlocks.{rows-counted, rows-sixteen}
 use Rattle.silk.specs.PulseWriting.{smallest, pulsesSay, shiftsOf, writeRule, writeNumbers, pulseBlocks, encodeRule, encodePulses}
 use Rattle.silk.specs.PulseWritten.{AllSuit, shifts-suit}
+use Rattle.silk.specs.PulseSayable.{frame-says}
+use Rattle.silk.specs.PulseSent.{WriteOpen, write-open}
 use Rattle.frame_roundtrip.specs.Statement.{Step, symbol, sideIndices, pulses, afterIndices, behind, Accepts, StepsSent}
 use Rattle.frame_roundtrip.proofs.Allowed.{said-allowed, allowed-both}
-use Rattle.frame_roundtrip.proofs.PulsesSaid.{pulses-allowed}
 
 -- the symbols of a call, and of a list of calls
 abbrev pub says : Step → List Sym
@@ -89,7 +91,7 @@ pub record PulsesTook (o : Out) (p : List ℤ) (khz subframes signal offset rate
   pub gate : gateW (o .buf) (o .state) ≡ 0
   pub numbers : pulseNumbersOk khz subframes signal offset ≡ true
   pub size : length p ≡ 16 * blocksOf khz subframes
-  pub allowed : Allowed (row (rateRow signal)) rate
+  pub own : WriteOpen (length p) khz subframes signal offset rate
   pub shifts : every (λ q. leb (smallest rate signal offset q) 10) (pulseBlocks p khz subframes) ≡ true
 
 numbers-parts : (a b c : Bool) → _≡_ {A = ℕ} (cond (a && b) (cond c 0 6) 4) 0 → (a ≡ true) × (c ≡ true)
@@ -118,7 +120,7 @@ module _ (p : List ℤ) (khz subframes signal offset rate : ℕ) where
         gate = f .0;
         numbers = n .0;
         size = eqb-true _ _ (n .1);
-        allowed = say-open (row (rateRow signal)) rate (eqb-true _ _ (r .0));
+        own = write-open (length p) khz subframes signal offset rate (g .0);
         shifts = r .1;
       }
 
@@ -128,7 +130,10 @@ module _ (p : List ℤ) (khz subframes signal offset rate : ℕ) where
   pulses-say : (o : Out) → PulsesTook o p khz subframes signal offset rate → AllAllowed (says (pulses p khz subframes signal offset rate))
   pulses-say o t =
       subst (λ (n : ℕ). AllAllowed (pulsesSay signal offset n rate (shiftsOf rate signal offset ps) ps)) (rows-counted (blocksOf khz subframes) p)
-      (pulses-allowed rate signal offset ps (t .shifts) (pulses-suit o t) (t .allowed))
+      (said-allowed _
+      (says-all
+      (frame-says rate signal offset (t .own .rate8) (t .own .frame .numbers .signal2) (t .own .frame .numbers .offset1) (shiftsOf rate signal offset ps) ps
+      (pulses-suit o t))))
 
   pulses-wrote : (o : Out) → encodePulses o p khz subframes signal offset rate .answer .refusal ≡ 0
       → after (encodePulses o p khz subframes signal offset rate) ≡ writtenAll o (says (pulses p khz subframes signal offset rate))

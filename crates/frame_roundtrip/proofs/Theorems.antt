@@ -1,6 +1,6 @@
 -- What was written of frames reads back: the theorems, over the public calls (`specs/Statement`). A reader starts here.
 --
--- The argument. Accepted calls wrote their symbols, each of which may be written (Sent; for pulses PulsesSaid), so that a finished list of calls is a
+-- The argument. Accepted calls wrote their symbols, each of which may be written (Sent), so that a finished list of calls is a
 -- finished list of symbols, of which a reader follows the writer (the room roundtrip). Through a part of such a list, behind any symbols and with any
 -- behind, the reader gives the part's symbols and stays beside the writer (Behind). A reader that gives a call's symbols has read what they mean (Read):
 -- the same pulses, and the record laid over the one that the reader's caller gave (Overlaid, by trees that ask alike: Alike).

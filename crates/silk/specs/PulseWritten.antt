@@ -41,18 +41,18 @@ count-meant level b m h = low-counts-meant 10 0 b refl (omega arith) m h
 
 -- ---- splits
 
-total-parts : (n : ℕ) (v : List ℕ) → total (take n v) + total (drop n v) ≡ total v
+pub total-parts : (n : ℕ) (v : List ℕ) → total (take n v) + total (drop n v) ≡ total v
 unfolding total
 total-parts zero v = omega arith
 total-parts (suc n) [] = refl
 total-parts (suc n) (x ∷ v) = omega (arith, total-parts n v)
 
-split-meant : (k c : ℕ) (v : List ℕ) → total v ≡ c → meant v (split k c) ≡ total (take (2 ^ k) v)
+pub split-meant : (k c : ℕ) (v : List ℕ) → total v ≡ c → meant v (split k c) ≡ total (take (2 ^ k) v)
 unfolding split meant
 split-meant k zero v e = omega (arith, total-parts (2 ^ k) v)
 split-meant k (suc c) v e = refl
 
-one-value : (c : ℕ) (v : List ℕ) → length v ≡ 1 → total v ≡ c → c ∷ [] ≡ v
+pub one-value : (c : ℕ) (v : List ℕ) → length v ≡ 1 → total v ≡ c → c ∷ [] ≡ v
 unfolding total
 one-value c [] l e = absurd (omega arith)
 one-value c (x ∷ []) l e = let q : c ≡ x = omega arith in rw q
@@ -86,7 +86,7 @@ sign-meant r (negsuc n) = refl
 -- ---- low bits
 
 -- one more low bit is the next digit of y
-next-bit : (n y : ℕ) → y / 2 ^ n ≡ 2 * (y / 2 ^ suc n) + y / 2 ^ n % 2
+pub next-bit : (n y : ℕ) → y / 2 ^ n ≡ 2 * (y / 2 ^ suc n) + y / 2 ^ n % 2
 next-bit n y =
     let q : y / 2 ^ suc n ≡ y / 2 ^ n / 2 = ap (λ (m : ℕ). y / m) (pow-suc 2 n) ∙ sym (div-div-eq-div-mul y (2 ^ n) 2) in
     omega arith
@@ -127,7 +127,7 @@ AllSuit [] (p ∷ ps) = ⊥
 AllSuit (j ∷ js) [] = ⊥
 AllSuit (j ∷ js) (p ∷ ps) = Suits j p × AllSuit js ps
 
-abbrev whole : List (List ℤ) → List (List ℕ)
+abbrev pub whole : List (List ℤ) → List (List ℕ)
 whole ps = map (map natAbs) ps
 
 pub counts-meant : (level : ℕ) (js : List ℕ) (ps : List (List ℤ)) → AllSuit js ps → meant (blocksBy js ps) (counts level (length ps)) ≡ blocksBy js ps
