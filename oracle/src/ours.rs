@@ -25,7 +25,7 @@ pub struct Moves {
 
 pub mod raw {
     use super::{Answer, Moves, Reader, Spectrum, Writer};
-    use crate::frames::indices::{IndicesRead, Record};
+    use crate::frames::indices::{IndicesRead, IndicesWritten, Record};
     type Read = Answer<Reader>;
     type Written = Answer<Writer>;
 
@@ -75,6 +75,18 @@ pub mod raw {
             prev_type: u32,
             prev_lag: i16,
         ) -> IndicesRead;
+        pub fn tg_encode_indices(
+            buf: *mut u8,
+            len: usize,
+            w: Writer,
+            record: Record,
+            khz: u32,
+            subframes: u32,
+            active: u32,
+            mode: u32,
+            prev_type: u32,
+            prev_lag: i16,
+        ) -> IndicesWritten;
         pub fn tg_decode_pulses(
             packet: *const u8,
             len: usize,
@@ -86,6 +98,18 @@ pub mod raw {
             signal_type: u32,
             offset_type: u32,
         ) -> Read;
+        pub fn tg_encode_pulses(
+            buf: *mut u8,
+            len: usize,
+            w: Writer,
+            pulses: *const i16,
+            n: usize,
+            khz: u32,
+            subframes: u32,
+            signal_type: u32,
+            offset_type: u32,
+            rate_level: u32,
+        ) -> Written;
 
         pub fn tg_nlsf_decode(vector: *mut i16, n: usize, indices: Spectrum, khz: u32) -> Moves;
         pub fn tg_nlsf_stabilise(v: *mut i16, n: usize, gaps: *const i16, m: usize) -> Moves;

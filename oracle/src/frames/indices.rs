@@ -14,7 +14,7 @@ use crate::silk::tables_pitch_lag::{
     silk_pitch_contour_10_ms_NB_iCDF, silk_pitch_contour_10_ms_iCDF, silk_pitch_contour_NB_iCDF,
     silk_pitch_contour_iCDF,
 };
-use crate::state::Reader;
+use crate::state::{Reader, Writer};
 use crate::ways::ways;
 use std::mem::{transmute, MaybeUninit};
 
@@ -49,6 +49,15 @@ pub struct IndicesRead {
     pub refusal: u32,
     pub state: Reader,
     pub record: Record,
+    pub prev_type: u32,
+    pub prev_lag: i16,
+}
+
+/// include/tignarops.h
+#[repr(C)]
+pub struct IndicesWritten {
+    pub refusal: u32,
+    pub state: Writer,
     pub prev_type: u32,
     pub prev_lag: i16,
 }

@@ -11,8 +11,6 @@ use std::f64::consts::TAU;
 use std::ffi::c_void;
 use std::ptr::null_mut;
 
-pub const GROUP: &str = "Frames of libopus's encoder";
-
 // opus_defines.h, and opus_private.h for the mode.
 const OPUS_APPLICATION_VOIP: i32 = 2048;
 const OPUS_SET_BITRATE: i32 = 4002;

@@ -1,25 +1,20 @@
 //! Frames read: the side indices, the pulses, and both.
 
 use crate::ours::Ours;
-use crate::row::{on_each, Row, Work};
+use crate::row::{by_size, on_each, BySize, Row, Work};
 use crate::side::{sides, Kind, Scribe, Setting, Side};
 use crate::size::Size;
-use crate::unopus::Unopus;
-use oracle::celt::entcode::ec_tell;
 use oracle::domain::LONGEST;
 use oracle::frames::indices::Record;
-use oracle::ours::dec_open;
+use oracle::models::Model;
+use oracle::ours::{dec, dec_open, enc_account};
 use oracle::rng::Rng;
+use oracle::silk::tables_pulses_per_block::silk_rate_levels_iCDF;
 use oracle::state::Reader;
 use std::hint::black_box;
 
-pub const RANDOM: &str = "Frames of random bytes";
-/// So many frames of each size and kind.
+/// So many frames of each size and source.
 pub const FRAMES: usize = 512;
-
-/// The side that writes what all sides read.
-pub type Pen = Unopus;
-type Ink<'a> = <Pen as Side>::Writer<'a>;
 
 /// A frame in its packet.
 #[derive(Clone)]
@@ -48,25 +43,27 @@ impl Frame {
     }
 
     /// With these side indices, and these pulses behind them; the packet is as long as they need.
-    pub fn written(
+    pub fn written<S: Scribe>(
         size: Size,
         setting: Setting,
         record: Record,
-        pulses: impl FnOnce(&mut Ink),
+        pulses: impl FnOnce(&mut S::Writer<'_>),
     ) -> Self {
         let mut packet = vec![0; LONGEST];
-        let mut writer = Pen::fresh(&mut packet);
-        Pen::write_indices(&mut Pen::encoder(size), &mut writer, setting, record);
+        let mut writer = S::fresh(&mut packet);
+        S::write_indices(&mut S::encoder(size), &mut writer, setting, record);
         pulses(&mut writer);
-        let bits = ec_tell(&writer) as usize;
-        Pen::finish(&mut writer);
+        let state = S::writer_state(&writer);
+        S::finish(&mut writer);
+        drop(writer);
+        let bits = enc_account(&packet, state).value as usize;
         packet.truncate(bits.div_ceil(8));
         let start = dec_open(&packet).state;
         Frame::new(packet, start, size, setting)
     }
 
     /// Of random bytes, more than it needs: each symbol is as often as its probability says.
-    fn random(rng: &mut Rng, size: Size) -> Self {
+    pub fn random(rng: &mut Rng, size: Size) -> Self {
         let mut packet = vec![0; 512];
         rng.fill(&mut packet);
         let start = dec_open(&packet).state;
@@ -78,34 +75,25 @@ impl Frame {
         };
         Frame::new(packet, start, size, setting)
     }
+
+    /// The rate level, which is the first symbol of the pulses.
+    pub fn level(&self) -> u32 {
+        let levels = &silk_rate_levels_iCDF[self.kind.0 as usize >> 1];
+        dec(&self.packet, self.middle, Model::Table(levels, 8)).value
+    }
 }
 
-pub fn random(rng: &mut Rng, size: Size) -> Vec<Frame> {
-    (0..FRAMES).map(|_| Frame::random(rng, size)).collect()
-}
-
-/// The rows of a set of frames, each part at each size.
-pub fn rows(group: &'static str, mut frames: impl FnMut(Size) -> Vec<Frame>) -> Vec<Row> {
-    let sizes = Size::all().map(|size| (size, frames(size)));
-    let sizes: Vec<(Size, Vec<Frame>)> = sizes.collect();
-    type Works = fn(&[Frame], Size) -> Vec<Work>;
-    let parts: [(&str, Works); 3] = [
-        ("side indices", |frames, size| sides!(indices(frames, size))),
-        ("pulses", |frames, size| sides!(pulses(frames, size))),
-        ("whole frame", |frames, size| sides!(whole(frames, size))),
-    ];
-    let row = |part, size: Size, works| Row {
+/// The rows of a source of frames.
+pub fn rows(group: &'static str, frames: &BySize<Frame>) -> Vec<Row> {
+    by_size(
         group,
-        name: format!("{part}, {}", size.name()),
-        inputs: FRAMES,
-        units: 1,
-        works,
-    };
-    let part = |(part, works): (&'static str, Works)| {
-        let sizes = sizes.iter();
-        sizes.map(move |(size, frames)| row(part, *size, works(frames, *size)))
-    };
-    parts.into_iter().flat_map(part).collect()
+        frames,
+        &[
+            ("side indices", |frames, size| sides!(indices(frames, size))),
+            ("pulses", |frames, size| sides!(pulses(frames, size))),
+            ("whole frame", |frames, size| sides!(whole(frames, size))),
+        ],
+    )
 }
 
 fn indices<S: Side>(frames: &[Frame], size: Size) -> Work {
@@ -117,7 +105,7 @@ fn indices<S: Side>(frames: &[Frame], size: Size) -> Work {
     })
 }
 
-pub fn pulses<S: Side>(frames: &[Frame], size: Size) -> Work {
+fn pulses<S: Side>(frames: &[Frame], size: Size) -> Work {
     let mut pulses = vec![0; size.places()];
     on_each(frames, move |frame| {
         let mut reader = S::resume(&mut frame.packet, frame.middle);

@@ -1,6 +1,7 @@
 //! Frames of few symbols and of many, up to the most that a frame can have.
 
-use crate::frames::{whole, Frame, Pen};
+use crate::frames::{whole, Frame};
+use crate::ours::Ours;
 use crate::row::Row;
 use crate::side::{sides, Setting, Side};
 use crate::size::Size;
@@ -77,9 +78,9 @@ fn frame(rng: &mut Rng, filled: usize, lows: usize, symbols: &mut usize) -> Fram
         prev_type: 0,
         prev_lag: 0,
     };
-    Frame::written(SIZE, setting, record, |writer| {
+    Frame::written::<Ours>(SIZE, setting, record, |writer| {
         pulses(rng, filled, lows, &mut |symbol, row| {
-            Pen::write(writer, Model::Table(row, 8), symbol);
+            Ours::write(writer, Model::Table(row, 8), symbol);
             *symbols += 1;
         })
     })

@@ -1,11 +1,13 @@
 //! The functions of libopus's static library, those of its headers and the internal ones.
 
-use crate::side::{Kind, Setting, Side};
+use crate::side::{Kind, Pulses, Scribe, Setting, Side};
 use crate::size::Size;
+use oracle::frames::indices::Record;
 use oracle::frames::libopus::Decoder;
 use oracle::models::Model;
 use oracle::state::{EcCtx, Reader, Writer};
 use std::ffi::{c_char, c_void, CStr};
+use std::mem::zeroed;
 
 extern "C" {
     fn ec_dec_init(ctx: *mut EcCtx<u32>, buf: *mut u8, storage: u32);
@@ -34,11 +36,44 @@ extern "C" {
         offset: i32,
         length: i32,
     );
+    fn silk_encode_indices(
+        encoder: *mut Encoder,
+        ctx: *mut EcCtx<i32>,
+        frame: i32,
+        again: i32,
+        mode: i32,
+    );
+    fn silk_encode_pulses(
+        ctx: *mut EcCtx<i32>,
+        signal: i32,
+        offset: i32,
+        pulses: *mut i8,
+        length: i32,
+    );
     fn silk_NLSF_decode(nlsf_q15: *mut i16, indices: *const i8, book: *const c_void);
     fn silk_NLSF_stabilize(nlsf_q15: *mut i16, gaps_q15: *const i16, n: i32);
     fn opus_get_version_string() -> *const c_char;
     static silk_NLSF_CB_NB_MB: c_void;
     static silk_NLSF_CB_WB: c_void;
+}
+
+/// silk_encoder_state of silk/structs.h, from its start to the previous lag; the call looks at no more.
+#[repr(C)]
+pub struct Encoder {
+    signals: [i32; 1144],
+    khz: i32,
+    subframes: i32,
+    numbers: [i32; 14],
+    order: i32,
+    choices: [i32; 11],
+    low_bits: *const u8,
+    contours: *const u8,
+    book: *const c_void,
+    qualities: [i32; 10],
+    record: Record,
+    input: [i32; 249],
+    prev_type: i32,
+    prev_lag: i16,
 }
 
 pub struct Libopus;
@@ -96,8 +131,8 @@ impl Side for Libopus {
     }
 
     #[inline(always)]
-    fn writer_range(ctx: &EcCtx<i32>) -> u32 {
-        ctx.fields.rng
+    fn writer_state(ctx: &EcCtx<i32>) -> Writer {
+        ctx.fields
     }
 
     #[inline(always)]
@@ -160,5 +195,43 @@ impl Side for Libopus {
     fn stabilise(vector: &mut [i16], gaps: &[i16]) {
         let n = vector.len() as i32;
         unsafe { silk_NLSF_stabilize(vector.as_mut_ptr(), gaps.as_ptr(), n) }
+    }
+}
+
+impl Scribe for Libopus {
+    type Encoder = Box<Encoder>;
+
+    fn encoder(size: Size) -> Box<Encoder> {
+        let decoder = Libopus::decoder(size);
+        Box::new(Encoder {
+            khz: decoder.khz,
+            subframes: decoder.subframes,
+            order: decoder.order,
+            low_bits: decoder.low_bits,
+            contours: decoder.contours,
+            book: decoder.book,
+            // SAFETY: numbers and pointers, which may be 0.
+            ..unsafe { zeroed() }
+        })
+    }
+
+    #[inline(always)]
+    fn write_indices(
+        encoder: &mut Box<Encoder>,
+        ctx: &mut EcCtx<i32>,
+        setting: Setting,
+        record: Record,
+    ) {
+        encoder.prev_type = setting.prev_type as i32;
+        encoder.prev_lag = setting.prev_lag;
+        encoder.record = record;
+        unsafe { silk_encode_indices(&mut **encoder, ctx, 0, 0, setting.mode as i32) }
+    }
+
+    #[inline(always)]
+    fn write_pulses(ctx: &mut EcCtx<i32>, pulses: &mut Pulses, size: Size, kind: Kind, _: u32) {
+        let (signal, offset) = (kind.0 as i32, kind.1 as i32);
+        let pulses = pulses.narrow.as_mut_ptr();
+        unsafe { silk_encode_pulses(ctx, signal, offset, pulses, size.length() as i32) }
     }
 }

@@ -22,11 +22,16 @@ mod speech;
 mod symbols;
 mod timing;
 mod unopus;
+mod written;
 
+use frames::Frame;
 use growth::{growth, Growth};
 use oracle::rng::Rng;
+use ours::Ours;
 use page::Results;
-use row::Row;
+use row::{BySize, Row};
+use size::Size;
+use speech::Said;
 use std::path::Path;
 use std::{env, fs};
 
@@ -34,18 +39,33 @@ use std::{env, fs};
 fn rows() -> Vec<Row> {
     let rng = &mut Rng::new(1);
     let mut rows = symbols::rows(rng);
-    rows.extend(frames::rows(speech::GROUP, |size| {
-        speech::frames(rng, size)
-    }));
+    let mut said = each_size(|size| many(|| speech::said(rng, size)));
+    let spoken = |(size, said): &mut (Size, Vec<Said>)| {
+        let frames = said.iter_mut().map(|said| said.frame::<Ours>(*size));
+        (*size, frames.collect())
+    };
+    let spoken = said.iter_mut().map(spoken).collect();
+    rows.extend(frames::rows("Frames as of speech, read", &spoken));
+    rows.extend(written::rows("Frames as of speech, written", &said));
     #[cfg(libopus)]
-    rows.extend(frames::rows(encoder::GROUP, |size| {
-        encoder::frames(rng, size)
-    }));
-    rows.extend(frames::rows(frames::RANDOM, |size| {
-        frames::random(rng, size)
-    }));
+    rows.extend(frames::rows(
+        "Frames of libopus's encoder, read",
+        &each_size(|size| encoder::frames(rng, size)),
+    ));
+    rows.extend(frames::rows(
+        "Frames of random bytes, read",
+        &each_size(|size| many(|| Frame::random(rng, size))),
+    ));
     rows.extend(spectra::rows(rng));
     rows
+}
+
+fn each_size<T>(mut inputs: impl FnMut(Size) -> Vec<T>) -> BySize<T> {
+    Size::all().map(|size| (size, inputs(size))).collect()
+}
+
+fn many<T>(one: impl FnMut() -> T) -> Vec<T> {
+    std::iter::repeat_with(one).take(frames::FRAMES).collect()
 }
 
 fn main() {

@@ -1,10 +1,13 @@
 //! Our exported calls: a state by value goes in and comes back.
 
-use crate::side::{Kind, Setting, Side};
+use crate::side::{Kind, Pulses, Scribe, Setting, Side};
 use crate::size::Size;
 use oracle::frames::indices::Record;
 use oracle::models::Model;
-use oracle::ours::raw::{tg_decode_indices, tg_decode_pulses, tg_nlsf_decode, tg_nlsf_stabilise};
+use oracle::ours::raw::{
+    tg_decode_indices, tg_decode_pulses, tg_encode_indices, tg_encode_pulses, tg_nlsf_decode,
+    tg_nlsf_stabilise,
+};
 use oracle::ours::{dec, dec_open, enc, enc_done, enc_open, Spectrum};
 use oracle::state::{Reader, Writer};
 use std::hint::black_box;
@@ -61,8 +64,8 @@ impl Side for Ours {
     }
 
     #[inline(always)]
-    fn writer_range(writer: &Writing) -> u32 {
-        writer.state.rng
+    fn writer_state(writer: &Writing) -> Writer {
+        writer.state
     }
 
     #[inline(always)]
@@ -131,5 +134,51 @@ impl Side for Ours {
     fn stabilise(vector: &mut [i16], gaps: &[i16]) {
         let (values, n) = (vector.as_mut_ptr(), vector.len());
         black_box(unsafe { tg_nlsf_stabilise(values, n, gaps.as_ptr(), gaps.len()) }.moves);
+    }
+}
+
+impl Scribe for Ours {
+    type Encoder = Size;
+
+    fn encoder(size: Size) -> Size {
+        size
+    }
+
+    #[inline(always)]
+    fn write_indices(size: &mut Size, writer: &mut Writing, setting: Setting, record: Record) {
+        let written = unsafe {
+            tg_encode_indices(
+                writer.buffer.as_mut_ptr(),
+                writer.buffer.len(),
+                writer.state,
+                record,
+                size.khz,
+                size.subframes,
+                setting.active,
+                setting.mode,
+                setting.prev_type,
+                setting.prev_lag,
+            )
+        };
+        writer.state = written.state;
+    }
+
+    #[inline(always)]
+    fn write_pulses(writer: &mut Writing, pulses: &mut Pulses, size: Size, kind: Kind, level: u32) {
+        let answer = unsafe {
+            tg_encode_pulses(
+                writer.buffer.as_mut_ptr(),
+                writer.buffer.len(),
+                writer.state,
+                pulses.wide.as_ptr(),
+                pulses.wide.len(),
+                size.khz,
+                size.subframes,
+                kind.0,
+                kind.1,
+                level,
+            )
+        };
+        writer.state = answer.state;
     }
 }

@@ -230,15 +230,15 @@ fn method() -> String {
     format!(
         "## How it is measured
 
-All sides run in one process on the same inputs: our static library, the crate built for release without overflow checks,
-{}. Each is called as a program would call it. Ours gets and gives its state by value and checks
-all it is given; the others have their coder in memory, and for frames a decoder that was set up before. After a first run the
-sides are held to have come to the same range of the coder, or to the same ends of the vector.
+All sides run in one process on the same inputs: our static library; the crate, built for release without overflow checks;
+{}. Each is called as a program would call it: ours gets and gives its state by value
+and checks all that it is given, the others keep their coder in memory, and for frames a decoder or encoder set up before. The
+sides are held to come to the same range of the coder, or to the same ends of a vector.
 
-- Time: the sides take turns, {} rounds. The inputs are timed in {PARTS} parts, and each part's best counts: a part is short
-  enough to be done without an interruption, and all inputs are too many for a processor to know their branches from the
-  round before.
-- Instructions: callgrind counts them in a run of their own. They repeat; time differs from run to run by some hundredths.
+- Time: {} rounds, in each of which the sides take turns at every row. A row's inputs are timed in {PARTS} parts and each part's
+  best counts: a part is short enough to be done without an interruption, and all parts are too many for a processor to know
+  their branches from the round before.
+- Instructions: callgrind counts them in a run of their own. They repeat; times differ from run to run by some hundredths.
 - Processor: {model}.
 ",
         libopus(),
@@ -260,14 +260,15 @@ fn inputs() -> String {
     format!(
         "The inputs are the same in each run:
 
-- Symbols: {TEXTS} texts of {SYMBOLS}, each symbol as often as its row's probabilities say; bits of exponent 1 to 15, 1 to 25
-  raw bits, totals of 2 to 32 bits. Reading begins with opening, writing with opening and ends with finishing, in a buffer
-  as long as the text needs. What is given is one symbol's share.
+- Symbols: {TEXTS} texts of {SYMBOLS} symbols, those of a row as often as its probabilities say; bits of exponent 1 to 15, 1 to 25
+  raw bits, totals of 2 to 32 bits. Reading includes opening; writing includes opening and finishing, in a buffer as long as
+  the text needs. The tables give one symbol's share.
 - Frames as of speech: {FRAMES} of each size, half of them voiced, three tenths unvoiced, the others inactive, one in three
   conditional; gains and spectra that change little; few pulses, larger ones at each period of a voiced frame, few low bits;
-  20 to 80 bytes for 4 subframes, half for 2; written by the crate's writers. A call begins at an opened reader.
-- Frames of libopus's encoder: {FRAMES} of each size, out of packets that it made, for speech and without redundancy, of a
-  synthetic voice (pulses of a wandering pitch, noise and pauses through three resonances), 1,250 bits a second for each kHz.
+  20 to 80 bytes for 4 subframes, half for 2. Reading begins at an opened reader, writing with opening, and does not finish.
+  Ours is told the rate level of the pulses; the others look for it, and find the same.
+- Frames of libopus's encoder: {FRAMES} of each size, from packets that it made of a synthetic voice (pulses of a wandering
+  pitch, noise and pauses through three resonances), for speech, without redundancy, 1,250 bits a second for each kHz.
 - Frames of random bytes: {FRAMES} of each size; each symbol is as often as its probability says.
 - Line spectra: {VECTORS} sets of indices as of speech; vectors that keep every gap, and vectors that break some.
 "

@@ -1,5 +1,6 @@
 //! A row of the tables: the same work done by each side.
 
+use crate::size::Size;
 use std::ops::Range;
 
 /// Does the inputs of these places, and answers a number by which the sides are held to agree.
@@ -26,6 +27,25 @@ pub fn on_each<T: Clone + 'static>(
         let inputs = inputs[places].iter_mut();
         inputs.map(|input| u64::from(call(input))).sum()
     })
+}
+
+/// The inputs of each size.
+pub type BySize<T> = Vec<(Size, Vec<T>)>;
+
+/// A part of a frame, and the work on it of each side.
+pub type Part<T> = (&'static str, fn(&[T], Size) -> Vec<Work>);
+
+/// A row for each part at each size.
+pub fn by_size<T>(group: &'static str, sizes: &BySize<T>, parts: &[Part<T>]) -> Vec<Row> {
+    let row = |(part, works): &Part<T>, (size, inputs): &(Size, Vec<T>)| Row {
+        group,
+        name: format!("{part}, {}", size.name()),
+        inputs: inputs.len(),
+        units: 1,
+        works: works(inputs, *size),
+    };
+    let part = |part| sizes.iter().map(move |size| row(part, size));
+    parts.iter().flat_map(part).collect()
 }
 
 impl Row {

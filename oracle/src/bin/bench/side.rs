@@ -3,7 +3,7 @@
 use crate::size::Size;
 use oracle::frames::indices::Record;
 use oracle::models::Model;
-use oracle::state::Reader;
+use oracle::state::{Reader, Writer};
 
 /// What a frame's side indices are read or written under.
 #[derive(Clone, Copy)]
@@ -33,7 +33,7 @@ pub trait Side: 'static {
     fn read(reader: &mut Self::Reader<'_>, model: Model) -> u32;
 
     fn fresh(buffer: &mut [u8]) -> Self::Writer<'_>;
-    fn writer_range(writer: &Self::Writer<'_>) -> u32;
+    fn writer_state(writer: &Self::Writer<'_>) -> Writer;
     fn write(writer: &mut Self::Writer<'_>, model: Model, value: u32);
     fn finish(writer: &mut Self::Writer<'_>);
 
@@ -60,7 +60,21 @@ pub trait Scribe: Side {
         setting: Setting,
         record: Record,
     );
-    fn write_pulses(writer: &mut Self::Writer<'_>, pulses: &mut [i8], size: Size, kind: Kind);
+    /// Those that choose a rate level themselves choose this one.
+    fn write_pulses(
+        writer: &mut Self::Writer<'_>,
+        pulses: &mut Pulses,
+        size: Size,
+        kind: Kind,
+        level: u32,
+    );
+}
+
+/// The same pulses in 16 bits, as ours takes them, and in 8, as the others do.
+#[derive(Clone)]
+pub struct Pulses {
+    pub wide: Vec<i16>,
+    pub narrow: Vec<i8>,
 }
 
 /// The work of each side that is linked, ours first.

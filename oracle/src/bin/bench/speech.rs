@@ -1,60 +1,76 @@
 //! Frames as speech has them, by a simple model: voiced, unvoiced and inactive ones, gains and spectra
 //! that change little, pulses at each period of a voiced frame, few low bits.
 
-use crate::frames::{Frame, Pen, FRAMES};
-use crate::side::{Scribe, Setting};
+use crate::frames::Frame;
+use crate::ours::Ours;
+use crate::side::{Kind, Pulses, Scribe, Setting};
 use crate::size::Size;
+use crate::unopus::Unopus;
 use oracle::domain::order;
 use oracle::frames::indices::Record;
 use oracle::rng::Rng;
 
-pub const GROUP: &str = "Frames as of speech";
 const VOICED: i8 = 2;
 
 /// What a frame says.
-struct Said {
-    setting: Setting,
-    record: Record,
-    pulses: Vec<i8>,
+#[derive(Clone)]
+pub struct Said {
+    pub setting: Setting,
+    pub record: Record,
+    pub pulses: Pulses,
+    pub level: u32,
 }
 
-pub fn frames(rng: &mut Rng, size: Size) -> Vec<Frame> {
-    (0..FRAMES).map(|_| frame(rng, size)).collect()
-}
-
-/// A frame of 20 to 80 bytes, if it has 4 subframes; half of that, if it has 2.
-fn frame(rng: &mut Rng, size: Size) -> Frame {
+/// Half of the frames are voiced, and one in three is not the first of its packet. Each has 20 to 80
+/// bytes, if it has 4 subframes, and half of that, if it has 2. Those are passed over which the crate's
+/// writers would put otherwise than ours, since the sides are to do the same.
+pub fn said(rng: &mut Rng, size: Size) -> Said {
+    let signal_type = rng.pick(&[0, 0, 1, 1, 1, 2, 2, 2, 2, 2]);
+    let mode = rng.pick(&[0, 0, 2]);
     loop {
-        let mut said = said(rng, size);
-        let kind = (
-            said.record.signal_type as u32,
-            said.record.offset_type as u32,
-        );
-        let frame = Frame::written(size, said.setting, said.record, |writer| {
-            Pen::write_pulses(writer, &mut said.pulses, size, kind)
-        });
-        let bytes = frame.packet.len() as u32;
-        if (5 * size.subframes..=20 * size.subframes).contains(&bytes) {
-            return frame;
+        let mut said = any(rng, size, signal_type, mode);
+        let theirs = said.frame::<Unopus>(size);
+        said.level = theirs.level();
+        let ours = said.frame::<Ours>(size).packet;
+        let bytes = 5 * size.subframes..=20 * size.subframes;
+        if ours == theirs.packet && bytes.contains(&(ours.len() as u32)) {
+            return said;
         }
     }
 }
 
-/// Half of the frames are voiced, and one in three is not the first of its packet.
-fn said(rng: &mut Rng, size: Size) -> Said {
-    let signal_type = rng.pick(&[0, 0, 1, 1, 1, 2, 2, 2, 2, 2]);
-    let mode = rng.pick(&[0, 0, 2]);
+impl Said {
+    pub fn kind(&self) -> Kind {
+        let Record {
+            signal_type,
+            offset_type,
+            ..
+        } = self.record;
+        (signal_type as u32, offset_type as u32)
+    }
+
+    pub fn frame<S: Scribe>(&mut self, size: Size) -> Frame {
+        let (kind, level) = (self.kind(), self.level);
+        Frame::written::<S>(size, self.setting, self.record, |writer| {
+            S::write_pulses(writer, &mut self.pulses, size, kind, level)
+        })
+    }
+}
+
+fn any(rng: &mut Rng, size: Size, signal_type: i8, mode: u32) -> Said {
     let record = record(rng, size, signal_type, mode);
     let setting = Setting {
         active: u32::from(signal_type > 0),
         mode,
         prev_type: rng.pick(&[signal_type as u32, signal_type as u32, 1]),
-        prev_lag: record.lag + rng.between(0, 30) as i16 - 15,
+        // Too far for the crate's writer to code a lag relative to it, which ours never does.
+        prev_lag: record.lag + rng.between(20, 40) as i16,
     };
     Said {
         setting,
         record,
         pulses: pulses(rng, size, &record),
+        level: 0,
     }
 }
 
@@ -112,22 +128,23 @@ pub fn residual(rng: &mut Rng) -> i8 {
 }
 
 /// One place in so many has a pulse, and a voiced frame has larger ones at each period.
-fn pulses(rng: &mut Rng, size: Size, record: &Record) -> Vec<i8> {
+fn pulses(rng: &mut Rng, size: Size, record: &Record) -> Pulses {
     let rare = match record.signal_type {
         0 => rng.between(10, 40),
         1 => rng.between(3, 8),
         _ => rng.between(5, 16),
     };
     let period = record.lag as usize + 2 * size.khz as usize;
-    let mut pulses = vec![0; size.places()];
-    for (place, pulse) in pulses[..size.length()].iter_mut().enumerate() {
+    let mut wide = vec![0; size.places()];
+    for (place, pulse) in wide[..size.length()].iter_mut().enumerate() {
         if record.signal_type == VOICED && place % period < 2 {
-            *pulse = rng.between(1, 6) as i8;
+            *pulse = rng.between(1, 6) as i16;
         }
         while rng.one_in(if *pulse == 0 { rare } else { 5 }) {
             *pulse += 1;
         }
         *pulse *= rng.pick(&[-1, 1]);
     }
-    pulses
+    let narrow = wide.iter().map(|&pulse| pulse as i8).collect();
+    Pulses { wide, narrow }
 }

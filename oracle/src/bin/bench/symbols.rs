@@ -106,5 +106,5 @@ fn write<S: Side>(text: &mut Text, model: impl Models) -> u32 {
         S::write(&mut writer, model(number), value);
     }
     S::finish(&mut writer);
-    S::writer_range(&writer)
+    S::writer_state(&writer).rng
 }

@@ -1,6 +1,6 @@
 //! The crate's functions, built for release: no overflow checks.
 
-use crate::side::{Kind, Scribe, Setting, Side};
+use crate::side::{Kind, Pulses, Scribe, Setting, Side};
 use crate::size::Size;
 use oracle::celt::entcode::ec_ctx;
 use oracle::celt::entdec::{ec_dec_bit_logp, ec_dec_bits, ec_dec_icdf, ec_dec_init, ec_dec_uint};
@@ -20,7 +20,7 @@ use oracle::silk::tables_NLSF_CB_NB_MB::silk_NLSF_CB_NB_MB;
 use oracle::silk::tables_NLSF_CB_WB::silk_NLSF_CB_WB;
 use oracle::silk::NLSF_decode::silk_NLSF_decode;
 use oracle::silk::NLSF_stabilize::silk_NLSF_stabilize;
-use oracle::state::Reader;
+use oracle::state::{Reader, Writer};
 use std::mem::{transmute, MaybeUninit};
 
 pub struct Unopus;
@@ -68,8 +68,8 @@ impl Side for Unopus {
     }
 
     #[inline(always)]
-    fn writer_range(ctx: &ec_ctx) -> u32 {
-        ctx.rng
+    fn writer_state(ctx: &ec_ctx) -> Writer {
+        Writer::of_the_crate(ctx)
     }
 
     #[inline(always)]
@@ -172,8 +172,9 @@ impl Scribe for Unopus {
     }
 
     #[inline(always)]
-    fn write_pulses(ctx: &mut ec_ctx, pulses: &mut [i8], size: Size, kind: Kind) {
+    fn write_pulses(ctx: &mut ec_ctx, pulses: &mut Pulses, size: Size, kind: Kind, _: u32) {
         let (signal, offset) = (kind.0 as i32, kind.1 as i32);
+        let pulses = &mut pulses.narrow;
         silk_encode_pulses(ctx, signal, offset, pulses, size.length() as i32);
     }
 }
