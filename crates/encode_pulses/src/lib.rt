@@ -18,13 +18,13 @@ fn write_rule(n: usize, khz: u32, subframes: u32, signal: u32, offset: u32, rate
     }
 }
 
-fn refused(n: u32, w: Enc) -> Encoded
-    ensures { λ a. ⌜ a ≡ record { refusal = n; value = 0; state = w } ⌝ }
+fn answer(n: u32, state: Enc) -> Encoded
+    ensures { λ a. ⌜ a ≡ record { refusal = n; value = 0; state = state } ⌝ }
 {
     Encoded {
         refusal: n,
         value: 0,
-        state: w,
+        state,
     }
 }
 
@@ -43,7 +43,7 @@ pub fn silk_encode_pulses(
     let rule = write_rule(pulses.len(), khz, subframes, signal, offset, rate);
     let n = refusals::first_refusal(entenc::gate::gate(buf, w), rule);
     if n != 0 {
-        return refused(n, w);
+        return answer(n, w);
     }
     let blocks = pulse_numbers::blocks_of_run(khz, subframes);
     let x = pulse_shifts::plan_run(pulses, blocks);
@@ -60,11 +60,7 @@ pub fn silk_encode_pulses(
             offset,
             rate,
         );
-        return Encoded {
-            refusal: 0,
-            value: 0,
-            state,
-        };
+        return answer(0, state);
     }
-    refused(8, w)
+    answer(8, w)
 }

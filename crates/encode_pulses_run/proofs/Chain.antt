@@ -21,7 +21,8 @@ use Rattle.silk.specs.PulseWritten.{whole, counts-meant, splits-meant, lows-mea
 use Rattle.silk.specs.PulsePlans.{Suited}
 use Rattle.silk.specs.PulseTelling.{SplitsTold, LowsTold, SignsTold}
 
-module _ (o p₀ p₁ p₂ p₃ q : Out) (r : List ℕ) (signal offset rate n : ℕ) (c l : List ℕ) (v : List ℤ) (few : n ≤ 20) (s : Suited (take n l) (rows16 n v) c l) where
+module _ (o p₀ p₁ p₂ p₃ q : Out) (r : List ℕ) (signal offset rate n : ℕ) (c l : List ℕ) (v : List ℤ) (few : n ≤ 20)
+    (s : Suited (take n l) (rows16 n v) c l) where
   abbrev ps : List (List ℤ)
   ps = rows16 n v
 

@@ -68,8 +68,8 @@ pub planned-start : (c l : List ℕ) → AtMost 16 c → AtMost 10 l → Planned
 unfolding blocksFrom blocksBy
 planned-start c l h k = record { is = refl; suited = λ e. record { suits = tt; blocks = refl; most = h; few = k } }
 
-pub planned-next : (ps : List (List ℤ)) (p : List ℤ) (c l : List ℕ) (t : Bool) (i count shift : ℕ) → Planned ps c l t → Shift p count shift → length p ≡ 16
-    → length ps ≡ i → i < length c → i < length l → Planned (ps ++ (p ∷ [])) (set c i count) (set l i shift) (t && leb shift 10)
+pub planned-next : (ps : List (List ℤ)) (p : List ℤ) (c l : List ℕ) (t : Bool) (i count shift : ℕ) → Planned ps c l t
+    → Shift p count shift → length p ≡ 16 → length ps ≡ i → i < length c → i < length l → Planned (ps ++ (p ∷ [])) (set c i count) (set l i shift) (t && leb shift 10)
 planned-next ps p c l t i count shift g h s e a b =
     record {
       is = rw (every-snoc (λ q. leb (leastShift q) 10) ps p, g .is, h .is);

@@ -81,7 +81,9 @@ module _ (o : Out) (p : List ℤ) (khz subframes signal offset rate n : ℕ)
   ps = pulseBlocks p khz subframes
 
   rule-is : encodeRule o p khz subframes signal offset rate ≡ firstOf n (writeRule signal offset rate ps)
-  rule-is = first-assoc (gateW (o .buf) (o .state)) (writeNumbers (length p) khz subframes signal offset rate) (writeRule signal offset rate ps) ∙ ap (λ (m : ℕ). firstOf m (writeRule signal offset rate ps)) (sym e)
+  rule-is =
+      first-assoc (gateW (o .buf) (o .state)) (writeNumbers (length p) khz subframes signal offset rate) (writeRule signal offset rate ps)
+      ∙ ap (λ (m : ℕ). firstOf m (writeRule signal offset rate ps)) (sym e)
 
   -- refused by state or numbers
   pub pulses-early : (n ≡ 0 → ⊥) → refuses n o ≡ encodePulses o p khz subframes signal offset rate
@@ -119,7 +121,8 @@ module _ (o : Out) (p : List ℤ) (khz subframes signal offset rate n : ℕ)
 
     -- written
     pub pulses-sent : (q : Out) → every (λ q. leb (leastShift q) 10) ps ≡ true
-        → q ≡ writtenAll o (pulsesSay signal offset (blocksOf khz subframes) rate (map leastShift ps) ps) → takes 0 q ≡ encodePulses o p khz subframes signal offset rate
+        → q ≡ writtenAll o (pulsesSay signal offset (blocksOf khz subframes) rate (map leastShift ps) ps)
+        → takes 0 q ≡ encodePulses o p khz subframes signal offset rate
     unfolding encodePulses
     pulses-sent q t w =
         let r : encodeRule o p khz subframes signal offset rate ≡ 0 = rule-eight ∙ rw t in
@@ -137,7 +140,8 @@ pub record PulsesSent (o q : Out) : Type 0 where
   pub most : q .state .total ≤ o .state .total + 100000
 
 -- a rule that passes has found a shift for each block
-rule-shifts : (signal offset rate : ℕ) (ps : List (List ℤ)) → All Sixteen ps → writeRule signal offset rate ps ≡ 0 → AllSuit (shiftsOf rate signal offset ps) ps
+rule-shifts : (signal offset rate : ℕ) (ps : List (List ℤ)) → All Sixteen ps → writeRule signal offset rate ps ≡ 0
+    → AllSuit (shiftsOf rate signal offset ps) ps
 unfolding writeRule
 rule-shifts signal offset rate ps w e =
     shifts-suit rate signal offset ps w (and-both (eqb (sayRule (row (rateRow signal)) rate) 0) (every (λ p. leb (smallest rate signal offset p) 10) ps) (passed _ e) .1)
@@ -161,7 +165,8 @@ sent-accepted o p khz subframes signal offset rate e =
     let m = w .frame .numbers in
     let a : AllSuit js ps = rule-shifts signal offset rate ps (rows-sixteen n p (omega (arith, w .frame .length16))) (g .1) in
     let d : allSaid (pulsesSay signal offset n rate js ps) ≡ true =
-    subst (λ (k : ℕ). allSaid (pulsesSay signal offset k rate js ps) ≡ true) (rows-counted n p) (says-all (frame-says rate signal offset (w .rate8) (m .signal2) (m .offset1) js ps a)) in
+    subst (λ (k : ℕ). allSaid (pulsesSay signal offset k rate js ps) ≡ true) (rows-counted n p)
+    (says-all (frame-says rate signal offset (w .rate8) (m .signal2) (m .offset1) js ps a)) in
     let t = excitation-within signal offset n (m .signal2) (m .offset1) (blocks-most khz subframes (m .khz16) (m .subframes4)) in
     let y = excited rate js ps in
     let b = total-always Fine 64656 o y (excitation signal offset n) t d c in

@@ -53,7 +53,8 @@ module _ {R Q A B : Type 0} (hand : List Block → List (List ℤ) → R) (tree 
         to = omega arith;
       }
 
-  pub telling-next : {q z : Out} {i : ℕ} → Telling q i → i < n → Told q (part (blockAt c l i) (blockOf v i)) (turn (blockAt c l i) (blockOf v i)) w z → Telling z (i + 1)
+  pub telling-next : {q z : Out} {i : ℕ} → Telling q i → i < n
+      → Told q (part (blockAt c l i) (blockOf v i)) (turn (blockAt c l i) (blockOf v i)) w z → Telling z (i + 1)
   telling-next {i = i} g h t =
       record {
         midway =
@@ -74,15 +75,18 @@ module _ {R Q A B : Type 0} (hand : List Block → List (List ℤ) → R) (tree 
 -- ---- splits, low bits, signs
 
 module _ (b : Block) (bs : List Block) (p : List ℤ) (ps : List (List ℤ)) where
-  pub splits-more : symbols (shifted (b ∷ bs) (whole (p ∷ ps))) (each [] shellOf (b ∷ bs)) ≡ symbols (shiftedBy (b .lows) p) (shellOf b) ++ symbols (shifted bs (whole ps)) (each [] shellOf bs)
+  pub splits-more : symbols (shifted (b ∷ bs) (whole (p ∷ ps))) (each [] shellOf (b ∷ bs))
+      ≡ symbols (shiftedBy (b .lows) p) (shellOf b) ++ symbols (shifted bs (whole ps)) (each [] shellOf bs)
   unfolding each shifted
   splits-more = symbols-cons (shiftedBy (b .lows) p ∷ shifted bs (whole ps)) (headOf []) (shellOf b) tailOf (each [] shellOf bs)
 
-  pub lows-more : symbols (whole (p ∷ ps)) (blockLows (b ∷ bs) (shifted (b ∷ bs) (whole (p ∷ ps)))) ≡ symbols (map natAbs p) (lowsOf b (shiftedBy (b .lows) p)) ++ symbols (whole ps) (blockLows bs (shifted bs (whole ps)))
+  pub lows-more : symbols (whole (p ∷ ps)) (blockLows (b ∷ bs) (shifted (b ∷ bs) (whole (p ∷ ps))))
+      ≡ symbols (map natAbs p) (lowsOf b (shiftedBy (b .lows) p)) ++ symbols (whole ps) (blockLows bs (shifted bs (whole ps)))
   unfolding blockLows shifted
   lows-more = symbols-cons (whole (p ∷ ps)) (headOf []) (lowsOf b (shiftedBy (b .lows) p)) tailOf (blockLows bs (shifted bs (whole ps)))
 
-  pub signs-more : (signal offset : ℕ) → symbols (p ∷ ps) (blockSigns signal offset (b ∷ bs) (whole (p ∷ ps))) ≡ symbols p (signsOf signal offset b (map natAbs p)) ++ symbols ps (blockSigns signal offset bs (whole ps))
+  pub signs-more : (signal offset : ℕ) → symbols (p ∷ ps) (blockSigns signal offset (b ∷ bs) (whole (p ∷ ps)))
+      ≡ symbols p (signsOf signal offset b (map natAbs p)) ++ symbols ps (blockSigns signal offset bs (whole ps))
   unfolding blockSigns
   signs-more signal offset = symbols-cons (p ∷ ps) (headOf []) (signsOf signal offset b (map natAbs p)) tailOf (blockSigns signal offset bs (whole ps))
 

@@ -37,8 +37,8 @@ gate-requires c κs = search needs
 first-refusal-requires : tie.Need-first-refusal-requires
 first-refusal-requires c κs = search needs
 
-refused-requires : tie.Need-refused-requires
-refused-requires c κs = search needs
+answer-requires : tie.Need-answer-requires
+answer-requires c κs = search needs
 
 same-length : tie.Need-same-length
 same-length c = search needs
@@ -46,7 +46,7 @@ same-length c = search needs
 returns : tie.Need-returns
 returns c =
     let a = c .before .before .before .before .before .before .before .args in
-    ap (sent (a .buf .now)) (c .refused .ensures) ∙ pulses-early (out (a .buf .now) (a .w)) (a .pulses .now) (a .khz) (a .subframes) (a .signal) (a .offset) (a .rate) _ (number (c .before .before)) (c .before .if1 .taken)
+    ap (sent (a .buf .now)) (c .answer .ensures) ∙ pulses-early (out (a .buf .now) (a .w)) (a .pulses .now) (a .khz) (a .subframes) (a .signal) (a .offset) (a .rate) _ (number (c .before .before)) (c .before .if1 .taken)
 
 blocks-of-run-requires : tie.Need-blocks-of-run-requires
 blocks-of-run-requires c κs = let m = on c .own .frame .numbers in (m .khz16, m .subframes4)
@@ -86,25 +86,29 @@ silk-encode-pulses-run-requires c κs =
       ),
     )
 
+answer-requires-2 : tie.Need-answer-requires-2
+answer-requires-2 c κs = search needs
+
 same-length-2 : tie.Need-same-length-2
 same-length-2 c = search needs
 
 returns-2 : tie.Need-returns-2
 returns-2 c =
-    let a = c .before .before .before .before .before .before .before .before .before .before .before .before .before .before .before .args in
-    let x = c .before .before .before .before .before .before .before .plan-run in
-    let r = c .before .before .silk-encode-pulses-run in
-    let e = c .before .before .before .before .before .before .before .before .blocks-of-run .ensures in
-    let t = c .before .before .before .before .before .before .if2 .taken in
-    let f = on (c .before .before .before .before .before .before .before .before .before) .own .frame .numbers in
+    let a = c .before .before .before .before .before .before .before .before .before .before .before .before .before .before .before .before .args in
+    let x = c .before .before .before .before .before .before .before .before .plan-run in
+    let r = c .before .before .before .silk-encode-pulses-run in
+    let e = c .before .before .before .before .before .before .before .before .before .blocks-of-run .ensures in
+    let t = c .before .before .before .before .before .before .before .if2 .taken in
+    let f = on (c .before .before .before .before .before .before .before .before .before .before) .own .frame .numbers in
     let size : length (x .result .lows) ≡ 20 = search needs in
-    let few : c .before .before .before .before .before .before .before .before .blocks-of-run .result ≤ length (x .result .lows) = omega (arith, e, size, blocks-most (a .khz) (a .subframes) (f .khz16) (f .subframes4)) in
-    pulses-sent (out (a .buf .now) (a .w)) (a .pulses .now) (a .khz) (a .subframes) (a .signal) (a .offset) (a .rate) _ (number (c .before .before .before .before .before .before .before .before .before .before)) (c .before .before .before .before .before .before .before .before .before .if1 .left) _
+    let few : c .before .before .before .before .before .before .before .before .before .blocks-of-run .result ≤ length (x .result .lows) = omega (arith, e, size, blocks-most (a .khz) (a .subframes) (f .khz16) (f .subframes4)) in
+    ap (sent (r .last .0)) (c .answer2 .ensures)
+    ∙ pulses-sent (out (a .buf .now) (a .w)) (a .pulses .now) (a .khz) (a .subframes) (a .signal) (a .offset) (a .rate) _ (number (c .before .before .before .before .before .before .before .before .before .before .before)) (c .before .before .before .before .before .before .before .before .before .before .if1 .left) _
     (plan-fits _ _ (a .pulses .now) (x .result .counts) (x .result .lows) (x .result .fits) true (x .ensures) e t)
     (plan-says _ (a .pulses .now) (x .result .counts) (x .result .lows) (x .result .fits) (x .ensures) t few _ _ (a .signal) (a .offset) (a .rate) _ 64656 e (r .ensures))
 
-refused-requires-2 : tie.Need-refused-requires-2
-refused-requires-2 c κs = search needs
+answer-requires-3 : tie.Need-answer-requires-3
+answer-requires-3 c κs = search needs
 
 same-length-3 : tie.Need-same-length-3
 same-length-3 c = search needs
@@ -113,7 +117,7 @@ returns-3 : tie.Need-returns-3
 returns-3 c =
     let a = c .before .before .before .before .before .before .before .before .before .before .args in
     let x = c .before .before .plan-run in
-    ap (sent (a .buf .now)) (c .refused2 .ensures)
+    ap (sent (a .buf .now)) (c .answer3 .ensures)
     ∙ pulses-unfit (out (a .buf .now) (a .w)) (a .pulses .now) (a .khz) (a .subframes) (a .signal) (a .offset) (a .rate) _ (number (c .before .before .before .before .before)) (c .before .before .before .before .if1 .left)
     (plan-fits _ _ (a .pulses .now) (x .result .counts) (x .result .lows) (x .result .fits) false (x .ensures) (c .before .before .before .blocks-of-run .ensures) (c .before .if2 .left))
 
@@ -124,7 +128,7 @@ silk-encode-pulses-spec =
     write-rule-requires
     gate-requires
     first-refusal-requires
-    refused-requires
+    answer-requires
     same-length
     returns
     blocks-of-run-requires
@@ -132,8 +136,9 @@ silk-encode-pulses-spec =
     pulse-rows-requires
     slice-aggregate-silk-encode-pulses-run
     silk-encode-pulses-run-requires
+    answer-requires-2
     same-length-2
     returns-2
-    refused-requires-2
+    answer-requires-3
     same-length-3
     returns-3)
