@@ -1,6 +1,6 @@
 # make           the static library, every function in it proved
 # make check     the gate: all proofs and tests
-# make bench     our speed beside the crate's and libopus's
+# make bench     our speed beside the crate's and libopus's, into docs/BENCH.md
 # make install   header, library and pkg-config file under PREFIX
 PREFIX ?= /usr/local
 library = target/staticlib/libtignarops.a

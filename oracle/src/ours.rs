@@ -25,7 +25,7 @@ pub struct Moves {
 
 pub mod raw {
     use super::{Answer, Moves, Reader, Spectrum, Writer};
-    use crate::frames::indices::{IndicesRead, Record};
+    use crate::frames::indices::{IndicesRead, IndicesWritten, Record};
     type Read = Answer<Reader>;
     type Written = Answer<Writer>;
 
@@ -75,6 +75,18 @@ pub mod raw {
             prev_type: u32,
             prev_lag: i16,
         ) -> IndicesRead;
+        pub fn tg_encode_indices(
+            buf: *mut u8,
+            len: usize,
+            w: Writer,
+            record: Record,
+            khz: u32,
+            subframes: u32,
+            active: u32,
+            mode: u32,
+            prev_type: u32,
+            prev_lag: i16,
+        ) -> IndicesWritten;
         pub fn tg_decode_pulses(
             packet: *const u8,
             len: usize,
@@ -86,6 +98,18 @@ pub mod raw {
             signal_type: u32,
             offset_type: u32,
         ) -> Read;
+        pub fn tg_encode_pulses(
+            buf: *mut u8,
+            len: usize,
+            w: Writer,
+            pulses: *const i16,
+            n: usize,
+            khz: u32,
+            subframes: u32,
+            signal_type: u32,
+            offset_type: u32,
+            rate_level: u32,
+        ) -> Written;
 
         pub fn tg_nlsf_decode(vector: *mut i16, n: usize, indices: Spectrum, khz: u32) -> Moves;
         pub fn tg_nlsf_stabilise(v: *mut i16, n: usize, gaps: *const i16, m: usize) -> Moves;
@@ -99,7 +123,9 @@ pub fn table_entry(table: u32, place: usize) -> u32 {
 
 // SAFETY of the coder's calls: each pointer comes with its slice's length, a table is no part of the
 // bytes that are lent for writing, and the calls are defined for all numbers, states and bytes.
+// Inlined where the speed of the call itself is measured.
 
+#[inline(always)]
 pub fn dec_open(packet: &[u8]) -> Answer<Reader> {
     unsafe { raw::tg_dec_open(packet.as_ptr(), packet.len()) }
 }
@@ -108,6 +134,7 @@ pub fn dec_account(packet: &[u8], r: Reader) -> Answer<Reader> {
     unsafe { raw::tg_dec_account(packet.as_ptr(), packet.len(), r) }
 }
 
+#[inline(always)]
 pub fn dec(packet: &[u8], r: Reader, model: Model) -> Answer<Reader> {
     let (bytes, len) = (packet.as_ptr(), packet.len());
     unsafe {
@@ -122,6 +149,7 @@ pub fn dec(packet: &[u8], r: Reader, model: Model) -> Answer<Reader> {
     }
 }
 
+#[inline(always)]
 pub fn enc_open(buffer: &[u8]) -> Answer<Writer> {
     unsafe { raw::tg_enc_open(buffer.as_ptr(), buffer.len()) }
 }
@@ -130,6 +158,7 @@ pub fn enc_account(buffer: &[u8], w: Writer) -> Answer<Writer> {
     unsafe { raw::tg_enc_account(buffer.as_ptr(), buffer.len(), w) }
 }
 
+#[inline(always)]
 pub fn enc(buffer: &mut [u8], w: Writer, model: Model, value: u32) -> Answer<Writer> {
     let (bytes, len) = (buffer.as_mut_ptr(), buffer.len());
     unsafe {
@@ -144,6 +173,7 @@ pub fn enc(buffer: &mut [u8], w: Writer, model: Model, value: u32) -> Answer<Wri
     }
 }
 
+#[inline(always)]
 pub fn enc_done(buffer: &mut [u8], w: Writer) -> Answer<Writer> {
     unsafe { raw::tg_enc_done(buffer.as_mut_ptr(), buffer.len(), w) }
 }

@@ -14,7 +14,7 @@ use crate::silk::tables_pitch_lag::{
     silk_pitch_contour_10_ms_NB_iCDF, silk_pitch_contour_10_ms_iCDF, silk_pitch_contour_NB_iCDF,
     silk_pitch_contour_iCDF,
 };
-use crate::state::Reader;
+use crate::state::{Reader, Writer};
 use crate::ways::ways;
 use std::mem::{transmute, MaybeUninit};
 
@@ -46,11 +46,20 @@ pub struct Held {
 /// include/tignarops.h
 #[repr(C)]
 pub struct IndicesRead {
-    refusal: u32,
-    state: Reader,
-    record: Record,
-    prev_type: u32,
-    prev_lag: i16,
+    pub refusal: u32,
+    pub state: Reader,
+    pub record: Record,
+    pub prev_type: u32,
+    pub prev_lag: i16,
+}
+
+/// include/tignarops.h
+#[repr(C)]
+pub struct IndicesWritten {
+    pub refusal: u32,
+    pub state: Writer,
+    pub prev_type: u32,
+    pub prev_lag: i16,
 }
 
 #[derive(Clone, Debug)]
@@ -258,7 +267,10 @@ impl Call {
     }
 
     /// Sets what the crate's call looks at.
-    unsafe fn set(&self, decoder: *mut silk_decoder_state) {
+    ///
+    /// # Safety
+    /// The decoder's memory can be written.
+    pub unsafe fn set(&self, decoder: *mut silk_decoder_state) {
         (*decoder).fs_kHz = self.khz as i32;
         (*decoder).nb_subfr = self.subframes as i32;
         (*decoder).LPC_order = self.order() as i32;

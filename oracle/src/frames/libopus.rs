@@ -14,25 +14,25 @@ use std::ptr::from_ref;
 
 /// silk_decoder_state of silk/structs.h, from its start to the indices; the call looks at no more.
 #[repr(C)]
-struct Decoder {
-    signals: [i32; 579],
-    khz: i32,
-    api_hz: i32,
-    subframes: i32,
-    lengths: [i32; 3],
-    order: i32,
-    spectrum: [i16; 16],
-    first_frame: i32,
-    low_bits: *const u8,
-    contours: *const u8,
-    frames: [i32; 2],
-    prev_type: i32,
-    prev_lag: i16,
-    active: [i32; 3],
-    again: [i32; 4],
-    resampler: [u64; 38],
-    book: *const c_void,
-    record: Record,
+pub struct Decoder {
+    pub signals: [i32; 579],
+    pub khz: i32,
+    pub api_hz: i32,
+    pub subframes: i32,
+    pub lengths: [i32; 3],
+    pub order: i32,
+    pub spectrum: [i16; 16],
+    pub first_frame: i32,
+    pub low_bits: *const u8,
+    pub contours: *const u8,
+    pub frames: [i32; 2],
+    pub prev_type: i32,
+    pub prev_lag: i16,
+    pub active: [i32; 3],
+    pub again: [i32; 4],
+    pub resampler: [u64; 38],
+    pub book: *const c_void,
+    pub record: Record,
 }
 
 extern "C" {
@@ -55,7 +55,20 @@ extern "C" {
 /// The state and what is left after a call that document 01 accepts.
 pub fn indices(call: &indices::Call, packet: &mut [u8], reader: Reader) -> (Reader, Held) {
     let mut ctx = beside(packet, reader);
-    let mut decoder = Decoder {
+    let mut decoder = decoder(call);
+    // SAFETY: a sound reader beside its packet, and all that the call looks at of the decoder.
+    unsafe { silk_decode_indices(&mut decoder, &mut ctx, 0, 0, call.mode as i32) };
+    let held = Held {
+        record: decoder.record,
+        prev_type: decoder.prev_type as u32,
+        prev_lag: decoder.prev_lag,
+    };
+    (ctx.fields, held)
+}
+
+/// With all that a call on side indices looks at.
+pub fn decoder(call: &indices::Call) -> Decoder {
+    Decoder {
         khz: call.khz as i32,
         subframes: call.subframes as i32,
         order: call.order() as i32,
@@ -68,15 +81,7 @@ pub fn indices(call: &indices::Call, packet: &mut [u8], reader: Reader) -> (Read
         record: call.held.record,
         // SAFETY: numbers and pointers, which may be 0.
         ..unsafe { zeroed() }
-    };
-    // SAFETY: a sound reader beside its packet, and all that the call looks at of the decoder.
-    unsafe { silk_decode_indices(&mut decoder, &mut ctx, 0, 0, call.mode as i32) };
-    let held = Held {
-        record: decoder.record,
-        prev_type: decoder.prev_type as u32,
-        prev_lag: decoder.prev_lag,
-    };
-    (ctx.fields, held)
+    }
 }
 
 /// The state and the pulses after a call that document 01 accepts.

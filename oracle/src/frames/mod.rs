@@ -2,7 +2,7 @@
 
 pub mod indices;
 #[cfg(libopus)]
-mod libopus;
+pub mod libopus;
 mod plans;
 pub mod pulses;
 mod tally;
