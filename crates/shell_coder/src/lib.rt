@@ -3,7 +3,8 @@
 ghost use mathlib.Core.Path.{_≡_};
 ghost use mathlib.Core.List.{flatten};
 ghost use Prim.Native.Nat.{_+_, _*_, _^_, _<_, _≤_};
-ghost use lib.ListN.{length};
+ghost use lib.IntN.{pos};
+ghost use lib.ListN.{length, replicate};
 ghost use Rattle.sheet.specs.Rows.{pulseRows};
 ghost use Rattle.sheet.specs.Places.{Stands};
 ghost use Rattle.entcode.specs.ReaderLaws.{Core};
@@ -88,7 +89,16 @@ fn shell_8(packet: &[u8], d: Dec, rows: &[u8], places: &mut [i16], p: u32) -> De
     shell_4(packet, q, rows, &mut places[4..8], p - left)
 }
 
-// The p pulses of a block of 16 places.
+// No place has a pulse.
+fn clear(places: &mut [i16])
+    ensures { λ r. ⌜ now (places .exit) ≡ replicate (length (now (places .entry))) (pos 0) ⌝ }
+{
+    for k in 0..places.len() {
+        places[k] = 0;
+    }
+}
+
+// The p pulses of a block of 16 places; nothing is asked for a block that has none.
 pub fn silk_shell_decoder_run(packet: &[u8], d: Dec, rows: &[u8], places: &mut [i16], p: u32) -> Dec
     requires { ⌜ Core (now packet) d ⌝ }
     requires { ⌜ d .total ≤ 2 ^ 27 ⌝ }
@@ -96,6 +106,10 @@ pub fn silk_shell_decoder_run(packet: &[u8], d: Dec, rows: &[u8], places: &mut [
     requires { ⌜ (p ≤ 16) × (length (now places) ≡ 16) ⌝ }
     ensures { λ z. ⌜ Placed (now (packet .entry)) d (shell 4 p) 240 (now (places .exit)) z ⌝ }
 {
+    if p == 0 {
+        clear(places);
+        return d;
+    }
     let a = decode_split(packet, d, rows, 3, p);
     let left = a.value;
     let q = shell_8(packet, a.state, rows, &mut places[0..8], left);
