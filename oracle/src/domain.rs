@@ -2,7 +2,7 @@
 //! Written from its text alone, and put around the crate's calls, which refuse nothing.
 
 use crate::compare::Answer;
-use crate::frames::{indices, pulses};
+use crate::frames::{indices, pulses, Size};
 use crate::models::Model;
 use crate::state::{Reader, State, Writer};
 use crate::{reader, spectra, writer};
@@ -43,33 +43,27 @@ pub fn reader_refusal(packet: &[u8], reader: &Reader, ask: reader::Ask) -> u32 {
 
 /// The number that refuses reading side indices, or 0.
 pub fn indices_refusal(packet: &[u8], reader: &Reader, call: &indices::Call) -> u32 {
-    let kept = frame_kept(call.khz, call.subframes)
-        && call.active <= 1
-        && call.mode <= 2
-        && call.held.prev_type <= 2;
+    let kept =
+        frame_kept(call.size) && call.active <= 1 && call.mode <= 2 && call.held.prev_type <= 2;
     or(reader_gate(packet, reader), || first(&[(4, !kept)]))
 }
 
 /// The number that refuses reading pulses, or 0.
 pub fn pulses_refusal(packet: &[u8], reader: &Reader, call: &pulses::Call) -> u32 {
-    let kept =
-        frame_kept(call.khz, call.subframes) && call.signal_type <= 2 && call.offset_type <= 1;
+    let kept = frame_kept(call.size) && call.signal_type <= 2 && call.offset_type <= 1;
     or(reader_gate(packet, reader), || {
-        first(&[
-            (4, !kept),
-            (6, call.pulses.len() != pulses_of(call.khz, call.subframes)),
-        ])
+        first(&[(4, !kept), (6, call.pulses.len() != pulses_of(call.size))])
     })
 }
 
 /// "8, 12 or 16 kHz; 2 or 4 subframes."
-fn frame_kept(khz: u32, subframes: u32) -> bool {
-    [8, 12, 16].contains(&khz) && [2, 4].contains(&subframes)
+fn frame_kept(size: Size) -> bool {
+    [8, 12, 16].contains(&size.khz) && [2, 4].contains(&size.subframes)
 }
 
 /// "Frame length is 5 x kHz x subframes .. Blocks of 16 .. The pulse buffer holds exactly 16 x blocks."
-pub fn pulses_of(khz: u32, subframes: u32) -> usize {
-    (5 * u64::from(khz) * u64::from(subframes)).next_multiple_of(16) as usize
+pub fn pulses_of(size: Size) -> usize {
+    (5 * u64::from(size.khz) * u64::from(size.subframes)).next_multiple_of(16) as usize
 }
 
 /// The number that refuses a call on a writer, or 0.

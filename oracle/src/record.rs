@@ -12,7 +12,7 @@ pub trait Recorded: Sides {
     const FOLDER: &'static str;
 
     /// Puts the calls of the list to the sink.
-    fn list(sink: &mut impl Sink<Self>, rng: &mut Rng) -> Outcome;
+    fn list(sink: &mut dyn Sink<Self>, rng: &mut Rng) -> Outcome;
     fn words(state: &Self::State) -> [u32; 11];
     /// The numbers that go with the call, and the table's entries.
     fn asked(ask: Self::Ask<'_>) -> (Vec<u32>, Vec<u8>);

@@ -3,8 +3,8 @@
 
 use oracle::celt::entdec::{ec_dec_icdf, ec_dec_init};
 use oracle::celt::entenc::{ec_enc_done, ec_enc_icdf, ec_enc_init};
-use oracle::frames::indices::{Call, Held};
-use oracle::frames::Frame;
+use oracle::frames::indices::{Call, Held, Read};
+use oracle::frames::{Frame, Size};
 use oracle::ours::raw::{tg_decode_pulses, tg_nlsf_decode, tg_nlsf_stabilise};
 use oracle::ours::{self, Spectrum};
 use oracle::rng::Rng;
@@ -141,8 +141,10 @@ fn symbols_written(packets: &[[u8; 256]]) {
 /// Voiced frames of 20 ms at 16 kHz after a voiced one, or of another type, as the packet says.
 fn indices(packets: &[[u8; 256]]) {
     let call = Call {
-        khz: 16,
-        subframes: 4,
+        size: Size {
+            khz: 16,
+            subframes: 4,
+        },
         active: 1,
         mode: 0,
         held: Held::default(),
@@ -151,15 +153,15 @@ fn indices(packets: &[[u8; 256]]) {
     let opened: Vec<Reader> = packets.iter().map(|p| ours::dec_open(p).state).collect();
     let mut sides: Vec<(&'static str, fn(&Call, &mut [u8], Reader))> = vec![
         ("ours", |call, packet, reader| {
-            black_box(call.ours(packet, reader));
+            black_box(Read::ours(call, packet, reader));
         }),
         ("the crate", |call, packet, reader| {
-            black_box(call.unopus(packet, reader));
+            black_box(Read::unopus(call, packet, reader));
         }),
     ];
     #[cfg(libopus)]
     sides.push(("libopus", |call, packet, reader| {
-        black_box(call.libopus(packet, reader));
+        black_box(Read::libopus(call, packet, reader));
     }));
     let each = std::cell::RefCell::new(&mut each);
     let timed = |(name, work): (&'static str, fn(&Call, &mut [u8], Reader))| -> Side {

@@ -2,6 +2,7 @@
 
 use super::indices::{self, Held, Record};
 use super::pulses;
+use crate::domain::order;
 use crate::libopus::{
     silk_NLSF_CB_NB_MB, silk_NLSF_CB_WB, silk_pitch_contour_10_ms_NB_iCDF,
     silk_pitch_contour_10_ms_iCDF, silk_pitch_contour_NB_iCDF, silk_pitch_contour_iCDF,
@@ -56,15 +57,15 @@ extern "C" {
 pub fn indices(call: &indices::Call, packet: &mut [u8], reader: Reader) -> (Reader, Held) {
     let mut ctx = beside(packet, reader);
     let mut decoder = Decoder {
-        khz: call.khz as i32,
-        subframes: call.subframes as i32,
-        order: call.order() as i32,
-        low_bits: low_bits(call.khz),
-        contours: contours(call.khz, call.subframes),
+        khz: call.size.khz as i32,
+        subframes: call.size.subframes as i32,
+        order: order(call.size.khz) as i32,
+        low_bits: low_bits(call.size.khz),
+        contours: contours(call.size.khz, call.size.subframes),
         prev_type: call.held.prev_type as i32,
         prev_lag: call.held.prev_lag,
         active: [call.active as i32, 0, 0],
-        book: book(call.khz),
+        book: book(call.size.khz),
         record: call.held.record,
         // SAFETY: numbers and pointers, which may be 0.
         ..unsafe { zeroed() }
@@ -90,7 +91,7 @@ pub fn pulses(call: &pulses::Call, packet: &mut [u8], reader: Reader) -> (Reader
             pulses.as_mut_ptr(),
             call.signal_type as i32,
             call.offset_type as i32,
-            (5 * call.khz * call.subframes) as i32,
+            call.size.length(),
         )
     };
     (ctx.fields, pulses)

@@ -1,24 +1,23 @@
 //! Which calls are compared.
 
-use super::Frame;
+use super::{Frame, Given, Size, StateOf};
 use crate::bytes::{fill, Bytes, Fill, FILLS};
+use crate::coder::Coder;
 use crate::domain::{LAST_TOTAL, LONGEST, SOUND_TOTALS};
 use crate::hold::Outcome;
 use crate::models::{self, Entries};
-use crate::ours;
-use crate::reader::{breaks, sound};
 use crate::rng::Rng;
-use crate::state::Reader;
+use crate::state::State;
 
-/// So many calls under each choice of numbers, on packets and readers of all kinds; those of a total
+/// So many calls under each choice of numbers, on bytes and states of all kinds; those of a total
 /// that is too high are refused.
 pub fn accepted<C: Frame>(
     rng: &mut Rng,
     each: u32,
-    put: &mut impl FnMut(&mut [u8], Reader, &C) -> Outcome,
+    put: &mut impl FnMut(&mut [u8], StateOf<C>, &C::Given) -> Outcome,
 ) -> Outcome {
     let mut bytes: Bytes = [0; LONGEST + 1];
-    for mut call in C::all() {
+    for mut call in C::Given::all() {
         let mut length = 0;
         for n in 0..each {
             if n % 8 == 0 {
@@ -30,60 +29,71 @@ pub fn accepted<C: Frame>(
                 };
                 fill(rng, &mut bytes[..length], kind);
             }
-            let packet = &mut bytes[..length];
-            let reader = any_reader(rng, packet);
-            call.refill(rng);
-            put(packet, reader, &call)?;
+            let bytes = &mut bytes[..length];
+            let state = any_state::<C::Coder>(rng, bytes);
+            C::refill(&mut call, rng);
+            put(bytes, state, &call)?;
         }
     }
     Ok(())
 }
 
-/// A fresh reader, one after some symbols, or any sound one.
-fn any_reader(rng: &mut Rng, packet: &[u8]) -> Reader {
+/// A fresh state, one after some symbols, or any sound one.
+fn any_state<K: Coder>(rng: &mut Rng, bytes: &mut [u8]) -> K::State {
     let symbols = match rng.between(0, 2) {
         0 => 0,
         1 => rng.between(1, 40),
-        _ => return sound(rng, packet.len()),
+        _ => return K::sound(rng, bytes.len()),
     };
     let mut entries: Entries = [0; 257];
-    let mut answer = ours::dec_open(packet);
+    let mut answer = K::ours(bytes, State::default(), K::open());
     for _ in 0..symbols {
         let model = models::any(rng, &mut entries, answer.value);
-        answer = ours::dec(packet, answer.state, model);
+        let symbol = K::any(rng, model);
+        answer = K::ours(bytes, answer.state, symbol);
     }
     answer.state
 }
 
-/// A packet too long, each rule of a sound reader broken, totals at the limit and above it; each with
+/// Too many bytes, each rule of a sound state broken, totals at the limit and above it; each with
 /// numbers in their ranges and with each of them outside, since the first check decides.
 pub fn refused<C: Frame>(
     rng: &mut Rng,
-    put: &mut impl FnMut(&mut [u8], Reader, &C) -> Outcome,
+    put: &mut impl FnMut(&mut [u8], StateOf<C>, &C::Given) -> Outcome,
 ) -> Outcome {
     let mut bytes: Bytes = [0; LONGEST + 1];
     rng.fill(&mut bytes);
-    for call in C::all() {
-        for change in [(|_| {}) as fn(&mut C)].iter().chain(C::outside()) {
+    for call in C::Given::all() {
+        for number in 0..=Size::OUTSIDE.len() + C::Given::outside().len() {
             let mut call = call.clone();
-            call.refill(rng);
-            change(&mut call);
-            put(&mut bytes, sound(rng, LONGEST + 1), &call)?;
+            C::refill(&mut call, rng);
+            change(&mut call, number);
+            put(&mut bytes, C::Coder::sound(rng, LONGEST + 1), &call)?;
             let length = rng.or_end(0, LONGEST as u32) as usize;
-            let packet = &mut bytes[..length];
-            for break_rule in breaks() {
-                let mut reader = sound(rng, length);
-                break_rule(&mut reader);
-                put(packet, reader, &call)?;
+            let bytes = &mut bytes[..length];
+            for break_rule in C::Coder::breaks() {
+                let mut state = C::Coder::sound(rng, length);
+                break_rule(&mut state);
+                put(bytes, state, &call)?;
             }
             for nbits_total in [LAST_TOTAL, LAST_TOTAL + 1, *SOUND_TOTALS.end()] {
-                let reader = Reader {
+                let state = State {
                     nbits_total,
-                    ..sound(rng, length)
+                    ..C::Coder::sound(rng, length)
                 };
-                put(packet, reader, &call)?;
+                put(bytes, state, &call)?;
             }
         }
     }
     Ok(())
+}
+
+/// Takes a number or length out of its range; change 0 is none.
+fn change<G: Given>(call: &mut G, number: usize) {
+    let sizes = Size::OUTSIDE.len();
+    match number {
+        0 => {}
+        n if n <= sizes => Size::OUTSIDE[n - 1](call.size()),
+        n => G::outside()[n - 1 - sizes](call),
+    }
 }

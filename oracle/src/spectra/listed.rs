@@ -9,7 +9,7 @@ use crate::rng::Rng;
 impl Recorded for Spectra {
     const FOLDER: &'static str = "spectra_cases";
 
-    fn list(sink: &mut impl Sink<Spectra>, rng: &mut Rng) -> Outcome {
+    fn list(sink: &mut dyn Sink<Spectra>, rng: &mut Rng) -> Outcome {
         plans::stabilised(sink, rng, 320)?;
         plans::lengths(sink, rng, [1, 2, 16, 17])?;
         plans::gap_rule(sink, rng, [2, 5])?;
