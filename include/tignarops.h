@@ -90,6 +90,15 @@ tg_written tg_enc_bits(uint8_t *buf, size_t len, tg_writer w, uint32_t value, ui
  * Refusals 1 to 3. */
 tg_written tg_enc_done(uint8_t *buf, size_t len, tg_writer w);
 
+typedef struct {
+    uint32_t refusal, signal_type, offset_type;
+} tg_types;
+
+/* The types of the frame that a packet starts with, before any of it is decoded: active 0 or 1;
+ * signal_type 0 to 2 (2 is voiced), offset_type 0 or 1. Refusals 1, then 4 (active); a refusal
+ * answers both types as 0. */
+tg_types tg_frame_type(const uint8_t *packet, size_t len, uint32_t active);
+
 /* The side indices of a frame. */
 typedef struct {
     int8_t gains[4], ltp[4], nlsf[17];
@@ -118,6 +127,13 @@ tg_indices_read tg_decode_indices(const uint8_t *packet, size_t len, tg_reader r
  * refusal leaves the pulses as they are. */
 tg_read tg_decode_pulses(const uint8_t *packet, size_t len, tg_reader r, int16_t *pulses, size_t n, uint32_t khz,
                          uint32_t subframes, uint32_t signal_type, uint32_t offset_type);
+
+/* The pulses of a frame, as tg_decode_pulses takes them, with a rate level 0 to 8: each block's low
+ * bits are the fewest, 0 to 10, at which the magnitudes shifted by them total at most 16. Reading back
+ * gives the same pulses. Refusals 1 to 4, 6 (n), and 8 for a block that ten low bits do not do for: a
+ * magnitude of 17,408 has none. A refusal leaves the buffer as it is. */
+tg_written tg_encode_pulses(uint8_t *buf, size_t len, tg_writer w, const int16_t *pulses, size_t n, uint32_t khz,
+                            uint32_t subframes, uint32_t signal_type, uint32_t offset_type, uint32_t rate_level);
 
 /* The spectrum indices of a frame: index[0] picks a book's vector, the others one residual each. */
 typedef struct {

@@ -1,9 +1,10 @@
 #!/usr/bin/env python3
 """Wrong definitions that the round trip must refuse.
 
-Each edit changes one definition of the coder (crates/entcode/specs) in a copy of the crates, and the check of `roundtrip` has to be refused by the
-law that the edit names, there or in a crate below it. One line per edit: the crate, and the laws that are no longer proved (not those that only cite
-them). Fails if an edit is accepted, does not apply, or is refused otherwise.  Usage: tests/wrong_definitions.py
+Each edit changes one definition of the coder (crates/entcode/specs) or of frames (crates/silk/specs) in a copy of the crates, and the check of
+`roundtrip`, or for frames of `frame_roundtrip`, has to be refused by the law that the edit names, there or in a crate below it. One line per edit: the
+crate, and the laws that are no longer proved (not those that only cite them). Fails if an edit is accepted, does not apply, or is refused otherwise.
+Usage: tests/wrong_definitions.py
 """
 import os
 import re
@@ -13,10 +14,9 @@ import sys
 import tempfile
 
 ROOT = os.path.dirname(os.path.dirname(os.path.abspath(__file__)))
-SPECS = os.path.join("crates", "entcode", "specs")
 
 # what is wrong, a law that it must break, the file, the right text, the wrong one
-EDITS = [
+CODER = [
     ("a carry is lost at a held byte", "swept-carry", "Front.antt", "(b + k) % 256 ∷ []", "b % 256 ∷ []"),
     ("255s stay 255 behind a carry", "carry-number", "Front.antt", "replicate x ((255 + c / 256) % 256)", "replicate x 255"),
     ("one bit too few at finishing", "bits-enough", "Finish.antt", "(suc (leadingZeros 32 r))\n", "(leadingZeros 32 r)\n"),
@@ -30,13 +30,26 @@ EDITS = [
      "drop (r .offs) (take (length (r .buf) - r .end) (r .buf)) ++"),
 ]
 
+FRAMES = [
+    ("the writer's sign symbol 0 is plus", "sign-meant", "PulseSyntax.antt", "(λ z. cond (ltZ z (pos 0)) 0 1)", "(λ z. cond (ltZ z (pos 0)) 1 0)"),
+    ("the writer says the lowest low bit each time", "low-bits-meant", "PulseSyntax.antt", "(λ y. y / 2 ^ n % 2)", "(λ y. y % 2)"),
+    ("the writer counts the right half", "split-meant", "PulseSyntax.antt", "(λ y. total (take (2 ^ k) y))", "(λ y. total (drop (2 ^ k) y))"),
+    ("a block that no shift suits is written", "pulses-took", "PulseWriting.antt", "every (λ p. leb (smallest rate signal offset p) 10) ps",
+     "every (λ p. leb (smallest rate signal offset p) 11) ps"),
+    ("a record that means another is written", "meant-is", "IndexWriting.antt", "&& sameIndices (meant x (indices s x)) x\n", "&& true\n"),
+    ("the writer hands on an unvoiced frame's lag", "steps-read", "IndexWriting.antt", "prevlag = nextLag (s .prevlag) x }", "prevlag = x .lag }"),
+]
+
+# the crate whose definitions are edited, the one that is checked
+EDITS = [("entcode", "roundtrip", edit) for edit in CODER] + [("silk", "frame_roundtrip", edit) for edit in FRAMES]
+
 
 REFUSED = re.compile(r"crates/(\w+)/\S+\.antt:\d+:\d+: (?:error: )?`([^`]+)`(?: is not admitted|: (?!`[^`]+` was not admitted))")
 
 
-def check(tree):
-    """Whether roundtrip is proved; the crates and laws that are refused; all that was said."""
-    run = subprocess.run(["rt", "dev", "roundtrip"], cwd=tree, capture_output=True, text=True, env=dict(os.environ, RT_JOBS="1", RT_CUT="0"))
+def check(tree, crate):
+    """Whether the crate is proved; the crates and laws that are refused; all that was said."""
+    run = subprocess.run(["rt", "dev", crate], cwd=tree, capture_output=True, text=True, env=dict(os.environ, RT_JOBS="1", RT_CUT="0"))
     said = run.stdout + run.stderr
     return run.returncode == 0, list(dict.fromkeys(REFUSED.findall(said))), said
 
@@ -47,12 +60,13 @@ def main():
         tree = os.path.join(tmp, "tree")
         shutil.copytree(os.path.join(ROOT, "crates"), os.path.join(tree, "crates"))
         shutil.copy(os.path.join(ROOT, "crates.txt"), tree)
-        ok, laws, said = check(tree)
-        if not ok:
-            print("the tree as it stands is refused:\n" + said)
-            return 1
-        for name, law, file, right, wrong in EDITS:
-            path = os.path.join(tree, SPECS, file)
+        for crate in sorted(set(checked for _, checked, _ in EDITS)):
+            ok, laws, said = check(tree, crate)
+            if not ok:
+                print("the tree as it stands is refused:\n" + said)
+                return 1
+        for edited, checked, (name, law, file, right, wrong) in EDITS:
+            path = os.path.join(tree, "crates", edited, "specs", file)
             with open(path) as f:
                 text = f.read()
             if text.count(right) != 1:
@@ -61,7 +75,7 @@ def main():
                 continue
             with open(path, "w") as f:
                 f.write(text.replace(right, wrong))
-            ok, laws, said = check(tree)
+            ok, laws, said = check(tree, checked)
             with open(path, "w") as f:
                 f.write(text)
             names = [refused for _, refused in laws]

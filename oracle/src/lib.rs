@@ -26,6 +26,7 @@ pub mod spectra;
 pub mod state;
 mod states;
 pub mod tables;
+pub mod types;
 pub mod unopus;
 mod ways;
 pub mod writer;

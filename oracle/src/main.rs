@@ -9,7 +9,7 @@ use oracle::reader::Reading;
 use oracle::record::{self, Recorded};
 use oracle::spectra::Spectra;
 use oracle::writer::Writing;
-use oracle::{frames, hold, roundtrip, tables};
+use oracle::{frames, hold, roundtrip, tables, types};
 use std::path::{Path, PathBuf};
 use std::process::ExitCode;
 use std::{env, fs};
@@ -39,6 +39,7 @@ fn compare() -> Result<(), String> {
     calls::<Writing>(seed)?;
     calls::<Spectra>(seed)?;
     roundtrip::hold(seed).map_err(|e| format!("round trip: {e}"))?;
+    types::hold(seed).map_err(|e| format!("frame types: {e}"))?;
     frames::hold(seed)?;
     read_record::<Reading>()?;
     read_record::<Writing>()?;

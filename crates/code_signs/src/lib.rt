@@ -1,7 +1,7 @@
 // The signs of a block's pulses (RFC 6716, section 4.2.7.8.5): one for each place that is not 0; symbol 0 is minus. Names as in the crate's
 // code_signs.rs. The block's row is lent.
 ghost use mathlib.Core.Path.{_≡_};
-ghost use Prim.Native.Nat.{_^_, _<_, _≤_};
+ghost use Prim.Native.Nat.{_+_, _*_, _^_, _<_, _≤_, min};
 ghost use lib.IntN.{pos, natAbs};
 ghost use lib.ListN.{length};
 ghost use Rattle.icdf.specs.Rule.{Icdf};
@@ -10,6 +10,8 @@ ghost use Rattle.tree.specs.Ran.{Ran};
 ghost use Rattle.silk.specs.PulseSyntax.{each, sign};
 ghost use Rattle.silk.specs.PulsePlaces.{mags, Natural};
 use entcode::Dec;
+
+pub mod encode; // encode.rt: the writer
 
 // A pulse with its sign, and the reader behind it.
 pub struct SignRead {
@@ -56,4 +58,18 @@ pub fn silk_decode_signs_run(packet: &[u8], from: Dec, row: &[u8], places: &mut 
         k += 1;
     }
     d
+}
+
+// Where the sign row of a block with c pulses before low bits stands.
+pub fn sign_row_at_run(signal: u32, offset: u32, c: u8) -> usize
+    requires { ⌜ (signal ≤ 2) × (offset ≤ 1) ⌝ }
+    ensures { λ r. ⌜ r ≡ 825 + (7 * (offset + 2 * signal) + min c 6) * 2 ⌝ }
+{
+    let k = 7 * (offset + 2 * signal);
+    if c < 6 {
+        let row = k + (c as u32);
+        return 825 + (row as usize) * 2;
+    }
+    let row = k + 6;
+    825 + (row as usize) * 2
 }

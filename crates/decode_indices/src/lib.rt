@@ -1,7 +1,6 @@
 // The call that reads a frame's side indices (document 01; RFC 6716, section 4.2.7), as the crate's decode_indices.rs: it tests packet, state and
 // numbers once, and hands the record in and out by value.
 ghost use mathlib.Core.Path.{_≡_};
-ghost use mathlib.Core.Bool.{cond};
 ghost use Prim.Native.Nat.{_^_, _<_};
 ghost use Rattle.tree.specs.Asks.{got};
 ghost use Rattle.tree.specs.Ran.{Ran};
@@ -9,39 +8,21 @@ ghost use Rattle.silk.specs.Record.{settingOf};
 ghost use Rattle.silk.specs.IndexRows.{Reading, Rate, Subframes};
 ghost use Rattle.silk.specs.IndexSyntax.{voicing, indices};
 ghost use Rattle.silk.specs.IndexParts.{Upto};
-ghost use Rattle.silk.specs.FrameCalls.{numbersOk, indicesGot, decodeIndices};
+ghost use Rattle.silk.specs.FrameCalls.{indicesGot, decodeIndices};
 use entcode::Dec;
 use index_gains::gains_run;
 use index_gains::interpolation_run;
 use index_gains::kind_run;
 use index_gains::seed_run;
+use index_numbers::next_lag_run;
+use index_numbers::next_type_run;
+use index_numbers::numbers_rule;
 use index_pitch::pitch_run;
 use index_spectrum::spectrum_run;
 use silk::Indices;
 use silk::IndicesPart;
 use silk::IndicesRead;
 use tables::rows::index_rows;
-
-// ---- refusals
-
-// kHz 8, 12 or 16; 2 or 4 subframes; active 0 or 1; mode and previous type 0 to 2.
-fn numbers_ok(khz: u32, subframes: u32, active: u32, mode: u32, prevtype: u32) -> bool
-    ensures { λ b. ⌜ b ≡ numbersOk khz subframes active mode prevtype ⌝ }
-{
-    ((khz == 8) | ((khz == 12) | (khz == 16)))
-        & (((subframes == 2) | (subframes == 4))
-            & ((active <= 1) & ((mode <= 2) & (prevtype <= 2))))
-}
-
-fn numbers_rule(khz: u32, subframes: u32, active: u32, mode: u32, prevtype: u32) -> u32
-    ensures { λ n. ⌜ n ≡ cond (numbersOk khz subframes active mode prevtype) 0 4 ⌝ }
-{
-    if numbers_ok(khz, subframes, active, mode, prevtype) {
-        0
-    } else {
-        4
-    }
-}
 
 // ---- reading
 
@@ -114,28 +95,19 @@ fn all_indices(
 
 // ---- the call
 
-// The previous type is this frame's, the previous lag that of a voiced frame alone.
+// A record that was read, and what the next frame is told.
 fn accepted(state: Dec, x: Indices, before: i16) -> IndicesRead
     requires { ⌜ Upto 2 (x .signal) ⌝ }
     ensures { λ a. ⌜ a ≡ indicesGot before (got x state) ⌝ }
 {
-    let signal = x.signal as u32;
-    let lag = x.lag;
-    if signal == 2 {
-        return IndicesRead {
-            refusal: 0,
-            state,
-            indices: x,
-            prevtype: signal,
-            prevlag: lag,
-        };
-    }
+    let prevtype = next_type_run(x);
+    let prevlag = next_lag_run(x, before);
     IndicesRead {
         refusal: 0,
         state,
         indices: x,
-        prevtype: signal,
-        prevlag: before,
+        prevtype,
+        prevlag,
     }
 }
 

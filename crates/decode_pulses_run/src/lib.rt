@@ -1,7 +1,7 @@
 // The excitation of a frame (RFC 6716, section 4.2.7.8), read into one slice of blocks of 16 places: rate level, counts, splits, low bits, signs.
 // The loops over blocks of the crate's decode_pulses.rs and code_signs.rs.
 ghost use mathlib.Core.Path.{_≡_};
-ghost use Prim.Native.Nat.{_+_, _*_, _/_, _^_, _<_, _≤_, min};
+ghost use Prim.Native.Nat.{_*_, _^_, _<_, _≤_};
 ghost use lib.ListN.{length};
 ghost use Rattle.lists.specs.AtMost.{AtMost};
 ghost use Rattle.entcode.specs.ReaderLaws.{Core};
@@ -52,20 +52,6 @@ fn lows(packet: &[u8], from: Dec, rows: &[u8], x: BlocksRead, pulses: &mut [i16]
     d
 }
 
-// Where the sign row of a block with c pulses before low bits stands.
-fn sign_row_at(signal: u32, offset: u32, c: u8) -> usize
-    requires { ⌜ (signal ≤ 2) × (offset ≤ 1) ⌝ }
-    ensures { λ r. ⌜ r ≡ 825 + (7 * (offset + 2 * signal) + min c 6) * 2 ⌝ }
-{
-    let k = 7 * (offset + 2 * signal);
-    if c < 6 {
-        let row = k + (c as u32);
-        return 825 + (row as usize) * 2;
-    }
-    let row = k + 6;
-    825 + (row as usize) * 2
-}
-
 // The signs of n blocks.
 fn signs(
     packet: &[u8],
@@ -88,7 +74,7 @@ fn signs(
     while i < n {
         let at = i * 16;
         let end = at + 16;
-        let row = sign_row_at(signal, offset, x.counts[i]);
+        let row = code_signs::sign_row_at_run(signal, offset, x.counts[i]);
         let last = row + 2;
         d = code_signs::silk_decode_signs_run(packet, d, &rows[row..last], &mut pulses[at..end]);
         i += 1;

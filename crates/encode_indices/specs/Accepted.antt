@@ -3,24 +3,24 @@
 use Prim.Native.Nat.{ℕ, _/_}
 use mathlib.Core.Path.{_≡_, refl, sym, ap, subst, _∙_}
 use mathlib.Core.Bool.{Bool, true, false, _&&_, cond}
-use mathlib.Core.List.{List, [], _∷_, _++_}
+use mathlib.Core.List.{_++_}
 use native.Mathlib.Omega.{arith}
 use lib.Dec.{eqb}
 use lib.IntN.{ℤ}
 use Rattle.tests.specs.Both.{and-both, both-and}
 use Rattle.sheet.specs.Directory.{deltaLagRow}
-use Rattle.entcode.specs.Models.{Sym, tab}
+use Rattle.entcode.specs.Models.{tab}
 use Rattle.entcode.specs.Rules.{sayRule}
 use Rattle.tree.specs.Asks.{Asks, done, then, symbols, meant}
 use Rattle.tree.specs.AsksLaws.{meant-then, symbols-then}
-use Rattle.tree.specs.Telling.{allSaid}
+use Rattle.tree.specs.Telling.{allSaid, said-front, said-back, said-both}
 use Rattle.silk.specs.declared.Indices.{Indices}
 use Rattle.silk.specs.Record.{Setting, settingOf}
 use Rattle.silk.specs.IndexSyntax.{absoluteLag, lag, pitch, voicing, indices, relativeIn}
 use Rattle.silk.specs.IndexRanges.{Shape}
 use Rattle.silk.specs.IndexCalls.{Chosen}
+use Rattle.silk.specs.IndexFields.{WritesIn, range-writes}
 use Rattle.silk.specs.IndexWriting.{sayable, meant-is, same-sure, sayable-in-range}
-use Rattle.encode_indices.specs.Fields.{Writes}
 
 -- what y says along t it says along t', and means the same
 record Follows {R A : Type 0} (y : R) (t t' : Asks R A) : Type 0 where
@@ -29,23 +29,6 @@ record Follows {R A : Type 0} (y : R) (t t' : Asks R A) : Type 0 where
 
 follows-itself : {R A : Type 0} {y : R} {t : Asks R A} → Follows y t t
 follows-itself = record { means = refl; said = λ e. e }
-
-said-front : (k l : List Sym) → allSaid (k ++ l) ≡ true → allSaid k ≡ true
-unfolding allSaid
-said-front [] l e = refl
-said-front (q ∷ k) l e =
-    let p = and-both (eqb (sayRule (q .model) (q .value)) 0) (allSaid (k ++ l)) e in both-and _ _ (p .0) (said-front k l (p .1))
-
-said-back : (k l : List Sym) → allSaid (k ++ l) ≡ true → allSaid l ≡ true
-unfolding allSaid
-said-back [] l e = e
-said-back (q ∷ k) l e = said-back k l (and-both (eqb (sayRule (q .model) (q .value)) 0) (allSaid (k ++ l)) e .1)
-
-said-both : (k l : List Sym) → allSaid k ≡ true → allSaid l ≡ true → allSaid (k ++ l) ≡ true
-unfolding allSaid
-said-both [] l a b = b
-said-both (q ∷ k) l a b =
-    let p = and-both (eqb (sayRule (q .model) (q .value)) 0) (allSaid k) a in both-and _ _ (p .0) (said-both k l (p .1) b)
 
 follows-then : {R A B : Type 0} (y : R) (t t' : Asks R A) (g g' : A → Asks R B) → Follows y t t' → ((r : A) → Follows y (g r) (g' r)) → Follows y (then t g) (then t' g')
 follows-then y t t' g g' f h =
@@ -101,7 +84,7 @@ indices-follows s x =
 
 -- ---- what an accepted record is
 
-pub sayable-writes : (s : Setting) (x : Indices) → Chosen s → Shape x → sayable s x ≡ true → Writes s x
+pub sayable-writes : (s : Setting) (x : Indices) → Chosen s → Shape x → sayable s x ≡ true → WritesIn s x
 unfolding sayable
 sayable-writes s x c h e =
     let f = indices-follows s x in
@@ -109,7 +92,5 @@ sayable-writes s x c h e =
     let m : meant x (indices (unvoicedBefore s) x) ≡ x = sym (f .means) ∙ meant-is s x e in
     let q : sayable (unvoicedBefore s) x ≡ true = both-and _ _ (f .said (p .0)) (same-sure _ _ m) in
     let d : Chosen (unvoicedBefore s) = record { rate = c .rate; subframes = c .subframes; active = c .active; mode = c .mode; prevtype = omega arith } in
-    record {
-      range = sayable-in-range s x e c h;
-      lag = λ v. sayable-in-range (unvoicedBefore s) x q d h .voiced v .absolute (not-relative (s .mode));
-    }
+    range-writes s x (sayable-in-range s x e c h)
+    (λ v. sayable-in-range (unvoicedBefore s) x q d h .voiced v .absolute (not-relative (s .mode)))

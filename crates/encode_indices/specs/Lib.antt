@@ -1,3 +1,4 @@
-pub mod Says
 pub mod Fields
+pub mod Parts
 pub mod Accepted
+pub mod Calls

@@ -221,7 +221,7 @@ unfolding spared appended
 append-is o n v = refl
 
 -- the whole of 1 changes nothing
-code-whole : (w : Writer) → 2 ^ 23 < w .front .rng → codeW w 0 1 1 ≡ w
+pub code-whole : (w : Writer) → 2 ^ 23 < w .front .rng → codeW w 0 1 1 ≡ w
 code-whole w h =
     let a : w .front .rng - w .front .rng / 1 * (1 - 1) ≡ w .front .rng = omega arith in
     let b : w .front .val + (w .front .rng - w .front .rng) ≡ w .front .val = omega arith in

@@ -20,7 +20,6 @@ pub mod ReaderLaws
 pub mod ReadLaws
 pub mod ReadingLaws
 pub mod GeneralForm
-pub mod ReaderCases
 pub mod WriterSteps
 pub mod WriterFacts
 pub mod FlatLaws
@@ -30,4 +29,3 @@ pub mod FinishLaws
 pub mod ErrorLaws
 pub mod SoundLaws
 pub mod StoredLaws
-pub mod WriterCases

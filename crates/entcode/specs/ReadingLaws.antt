@@ -183,7 +183,3 @@ sound-after b d m y z =
       most = omega (arith, g .most, a .was .low);
     } in
     subst (λ (x : Decoded). Sound b (x .state)) (sym (a .is)) s
-
--- any two outcomes that a contract `a ≡ x` admits coincide
-pub one-outcome : (a c x : Decoded) → a ≡ x → c ≡ x → a ≡ c
-one-outcome a c x p q = p ∙ sym q

@@ -1,7 +1,7 @@
 -- Accepted calls keep a writer sound, if its run of 255s is one that its total can account for, 8 run + 33 <= total: a fresh writer has that, and every
 -- call keeps it. Without it the law is false: a sound state with a run of 150,000 and a total of 33 may be written to, and its run grows. Assumes nothing.
 use Prim.Native.Nat.{ℕ, suc, _+_, _-_, _*_, _/_, _%_, _^_, _≤_}
-use mathlib.Core.Path.{_≡_, refl, _∙_}
+use mathlib.Core.Path.{_≡_, refl, sym, ap, subst, _∙_}
 use mathlib.Core.Bool.{true, _&&_}
 use mathlib.Core.List.{List, [], _∷_, _++_}
 use native.Mathlib.Omega.{arith}
@@ -10,16 +10,18 @@ use lib.Dec.{eqb, leb, ltb}
 use lib.ListN.{length, getD, take, drop, replicate, length-append, length-replicate, length-drop, length-set}
 use lib.Seq.{length-take-le}
 use Rattle.tests.specs.Choice.{chosen}
-use Rattle.entcode.specs.Models.{Sym, rawN}
+use Rattle.entcode.specs.Models.{Model, bit, raw, num, tab, Sym, rawN, Allowed}
 use Rattle.entcode.specs.ModelLaws.{raw-most}
 use Rattle.entcode.specs.Room.{Room}
 use Rattle.entcode.specs.RoomLaws.{puts-kept, puts-error}
 use Rattle.entcode.specs.Tail.{Tail}
 use Rattle.entcode.specs.TailLaws.{Trim, FlushKept, flush-kept}
-use Rattle.entcode.specs.Writer.{Writer, openW, writeSym}
-use Rattle.entcode.specs.WriterLaws.{Firm, firm-write}
+use Rattle.entcode.specs.Writer.{Writer, openW, rawW, writeSym}
+use Rattle.entcode.specs.WriterLaws.{Firm, FirmNext, firm-raw, firm-write}
 use Rattle.entcode.specs.Finish.{bitsOf, spareBits, heldAfter, finBytes, finFront, finTail, clear, orLast, leftOver, close, finish, finishW}
+use Rattle.entcode.specs.ReadLaws.{growth}
 use Rattle.entcode.specs.Flat.{Out, asWriter, flat}
+use Rattle.entcode.specs.FlatLaws.{code-whole}
 use Rattle.entcode.specs.Sound.{soundW}
 use Rattle.entcode.specs.Writing.{written, finished, encSym, encDone}
 use Rattle.entcode.specs.WritingLaws.{Sound, sound-flat, write-accepted, done-accepted}
@@ -32,7 +34,7 @@ pub record SoundNext (o : Out) : Type 0 where
   pub sound : soundW (o .buf) (o .state) ≡ true
   pub joint : Joint o
 
-firm-joint : (o : Out) → Sound o → Joint o → Firm 0 (asWriter o)
+pub firm-joint : (o : Out) → Sound o → Joint o → Firm 0 (asWriter o)
 firm-joint o s j =
     let f = s .firm in
     record { above = f .above; most = f .most; fits = f .fits; held = f .held; tidy = omega arith; trim = f .trim }
@@ -52,13 +54,20 @@ sound-write o s e j =
     let k : 33 ≤ o .state .total = a .entry .sound .least in
     record { sound = sound-flat 0 (writeSym (asWriter o) s) (g .firm) (omega arith) (omega arith) (omega arith); joint = omega arith }
 
--- the total never falls, and grows by at most 16 and the raw bits
+-- the total never falls, and grows by at most as many bits as its reader's
+pub firm-grows : (k : ℕ) (w : Writer) (m : Model) (v : ℕ) → Allowed m v → Firm k w → FirmNext k (growth m) w (writeSym w (record { model = m; value = v }))
+firm-grows k w (bit lp) v ok f = firm-write k w (record { model = bit lp; value = v }) ok f
+firm-grows k w (raw n) v ok f =
+    subst (FirmNext k n w) (ap (λ (u : Writer). rawW u n v) (sym (code-whole w (f .above)))) (firm-raw k w n v (ok .readable .1) (ok .fitting) f)
+firm-grows k w (num ft) v ok f = firm-write k w (record { model = num ft; value = v }) ok f
+firm-grows k w (tab scale t) v ok f = firm-write k w (record { model = tab scale t; value = v }) ok f
+
 pub total-grows : (o : Out) (s : Sym) → encSym o s .answer .refusal ≡ 0
-    → (o .state .total ≤ written o s .state .total) × (written o s .state .total ≤ o .state .total + (16 + rawN (s .model)))
+    → (o .state .total ≤ written o s .state .total) × (written o s .state .total ≤ o .state .total + growth (s .model))
 unfolding written
 total-grows o s e =
     let a = write-accepted o s e in
-    let g = firm-write 1200033 (asWriter o) s (a .allowed) (a .entry .sound .firm) in
+    let g = firm-grows 1200033 (asWriter o) (s .model) (s .value) (a .allowed) (a .entry .sound .firm) in
     (g .least, g .most)
 
 -- ---- finishing: places within the buffer, an error of 0 or 1, and the same length

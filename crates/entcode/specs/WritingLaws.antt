@@ -192,12 +192,6 @@ unfolding answered
 answered-none n o v q =
     chosen (λ (s : Sent). s .answer .refusal ≡ 0 → n ≡ 0) (eqb n 0) (λ t e. eqb-true n 0 t) (λ t e. e)
 
--- any two outcomes that a contract `sent buf a ≡ x` admits coincide, in every byte and every field
-pub one-outcome : (b c : List ℕ) (a d : Encoded) (x : Sent) → sent b a ≡ x → sent c d ≡ x → (b ≡ c) × (a ≡ d)
-one-outcome b c a d x p q =
-    let e : sent b a ≡ sent c d = p ∙ sym q in
-    (ap (λ (y : Sent). y .buf) e, ap (λ (y : Sent). y .answer) e)
-
 -- what an accepted write had to begin with
 pub record Accepted (o : Out) (s : Sym) : Type 0 where
   pub entry : Open o

@@ -179,6 +179,40 @@ fn search_part(table: &[u8], scale: u32, unit: u32, v: u32, rng: u32) -> Part
     }
 }
 
+// One of two numbers.
+fn pick(first: bool, a: u32, b: u32) -> u32
+    ensures { λ r. ⌜ r ≡ cond first a b ⌝ }
+{
+    if first { a } else { b }
+}
+
+// The same for a table of two entries, without a loop or a jump: which of two symbols comes can't be guessed ahead.
+fn two_part(table: &[u8], scale: u32, unit: u32, v: u32, rng: u32) -> Part
+    requires { ⌜ Icdf scale (now table) × (length (now table) ≡ 2) ⌝ }
+    requires { ⌜ unit * 2 ^ scale ≤ 2 ^ 31 ⌝ }
+    ensures { λ p. ⌜ p ≡ partOf rng unit v (now (table .entry)) ⌝ }
+{
+    let edge = unit * (table[0] as u32);
+    let second = v < edge;
+    let symbol = pick(second, 1, 0) as usize;
+    let low = pick(second, 0, edge);
+    let top = pick(second, edge, rng);
+    Part { symbol, low, top }
+}
+
+// The symbol whose part holds v.
+fn find_part(table: &[u8], scale: u32, unit: u32, v: u32, rng: u32) -> Part
+    requires { ⌜ Icdf scale (now table) ⌝ }
+    requires { ⌜ unit * 2 ^ scale ≤ 2 ^ 31 ⌝ }
+    ensures { λ p. ⌜ p ≡ partOf rng unit v (now (table .entry)) ⌝ }
+{
+    if table.len() == 2 {
+        two_part(table, scale, unit, v, rng)
+    } else {
+        search_part(table, scale, unit, v, rng)
+    }
+}
+
 // A symbol of an inverse table.
 pub fn ec_dec_icdf_run(packet: &[u8], d: Dec, table: &[u8], scale: u32) -> Decoded
     requires { ⌜ Core (now packet) d ⌝ }
@@ -187,7 +221,7 @@ pub fn ec_dec_icdf_run(packet: &[u8], d: Dec, table: &[u8], scale: u32) -> Decod
     ensures { λ a. ⌜ Took (now (packet .entry)) (tab scale (now (table .entry))) d a ⌝ }
 {
     let unit = d.rng >> scale;
-    let p = search_part(table, scale, unit, d.val, d.rng);
+    let p = find_part(table, scale, unit, d.val, d.rng);
     let q = cut(packet, d, p.top, p.low);
     Decoded {
         refusal: 0,

@@ -10,6 +10,8 @@ use entdec_run::ec_dec_icdf8_run;
 use silk::Indices;
 use silk::IndicesPart;
 
+pub mod tell; // tell.rt: what a record says of them, written
+
 // Type and offset as one number.
 pub fn kind_run(packet: &[u8], d: Dec, rows: &[u8], active: u32) -> Decoded
     requires { ⌜ Reading (now packet) d (now rows) (2 ^ 29) ⌝ }

@@ -10,6 +10,8 @@ use entdec_run::ec_dec_icdf8_run;
 use silk::Indices;
 use silk::IndicesPart;
 
+pub mod tell; // tell.rt: what a record says of them, written
+
 // ---- lag
 
 // Where the row of a lag's low part starts; it has khz / 2 entries.
@@ -96,7 +98,7 @@ fn contour_start(khz: u32, subframes: u32) -> usize
     }
 }
 
-fn contour_size(khz: u32, subframes: u32) -> usize
+pub fn contour_size(khz: u32, subframes: u32) -> usize
     ensures { λ n. ⌜ n ≡ contourSize khz subframes ⌝ }
 {
     if khz == 8 {

@@ -16,12 +16,14 @@ use nlsf_unpack::wide_selectors_run;
 use silk::Indices;
 use silk::IndicesPart;
 
+pub mod tell; // tell.rt: what a record says of them, written
+
 // ---- one residual
 
-// A residual, and the reader behind it.
+// A residual, and the reader behind it, which stands first: behind a byte it would be copied byte by byte.
 pub struct ResidualRead {
-    pub value: i8,
     pub state: Dec,
+    pub value: i8,
 }
 
 // Symbol 0, an extension taken away, less 4.
@@ -61,17 +63,17 @@ fn residual_index(packet: &[u8], d: Dec, rows: &[u8], k: usize) -> ResidualRead
         let e = ec_dec_icdf8_run(packet, a.state, &rows[343..350]);
         let value = lowered(e.value);
         let state = e.state;
-        return ResidualRead { value, state };
+        return ResidualRead { state, value };
     }
     if a.value == 8 {
         let e = ec_dec_icdf8_run(packet, a.state, &rows[343..350]);
         let value = raised(e.value);
         let state = e.state;
-        return ResidualRead { value, state };
+        return ResidualRead { state, value };
     }
     let value = centred(a.value);
     let state = a.state;
-    ResidualRead { value, state }
+    ResidualRead { state, value }
 }
 
 // ---- all of them

@@ -1,11 +1,10 @@
 // Decoding of a line spectrum (RFC 6716, section 4.2.7.5): a book's vector moved by residuals, then stabilised. Names as in the crate's
 // NLSF_decode.rs.
 ghost use mathlib.Core.Path.{_≡_};
-ghost use lib.IntN.{pos, negsuc};
-ghost use Rattle.lists.specs.Every.{every};
 ghost use Rattle.spectrum.specs.Stabilising.{kept16};
-ghost use Rattle.spectrum.specs.Calls.{inRange, bookOf, numbersOk, decodeRefusal, decoded, decodeCall};
+ghost use Rattle.spectrum.specs.Calls.{bookOf, numbersOk, decodeRefusal, decoded, decodeCall};
 use narrow::narrow_run;
+use ranges::all_in_range;
 use spectrum::Moves;
 use spectrum::Spectrum;
 use wide::wide_run;
@@ -21,27 +20,12 @@ fn order_of(khz: u32) -> usize
     if khz == 16 { 16 } else { 10 }
 }
 
-// Each index lies in -10 to 10.
-fn all_small(xs: &[i8]) -> bool
-    ensures { λ b. ⌜ b ≡ every (inRange (negsuc 9) (pos 10)) (now (xs .entry)) ⌝ }
-{
-    let mut ok = true;
-    let mut k: usize = xs.len();
-    while k > 0 {
-        let j = k - 1;
-        let x = xs[j];
-        ok = ((-10 <= x) & (x <= 10)) & ok;
-        k = j;
-    }
-    ok
-}
-
 fn numbers_ok(index: [i8; 17], khz: u32) -> bool
     ensures { λ b. ⌜ b ≡ numbersOk khz index ⌝ }
 {
     let n = order_of(khz);
     let e = n + 1;
-    let small = all_small(&index[1..e]);
+    let small = all_in_range(&index[1..e], -10, 10);
     let first = index[0];
     let rate = (khz == 8) | ((khz == 12) | (khz == 16));
     rate & (((0 <= first) & (first <= 31)) & small)

@@ -56,6 +56,9 @@ module _ (l : List ℤ) (i a : ℕ) (f : First l i a) where
         before = f .before;
       }
 
-pub place-found : (v g : List ℤ) (r : ℕ) → length g ≡ suc (length v) → First (diffs (pos 0) v g) (suc (length v)) r → r ≡ place g v
+-- the first smallest of the differences up to the last place, which is the order
+pub place-found : (v g : List ℤ) (i r : ℕ) → i ≡ length v → length g ≡ suc (length v) → First (diffs (pos 0) v g) (i + 1) r → r ≡ place g v
 unfolding place
-place-found v g r l f = found (diffs (pos 0) v g) (length v) r (length-diffs (pos 0) v g l) f .0
+place-found v g i r e l f =
+    let s : i + 1 ≡ suc (length v) = omega arith in
+    found (diffs (pos 0) v g) (length v) r (length-diffs (pos 0) v g l) (subst (λ (n : ℕ). First (diffs (pos 0) v g) n r) s f) .0

@@ -11,6 +11,8 @@ ghost use Rattle.silk.specs.PulseSyntax.{count, counts};
 ghost use Rattle.silk.specs.PulseSteps.{PulseRows, blocksFrom};
 use entcode::Dec;
 
+pub mod encode; // encode.rt: the writer
+
 // A block's count before low bits, the number of its low bits, and the reader behind them.
 pub struct BlockRead {
     pub count: u32,
@@ -26,7 +28,7 @@ pub struct BlocksRead {
 }
 
 // Where row 9 is entered after j low bits: after ten, one place later.
-fn later_at(j: u32) -> usize
+pub(crate) fn later_at(j: u32) -> usize
     ensures { λ i. ⌜ i ≡ cond (eqb j 10) 181 180 ⌝ }
 {
     if j == 10 { 181 } else { 180 }

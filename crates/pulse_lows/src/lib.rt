@@ -13,6 +13,8 @@ ghost use Rattle.silk.specs.PulsePlaces.{mags, Natural};
 use entcode::Dec;
 use entcode::Decoded;
 
+pub mod encode; // encode.rt: the writer
+
 // n low bits behind the magnitude m.
 fn low_bits(packet: &[u8], from: Dec, row: &[u8], m: u32, n: u32) -> Decoded
     requires { ⌜ Core (now packet) from ⌝ }

@@ -19,3 +19,9 @@ first-none a b =
 pub none-first : (a b : ℕ) → a ≡ 0 → b ≡ 0 → firstOf a b ≡ 0
 unfolding firstOf
 none-first a b p q = rw (p, q)
+
+-- of three checks
+pub first-first : (a b c : ℕ) → firstOf a (firstOf b c) ≡ firstOf (firstOf a b) c
+unfolding firstOf
+first-first a b c =
+    chosen (λ (n : ℕ). cond (eqb a 0) (firstOf b c) a ≡ firstOf n c) (eqb a 0) (λ t. rw t) (λ t. rw t)

@@ -108,27 +108,31 @@ module _ (b : List ℕ) (bytes : Bytes b) where
 
   -- ---- a fresh reader is ready
 
+  pub open-core : length b ≤ 1275 → Core b (opened b)
+  unfolding opened settled
+  open-core short =
+      let s = stands-open b bytes in
+      record {
+        short = short;
+        above = omega arith;
+        most = omega arith;
+        inside = omega (arith, s .val);
+        kept = refl;
+        place = omega (arith, s .offs);
+        back = omega arith;
+        held = omega (arith, s .rem, bytes 3);
+        flag = omega arith;
+        used = omega arith;
+        slim = omega arith;
+      }
+
   ready-open : (c : List ℕ) → length b ≤ 1275 → Ready b (opened b) (openW c) openI
   unfolding opened settled
   ready-open c short =
-      let s = stands-open b bytes in
       record {
         big = omega arith;
-        stands = s;
-        core =
-            record {
-              short = short;
-              above = omega arith;
-              most = omega arith;
-              inside = omega (arith, s .val);
-              kept = refl;
-              place = omega (arith, s .offs);
-              back = omega arith;
-              held = omega (arith, s .rem, bytes 3);
-              flag = omega arith;
-              used = omega arith;
-              slim = omega arith;
-            };
+        stands = stands-open b bytes;
+        core = open-core short;
         level = record { rng = refl; total = refl };
         least = omega arith;
       }

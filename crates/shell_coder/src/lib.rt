@@ -1,8 +1,11 @@
 // The splits of a block's pulses (RFC 6716, section 4.2.7.8.3): 16 to 8 to 4 to 2 to 1 places, left half first, depth first. Names as in the
 // crate's shell_coder.rs. The pulses' rows are lent whole.
 ghost use mathlib.Core.Path.{_≡_};
-ghost use Prim.Native.Nat.{_+_, _^_, _<_, _≤_};
+ghost use mathlib.Core.List.{flatten};
+ghost use Prim.Native.Nat.{_+_, _*_, _^_, _<_, _≤_};
 ghost use lib.ListN.{length};
+ghost use Rattle.sheet.specs.Rows.{pulseRows};
+ghost use Rattle.sheet.specs.Places.{Stands};
 ghost use Rattle.entcode.specs.ReaderLaws.{Core};
 ghost use Rattle.tree.specs.Ran.{Ran};
 ghost use Rattle.silk.specs.PulseSyntax.{split, shell};
@@ -10,7 +13,17 @@ ghost use Rattle.silk.specs.PulseSteps.{PulseRows, Placed};
 use entcode::Dec;
 use entcode::Decoded;
 
-// How many of p pulses lie in the left half: a row of table 0 splits 2 places, of table 3 splits 16.
+pub mod encode; // encode.rt: the writer
+
+// Where the row of n pulses starts: one of table 0 splits 2 places, of table 3 splits 16.
+pub(crate) fn split_start(table: usize, n: usize) -> usize
+    requires { ⌜ (table < 4) × (1 ≤ n) × (n ≤ 16) ⌝ }
+    ensures { λ i. ⌜ Stands (58 + table * 16 + n) (flatten pulseRows) i (n + 1) ⌝ }
+{
+    215 + table * 152 + (n * (n + 1) / 2 - 1)
+}
+
+// How many of p pulses lie in the left half.
 fn decode_split(packet: &[u8], d: Dec, rows: &[u8], table: usize, p: u32) -> Decoded
     requires { ⌜ Core (now packet) d ⌝ }
     requires { ⌜ d .total ≤ 2 ^ 30 ⌝ }
@@ -27,7 +40,7 @@ fn decode_split(packet: &[u8], d: Dec, rows: &[u8], table: usize, p: u32) -> Dec
         };
     }
     let n = p as usize;
-    let start = 215 + table * 152 + (n * (n + 1) / 2 - 1);
+    let start = split_start(table, n);
     let end = start + (n + 1);
     entdec_run::ec_dec_icdf8_run(packet, d, &rows[start..end])
 }

@@ -5,9 +5,9 @@ use mathlib.Core.Path.{_≡_, refl, sym, ap, subst, _∙_}
 use mathlib.Core.Bool.{Bool, true, false, _||_, cond}
 use mathlib.Core.List.{List}
 use native.Mathlib.Omega.{arith}
-use borrow.Author.Tests.{eqb-true, leb-true, eq-eqb, ne-eqb}
+use borrow.Author.Tests.{eqb-true, leb-true, le-leb, eq-eqb, ne-eqb}
 use lib.Dec.{eqb, leb}
-use Rattle.tests.specs.Both.{and-both}
+use Rattle.tests.specs.Both.{and-both, both-and}
 use Rattle.tests.specs.Choice.{chosen}
 use Rattle.refusals.specs.First.{first-none}
 use Rattle.entcode.specs.declared.Dec.{Dec}
@@ -63,6 +63,23 @@ setting-chosen s e =
       mode = leb-true _ _ (v .0);
       prevtype = leb-true _ _ (v .1);
     }
+
+khz-ok : {khz : ℕ} → Rate khz → khzOk khz ≡ true
+khz-ok eight = refl
+khz-ok twelve = refl
+khz-ok sixteen = refl
+
+subframes-ok : {n : ℕ} → Subframes n → subframesOk n ≡ true
+subframes-ok two = refl
+subframes-ok four = refl
+
+pub chosen-setting : (s : Setting) → Chosen s → settingOk s ≡ true
+unfolding numbersOk
+chosen-setting s c =
+    both-and (khzOk (s .khz)) _ (khz-ok (c .rate))
+    (both-and (subframesOk (s .subframes)) _ (subframes-ok (c .subframes))
+    (both-and (leb (s .active) 1) _ (le-leb (s .active) 1 (omega (arith, c .active)))
+    (both-and (leb (s .mode) 2) (leb (s .prevtype) 2) (le-leb _ _ (c .mode)) (le-leb _ _ (c .prevtype)))))
 
 pub four-none : (t : Bool) → _≡_ {A = ℕ} (cond t 0 4) 0 → t ≡ true
 four-none true e = refl

@@ -6,10 +6,14 @@ use mathlib.Core.Bool.{Bool, true, false, cond}
 use mathlib.Core.List.{List, flatten}
 use native.Mathlib.Omega.{arith}
 use borrow.Author.Tests.{eqb-true, eqb-false}
-use lib.Dec.{eqb}
+use lib.Dec.{T, eqb}
 use lib.IntN.{ℤ, pos, negsuc, natAbs, _-ℤ_}
 use lib.ListN.{length, getD, set, length-set}
 use lib.Seq.{getD-set-same, getD-set-other}
+use lib.Signed.{nonNeg}
+use mir.Syntax.{Width, w32}
+use mir.Val.{Fits, hbits, toZ, ofZ}
+use mir.Facts.{toZ-ofZ}
 use Rattle.tests.specs.Choice.{chosen, by-lt}
 use Rattle.ints.specs.Parts.{up, down}
 use Rattle.ints.specs.Sums.{up-diff, down-diff}
@@ -36,6 +40,20 @@ pub record Upto (n : ℕ) (z : ℤ) : Type 0 where
 
 pub upto : {n : ℕ} (v : ℕ) → v ≤ n → Upto n (pos v)
 upto v h = record { least = refl; most = h }
+
+-- a number from -n to n is kept by a signed type that holds n
+pub abs-kept : {n : ℕ} (w : Width) (z : ℤ) → natAbs z ≤ n → n < 2 ^ hbits w → toZ w (ofZ w z) ≡ z
+abs-kept w (pos v) h l = toZ-ofZ {w = w} (record { sfits = omega arith })
+abs-kept w (negsuc v) h l = toZ-ofZ {w = w} (record { sfits = omega arith })
+
+-- one from 0 to n is one of 32 bits without a sign
+pub upto-fits : {n : ℕ} (z : ℤ) → n < 2 ^ 32 → Upto n z → T (nonNeg z) × Fits w32 (natAbs z)
+upto-fits (pos v) l h = (tt, omega (arith, h .most))
+upto-fits (negsuc v) l h = let e = h .least in let q : _≡_ {A = ℕ} 0 1 = cc in absurd (omega arith)
+
+-- and its bits are its own number
+pub upto-bits : (w : Width) {n : ℕ} {z : ℤ} → Upto n z → ofZ w z ≡ natAbs z
+upto-bits w u = ap (ofZ w) (u .least)
 
 -- m is l but for n places from k on, which have P
 pub record Filled (P : ℤ → Type 0) (k n : ℕ) (l m : List ℤ) : Type 0 where
@@ -96,6 +114,9 @@ more-gains-end (suc n) k x h =
 abbrev pub firstMost : ℕ → ℕ
 firstMost mode = cond (eqb mode 2) 40 63
 
+pub first-most : (mode : ℕ) → firstMost mode ≤ 63
+first-most mode = chosen (λ (n : ℕ). n ≤ 63) (eqb mode 2) (λ e. omega arith) (λ e. omega arith)
+
 first-gain-end : (mode signal : ℕ) (x : Indices) → signal < 3 → 0 < length (x .gains)
     → Ends (Gained (Filled (Upto (firstMost mode)) 0 1) x) 2 (firstGain mode signal x)
 unfolding firstGain sizes
@@ -113,6 +134,7 @@ pub record GainsRead (mode subframes : ℕ) (l m : List ℤ) : Type 0 where
   pub first : Upto (firstMost mode) (getD m 0 (pos 0))
   pub others : (k : ℕ) → 1 ≤ k → k < subframes → Upto 40 (getD m k (pos 0))
   pub kept : (k : ℕ) → subframes ≤ k → getD m k (pos 0) ≡ getD l k (pos 0)
+  pub size : length m ≡ length l
 
 pub gains-end : (mode subframes signal : ℕ) (x : Indices) → Subframes subframes → signal < 3 → length (x .gains) ≡ 4
     → Ends (Gained (GainsRead mode subframes) x) 5 (gains mode subframes signal x)
@@ -130,6 +152,7 @@ gains-end mode n signal x f p h =
           first = subst (Upto (firstMost mode)) (sym (d .before 0 (omega arith))) (c .inside 0 (omega arith) (omega arith));
           others = λ k i j. d .inside k i (omega arith);
           kept = λ k i. d .behind k (omega arith) ∙ c .behind k (omega arith);
+          size = d .size ∙ c .size;
         })
 
     next : 2 ≤ n → n ≤ 4 → (y : Indices) → Gained (Filled (Upto (firstMost mode)) 0 1) x y → Ends (Gained (GainsRead mode n) x) (n - 1) (moreGains (n - 1) 1 y)
@@ -180,6 +203,7 @@ pub record NlsfRead (order : ℕ) (l m : List ℤ) : Type 0 where
   pub first : Upto 31 (getD m 0 (pos 0))
   pub residuals : (k : ℕ) → 1 ≤ k → k ≤ order → natAbs (getD m k (pos 0)) ≤ 10
   pub kept : (k : ℕ) → order < k → getD m k (pos 0) ≡ getD l k (pos 0)
+  pub size : length m ≡ length l
 
 pub order-most : (khz : ℕ) → bookOf khz .order ≤ 16
 order-most khz = chosen (λ (b : Book). b .order ≤ 16) (eqb khz 16) (λ e. omega (arith, wide-shaped .order)) (λ e. omega (arith, narrow-shaped .order))
@@ -201,6 +225,7 @@ spectrum-end khz signal x r p h =
           first = subst (Upto 31) (sym (f .before 0 (omega arith) ∙ getD-set-same (x .nlsf) 0 (pos v) (pos 0) (omega arith))) (upto v l);
           residuals = λ k i j. f .inside k i (omega arith);
           kept = λ k i. f .behind k (omega arith) ∙ getD-set-other (x .nlsf) 0 k (pos v) (pos 0) (omega arith);
+          size = f .size ∙ length-set (x .nlsf) 0 (pos v);
         })
 
 -- ---- interpolation

@@ -1,7 +1,7 @@
 -- What reading a frame's side indices gives, whatever the packet holds: the range of every field that the frame reads, and the fields that it
 -- keeps (document 01, "Side indices"; RFC 6716, section 4.2.7). Assumes nothing.
 use Prim.Native.Nat.{ℕ, _+_, _-_, _*_, _/_, _%_, _^_, _≤_, _<_}
-use mathlib.Core.Path.{_≡_, refl, ap}
+use mathlib.Core.Path.{_≡_, refl, ap, _∙_}
 use mathlib.Core.Bool.{false}
 use mathlib.Core.List.{List}
 use native.Mathlib.Omega.{arith}
@@ -65,6 +65,7 @@ pub record Kept (s : Setting) (x y : Indices) : Type 0 where
 pub record ReadOver (s : Setting) (x y : Indices) : Type 0 where
   pub range : InRange s y
   pub kept : Kept s x y
+  pub shape : Shape y
 
 -- ---- every way through the tree: at most 51 symbols
 
@@ -110,6 +111,7 @@ module _ (s : Setting) (x : Indices) (r : Rate (s .khz)) (f : Subframes (s .subf
               nlsf = n .kept;
               unvoiced = λ b. absurd (b (ap pos e));
             };
+            shape = record { gains = g .size ∙ h .gains; ltp = t .filters .size ∙ h .ltp; nlsf = n .size ∙ h .nlsf };
           }
       read-all y (unvoiced e) w u =
           record {
@@ -132,6 +134,7 @@ module _ (s : Setting) (x : Indices) (r : Rate (s .khz)) (f : Subframes (s .subf
               nlsf = n .kept;
               unvoiced = λ b. record { ltp = refl; lag = refl; contour = refl; period = refl; scale = refl };
             };
+            shape = record { gains = g .size ∙ h .gains; ltp = h .ltp; nlsf = n .size ∙ h .nlsf };
           }
 
       after-voicing : (y : Indices) → pitched (k / 2) so-far y → Ends (ReadOver s x) 1 (seed y)

@@ -1,5 +1,5 @@
 -- The rows of the side indices in a slice that holds them one after the other: which part of it is which row (RFC 6716, section 4.2.7). A caller
--- lends the slice down, and each reader cuts its row. Assumes nothing.
+-- lends the slice down, and each reader or writer cuts its row. Assumes nothing.
 use Prim.Native.Nat.{ℕ, _+_, _-_, _*_, _/_, _^_, _≤_, _<_}
 use mathlib.Core.Path.{_≡_, refl, ap, _∙_}
 use mathlib.Core.Bool.{cond}
@@ -7,14 +7,16 @@ use mathlib.Core.List.{List, flatten}
 use native.Mathlib.Omega.{arith}
 use lib.Dec.{eqb}
 use lib.ListN.{length, take, drop}
-use Rattle.icdf.specs.Rule.{Icdf}
+use Rattle.icdf.specs.Rule.{Icdf, Writable}
 use Rattle.sheet.specs.Rows.{indexRows}
 use Rattle.sheet.specs.Directory.{rowOf}
 use Rattle.sheet.specs.Places.{Stands, starts, sizes, index-stands, stands-in, lent}
 use Rattle.sheet.specs.Families.{type-stands, gain-stands, first-index-stands, residual-stands, filter-stands}
-use Rattle.sheet.specs.SheetRule.{row-good}
+use Rattle.sheet.specs.SheetRule.{row-good, row-writable}
 use Rattle.entcode.specs.declared.Dec.{Dec}
+use Rattle.entcode.specs.Flat.{Out}
 use Rattle.entcode.specs.ReaderLaws.{Core}
+use Rattle.entcode.specs.WriterFacts.{Core as WriterCore}
 
 -- ---- the numbers of a frame
 
@@ -36,6 +38,10 @@ subframes-most four = omega arith
 pub subframes-least : {n : ℕ} → Subframes n → 2 ≤ n
 subframes-least two = omega arith
 subframes-least four = omega arith
+
+pub only-two : {n : ℕ} → Subframes n → (n ≡ 4 → ⊥) → n ≡ 2
+only-two two h = refl
+only-two four h = absurd (h refl)
 
 pub rate-most : {khz : ℕ} → Rate khz → khz / 16 ≤ 1
 rate-most eight = omega arith
@@ -68,7 +74,7 @@ contour-within khz subframes twelve four = (omega arith, omega arith)
 contour-within khz subframes sixteen two = (omega arith, omega arith)
 contour-within khz subframes sixteen four = (omega arith, omega arith)
 
--- ---- what a reader of indices is lent
+-- ---- what a reader or a writer of indices is lent
 
 -- a slice that holds the rows
 pub record IndexRows (l : List ℕ) : Type 0 where
@@ -85,18 +91,30 @@ pub record Reading (b : List ℕ) (d : Dec) (l : List ℕ) (n : ℕ) : Type 0 wh
   pub few : d .total ≤ n
   pub rows : IndexRows l
 
+-- a writer for the next write, at most n bits on, beside the rows
+pub record Writing (o : Out) (l : List ℕ) (n : ℕ) : Type 0 where
+  pub core : WriterCore o
+  pub few : o .state .total ≤ n
+  pub rows : IndexRows l
+
 -- ---- its parts
 
--- a list t that is row k, of n entries
+-- a list t that is row k, of n entries; each of its symbols has a probability
 pub record Row (k n : ℕ) (t : List ℕ) : Type 0 where
   pub is : t ≡ rowOf k
   pub good : Icdf 8 t
   pub size : length t ≡ n
+  pub writable : (v : ℕ) → v < n → Writable 8 t v
 
 row-at : {l : List ℕ} {k a n : ℕ} (e : ℕ) → IndexRows l → k < 46 → Stands k (flatten indexRows) a n → e ≡ a + n → Row k n (take (e - a) (drop a l))
 row-at {l} {k} {a} {n} e h p s q =
     let i : take (e - a) (drop a l) ≡ rowOf k = lent e (stands-in (h .is) s) q in
-    record { is = i; good = rw i (row-good k (omega arith)); size = ap length i ∙ s .size }
+    record {
+      is = i;
+      good = rw i (row-good k (omega arith));
+      size = ap length i ∙ s .size;
+      writable = λ v q. rw i (row-writable k v (omega arith) (omega (arith, s .size)));
+    }
 
 module _ {l : List ℕ} (h : IndexRows l) where
   pub delta-gain-row : Row 7 41 (take 41 (drop 30 l))

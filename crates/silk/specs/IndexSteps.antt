@@ -20,7 +20,7 @@ use Rattle.silk.specs.Record.{withGain, withNlsf, withFilter}
 use Rattle.silk.specs.IndexSyntax.{saidAt, moreGains, residualPick, residual, residuals, filters}
 
 -- a number that is not yet reached has a step to it
-less-suc : (n k : ℕ) → k < n → n - k ≡ suc (n - suc k)
+pub less-suc : (n k : ℕ) → k < n → n - k ≡ suc (n - suc k)
 less-suc n k h = omega arith
 
 module _ (b : List ℕ) (d : Dec) (n k : ℕ) (x : Indices) where

@@ -161,7 +161,7 @@ same-record x y e =
 -- ---- what a record that may be written is
 
 module _ (s : Setting) (x : Indices) (e : sayable s x ≡ true) where
-  all-said : allSaid (symbols x (indices s x)) ≡ true
+  pub all-said : allSaid (symbols x (indices s x)) ≡ true
   unfolding sayable
   all-said = and-both (allSaid (symbols x (indices s x))) _ e .0
 

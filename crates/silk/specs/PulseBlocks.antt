@@ -6,7 +6,7 @@ use mathlib.Core.List.{List, [], _∷_, _++_, map, flatten, map-append, append-a
 use native.Mathlib.Omega.{arith}
 use lib.IntN.{ℤ, pos, natAbs}
 use lib.ListN.{length, take, drop, length-append, length-drop, length-map, take-append-drop}
-use lib.Seq.{take-at, drop-at}
+use lib.Seq.{take-at, drop-at, length-take-le}
 use Rattle.lists.specs.AtMost.{AtMost}
 use Rattle.lists.specs.All.{All, all-snoc}
 use Rattle.lists.specs.Parts.{middle, replaced}
@@ -99,16 +99,21 @@ unfoldable pub rows16 : {A : Type 0} → ℕ → List A → List (List A)
 rows16 zero v = []
 rows16 (suc n) v = take 16 v ∷ rows16 n (drop 16 v)
 
-rows-counted : {A : Type 0} (n : ℕ) (v : List A) → length (rows16 n v) ≡ n
+pub rows-counted : {A : Type 0} (n : ℕ) (v : List A) → length (rows16 n v) ≡ n
 unfolding rows16
 rows-counted zero v = refl
 rows-counted (suc n) v = ap suc (rows-counted n (drop 16 v))
 
-rows-flat : {A : Type 0} (n : ℕ) (v : List A) → length v ≡ n * 16 → flatten (rows16 n v) ≡ v
+pub rows-flat : {A : Type 0} (n : ℕ) (v : List A) → length v ≡ n * 16 → flatten (rows16 n v) ≡ v
 unfolding rows16 flatten
 rows-flat zero [] e = refl
 rows-flat zero (x ∷ v) e = absurd (omega arith)
 rows-flat (suc n) v e = ap (λ l. take 16 v ++ l) (rows-flat n (drop 16 v) (length-drop 16 v ∙ omega arith)) ∙ take-append-drop 16 v
+
+pub rows-sixteen : {A : Type 0} (n : ℕ) (v : List A) → length v ≡ n * 16 → All Sixteen (rows16 n v)
+unfolding rows16
+rows-sixteen zero v e = tt
+rows-sixteen (suc n) v e = (length-take-le 16 v (omega arith), rows-sixteen n (drop 16 v) (length-drop 16 v ∙ omega arith))
 
 flat-rows : {A : Type 0} (P : List A → Type 0) (wide : (v : List A) → P v → length v ≡ 16) (vs : List (List A)) → All P vs → rows16 (length vs) (flatten vs) ≡ vs
 unfolding rows16 flatten

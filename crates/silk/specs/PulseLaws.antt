@@ -86,12 +86,12 @@ counts-small level (suc n) h =
 
 -- ---- splits
 
-total-append : (a b : List ℕ) → total (a ++ b) ≡ total a + total b
+pub total-append : (a b : List ℕ) → total (a ++ b) ≡ total a + total b
 unfolding total
 total-append [] b = omega arith
 total-append (x ∷ a) b = omega (arith, total-append a b)
 
-at-most-total : (v : List ℕ) → AtMost (total v) v
+pub at-most-total : (v : List ℕ) → AtMost (total v) v
 unfolding total
 at-most-total [] i = omega arith
 at-most-total (x ∷ v) zero = omega arith

@@ -1,21 +1,22 @@
 -- Rows of the pulses as parts of the slice that is lent: which part is which row, that it can be read, and how many symbols it has. Assumes
 -- nothing.
-use Prim.Native.Nat.{ℕ, _+_, _-_, _*_, _≤_, _<_}
+use Prim.Native.Nat.{ℕ, _+_, _-_, _*_, _≤_, _<_, min}
 use mathlib.Core.Path.{_≡_, refl, sym, ap, _∙_}
 use mathlib.Core.Bool.{Bool, true, false, cond}
 use mathlib.Core.List.{List, [], _∷_, flatten}
 use native.Mathlib.Omega.{arith}
-use borrow.Author.Tests.{eq-eqb}
+use borrow.Author.Tests.{eq-eqb, eqb-true}
 use lib.Dec.{eqb}
 use lib.ListN.{length, take, drop}
 use lib.Seq.{drop-drop}
-use Rattle.icdf.specs.Rule.{Icdf}
+use Rattle.tests.specs.Choice.{chosen}
+use Rattle.icdf.specs.Rule.{Icdf, Writable}
 use Rattle.sheet.specs.Rows.{pulseRows}
 use Rattle.sheet.specs.Directory.{rowOf, countRow, lastCountRow, lowBitRow, signRow}
 use Rattle.sheet.specs.Places.{sizes, starts, row-size, stands-in, lent, pulse-stands}
 use Rattle.sheet.specs.Families.{rate-stands, count-stands, sign-stands}
-use Rattle.sheet.specs.SheetRule.{row-good, last-count-is}
-use Rattle.silk.specs.PulseSyntax.{laterRow}
+use Rattle.sheet.specs.SheetRule.{row-good, row-writable, last-count-is}
+use Rattle.silk.specs.PulseSyntax.{laterRow, signRowOf}
 use Rattle.silk.specs.PulseSteps.{PulseRows}
 
 pub pulse-rows : (l : List ℕ) → l ≡ flatten pulseRows → PulseRows l
@@ -55,6 +56,16 @@ later-within j i e = rw e (go (eqb j 10))
     go true = omega arith
     go false = omega arith
 
+-- each count of 0 to 17 may be written, after ten low bits each of 0 to 16
+pub count-writable : (level v : ℕ) → level < 10 → v ≤ 17 → Writable 8 (countRow level) v
+count-writable level v h l = row-writable (48 + level) v (omega arith) (omega (arith, count-size level h))
+
+pub later-writable : (j v : ℕ) → v ≤ 17 → (j ≡ 10 → v ≤ 16) → Writable 8 (laterRow j) v
+unfolding sizes
+later-writable j v l h =
+    chosen (λ (r : List ℕ). Writable 8 r v) (eqb j 10) (λ t. row-writable 58 v (omega arith) (omega (arith, row-size 58, h (eqb-true j 10 t))))
+    (λ t. row-writable 57 v (omega arith) (omega (arith, row-size 57)))
+
 -- 18 symbols, after ten low bits 17
 pub record Later (j : ℕ) : Type 0 where
   pub good : Icdf 8 (laterRow j)
@@ -93,3 +104,24 @@ low-bit-size = row-size 123
 
 pub sign-in : (l : List ℕ) (k : ℕ) → PulseRows l → k < 42 → take (825 + k * 2 + 2 - (825 + k * 2)) (drop (825 + k * 2) l) ≡ signRow k
 sign-in l k r h = lent _ (stands-in (r .is) (sign-stands k h)) refl
+
+-- the sign row of a block with c pulses before low bits, which starts at r
+module _ (signal offset c : ℕ) (h : signal ≤ 2) (k : offset ≤ 1) where
+  abbrev signNo : ℕ
+  signNo = 7 * (offset + 2 * signal) + min c 6
+
+  few : signNo < 42
+  few = omega arith
+
+  pub sign-good : Icdf 8 (signRowOf signal offset c)
+  sign-good = row-good (124 + signNo) (omega (arith, few))
+
+  pub sign-writable : (v : ℕ) → v < 2 → Writable 8 (signRowOf signal offset c) v
+  sign-writable v l = row-writable (124 + signNo) v (omega (arith, few)) (omega (arith, sign-stands signNo few .size))
+
+  module _ (r : ℕ) (e : r ≡ 825 + signNo * 2) where
+    pub sign-ends : r + 2 ≤ 909
+    sign-ends = omega (arith, few)
+
+    pub sign-lent : (l : List ℕ) → PulseRows l → take (r + 2 - r) (drop r l) ≡ signRowOf signal offset c
+    sign-lent l p = rw e (sign-in l signNo p few)

@@ -55,7 +55,7 @@ each-end b d e f = refl
 -- ---- counts
 
 -- a number that is not yet reached has a step to it
-less-suc : (n k : ℕ) → k < n → n - k ≡ suc (n - suc k)
+pub less-suc : (n k : ℕ) → k < n → n - k ≡ suc (n - suc k)
 less-suc n k h = omega arith
 
 pub lows-end : (b : List ℕ) (d : Dec) (n j v : ℕ) → (v ≡ 17 → ⊥) → run b d (lowCounts n j v) ≡ got (record { count = v; lows = j }) d

@@ -41,18 +41,18 @@ count-meant level b m h = low-counts-meant 10 0 b refl (omega arith) m h
 
 -- ---- splits
 
-total-parts : (n : ℕ) (v : List ℕ) → total (take n v) + total (drop n v) ≡ total v
+pub total-parts : (n : ℕ) (v : List ℕ) → total (take n v) + total (drop n v) ≡ total v
 unfolding total
 total-parts zero v = omega arith
 total-parts (suc n) [] = refl
 total-parts (suc n) (x ∷ v) = omega (arith, total-parts n v)
 
-split-meant : (k c : ℕ) (v : List ℕ) → total v ≡ c → meant v (split k c) ≡ total (take (2 ^ k) v)
+pub split-meant : (k c : ℕ) (v : List ℕ) → total v ≡ c → meant v (split k c) ≡ total (take (2 ^ k) v)
 unfolding split meant
 split-meant k zero v e = omega (arith, total-parts (2 ^ k) v)
 split-meant k (suc c) v e = refl
 
-one-value : (c : ℕ) (v : List ℕ) → length v ≡ 1 → total v ≡ c → c ∷ [] ≡ v
+pub one-value : (c : ℕ) (v : List ℕ) → length v ≡ 1 → total v ≡ c → c ∷ [] ≡ v
 unfolding total
 one-value c [] l e = absurd (omega arith)
 one-value c (x ∷ []) l e = let q : c ≡ x = omega arith in rw q
@@ -86,7 +86,7 @@ sign-meant r (negsuc n) = refl
 -- ---- low bits
 
 -- one more low bit is the next digit of y
-next-bit : (n y : ℕ) → y / 2 ^ n ≡ 2 * (y / 2 ^ suc n) + y / 2 ^ n % 2
+pub next-bit : (n y : ℕ) → y / 2 ^ n ≡ 2 * (y / 2 ^ suc n) + y / 2 ^ n % 2
 next-bit n y =
     let q : y / 2 ^ suc n ≡ y / 2 ^ n / 2 = ap (λ (m : ℕ). y / m) (pow-suc 2 n) ∙ sym (div-div-eq-div-mul y (2 ^ n) 2) in
     omega arith
@@ -127,10 +127,10 @@ AllSuit [] (p ∷ ps) = ⊥
 AllSuit (j ∷ js) [] = ⊥
 AllSuit (j ∷ js) (p ∷ ps) = Suits j p × AllSuit js ps
 
-abbrev whole : List (List ℤ) → List (List ℕ)
+abbrev pub whole : List (List ℤ) → List (List ℕ)
 whole ps = map (map natAbs) ps
 
-counts-meant : (level : ℕ) (js : List ℕ) (ps : List (List ℤ)) → AllSuit js ps → meant (blocksBy js ps) (counts level (length ps)) ≡ blocksBy js ps
+pub counts-meant : (level : ℕ) (js : List ℕ) (ps : List (List ℤ)) → AllSuit js ps → meant (blocksBy js ps) (counts level (length ps)) ≡ blocksBy js ps
 unfolding counts blocksBy meant
 counts-meant level [] [] a = refl
 counts-meant level [] (p ∷ ps) a = absurd a
@@ -139,7 +139,7 @@ counts-meant level (j ∷ js) (p ∷ ps) a =
     cons-meant (record { count = 0; lows = 0 }) (blockBy j p) (blocksBy js ps) (count level) (counts level (length ps)) (count-meant level (blockBy j p) (a .0 .few) (a .0 .most))
     (counts-meant level js ps (a .1))
 
-splits-meant : (js : List ℕ) (ps : List (List ℤ)) → AllSuit js ps
+pub splits-meant : (js : List ℕ) (ps : List (List ℤ)) → AllSuit js ps
     → meant (shifted (blocksBy js ps) (whole ps)) (each [] (λ (b : Block). shell 4 (b .count)) (blocksBy js ps)) ≡ shifted (blocksBy js ps) (whole ps)
 unfolding each blocksBy shifted meant
 splits-meant [] [] a = refl
@@ -149,7 +149,7 @@ splits-meant (j ∷ js) (p ∷ ps) a =
     cons-meant [] (shiftedBy j p) (shifted (blocksBy js ps) (whole ps)) (shell 4 (total (shiftedBy j p))) (each [] (λ (b : Block). shell 4 (b .count)) (blocksBy js ps))
     (shell-meant 4 (total (shiftedBy j p)) (shiftedBy j p) (length-map (map natAbs p) (λ m. m / 2 ^ j) ∙ length-map p natAbs ∙ a .0 .size) refl) (splits-meant js ps (a .1))
 
-lows-meant : (js : List ℕ) (ps : List (List ℤ)) → AllSuit js ps → meant (whole ps) (blockLows (blocksBy js ps) (shifted (blocksBy js ps) (whole ps))) ≡ whole ps
+pub lows-meant : (js : List ℕ) (ps : List (List ℤ)) → AllSuit js ps → meant (whole ps) (blockLows (blocksBy js ps) (shifted (blocksBy js ps) (whole ps))) ≡ whole ps
 unfolding blockLows blocksBy shifted meant
 lows-meant [] [] a = refl
 lows-meant [] (p ∷ ps) a = absurd a
@@ -168,7 +168,7 @@ signs-meant signal offset (j ∷ js) (p ∷ ps) a =
     (each-meant (pos 0) (sign (signRowOf signal offset (total (shiftedBy j p)))) natAbs (sign-meant (signRowOf signal offset (total (shiftedBy j p)))) p) (signs-meant signal offset js ps (a .1))
 
 -- the first number that passes a test passes it, and none before it does
-first-passes : (ok : ℕ → Bool) (n j : ℕ) → firstFrom ok n j < n + j → ok (firstFrom ok n j) ≡ true
+pub first-passes : (ok : ℕ → Bool) (n j : ℕ) → firstFrom ok n j < n + j → ok (firstFrom ok n j) ≡ true
 unfolding firstFrom
 first-passes ok zero j = λ h. absurd (omega arith)
 first-passes ok (suc n) j =

@@ -14,7 +14,8 @@ use Rattle.ints.specs.Parts.{up, down}
 use Rattle.tests.specs.Both.{and-both, in-range}
 use Rattle.tests.specs.Choice.{chosen}
 use Rattle.lists.specs.Every.{every}
-use Rattle.spectrum.specs.Calls.{called, answered, lengthsOk, stabiliseRefusal, stabiliseCall, bookOf, placeIndices, inRange, numbersOk, decodeRefusal, decoded, decodeCall}
+use Rattle.ranges.specs.InRange.{inRange}
+use Rattle.spectrum.specs.Calls.{called, answered, lengthsOk, stabiliseRefusal, stabiliseCall, bookOf, placeIndices, numbersOk, decodeRefusal, decoded, decodeCall}
 use Rattle.spectrum.specs.Gaps.{goodGaps}
 use Rattle.spectrum.specs.Stabilising.{Stable, stabilise, kept16}
 use Rattle.spectrum.specs.Values.{at, Within}

@@ -4,10 +4,10 @@ use mathlib.Core.Bool.{Bool, _&&_, _||_, cond}
 use mathlib.Core.List.{List, map}
 use lib.Dec.{eqb, leb}
 use lib.IntN.{ℤ, pos, negsuc}
-use lib.Signed.{leZ}
 use lib.ListN.{length, take, drop}
 use Rattle.ints.specs.Parts.{up}
 use Rattle.lists.specs.Every.{every}
+use Rattle.ranges.specs.InRange.{inRange}
 use Rattle.sheet.specs.Books.{Book, narrowBook, wideBook}
 use Rattle.spectrum.specs.Gaps.{goodGaps}
 use Rattle.spectrum.specs.Places.{places}
@@ -50,10 +50,6 @@ bookOf khz = cond (eqb khz 16) wideBook narrowBook
 -- the indices of the places, as many as the order; those past them are not looked at
 abbrev pub placeIndices : ℕ → List ℤ → List ℤ
 placeIndices n index = take n (drop 1 index)
-
--- an index from lo to hi
-abbrev pub inRange : ℤ → ℤ → ℤ → Bool
-inRange lo hi x = leZ lo x && leZ x hi
 
 -- 4: 8, 12 or 16 kHz; a first index of 0 to 31; one of -10 to 10 for each place
 unfoldable pub numbersOk : ℕ → List ℤ → Bool

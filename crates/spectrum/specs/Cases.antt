@@ -1,6 +1,6 @@
--- Cases of the two calls as one list, and one theorem that their definitions satisfy it all: P9 to P12 of document 01; cases that show a tie, the
--- centre's rounding, saturation, sorting, the number of moves, the upward pass and the upper limit; refusals; spectra that the reference library
--- decodes so. Assumes nothing.
+-- Cases of the two calls beside document 01's, as one list, and one theorem that their definitions satisfy it all: a tie, the centre's rounding,
+-- saturation, sorting, the number of moves, the upward pass and the upper limit; refusals; spectra that the reference library decodes so.
+-- Assumes nothing.
 use Prim.Native.Nat.{ℕ, zero, suc}
 use mathlib.Core.Path.{_≡_, refl}
 use mathlib.Core.List.{List, [], _∷_, map}
@@ -46,11 +46,6 @@ stated (decodes khz x w n) = called w 0 n
 
 unfoldable pub cases : List Case
 cases =
-    -- P9 to P12 of document 01; the first move of P12 stores -32,768
-    stabilises (pos 10 ∷ pos 5 ∷ pos 20 ∷ []) (pos 10 ∷ pos 15 ∷ []) (pos 10 ∷ pos 15 ∷ []) 0 ∷
-    stabilises (pos 10 ∷ pos 5 ∷ pos 20 ∷ []) (pos 100 ∷ pos 50 ∷ []) (pos 73 ∷ pos 78 ∷ []) 1 ∷
-    stabilises (pos 10 ∷ pos 5 ∷ pos 20 ∷ []) (pos 0 ∷ pos 0 ∷ []) (pos 10 ∷ pos 15 ∷ []) 2 ∷
-    stabilises (pos 0 ∷ pos 3 ∷ pos 1 ∷ []) (pos 32767 ∷ pos 32767 ∷ []) (pos 0 ∷ pos 3 ∷ []) 2 ∷
     -- of equal differences the first is mended
     stabilises (pos 0 ∷ pos 0 ∷ pos 1 ∷ []) (minus 1 ∷ minus 2 ∷ []) (pos 0 ∷ pos 0 ∷ []) 2 ∷
     -- the centre is halved upward

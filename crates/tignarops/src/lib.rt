@@ -6,11 +6,14 @@ ghost use Rattle.entcode.specs.Flat.{out};
 ghost use Rattle.entcode.specs.Writing.{sent, encSym, encTell, encDone, encOpen};
 ghost use Rattle.silk.specs.Record.{settingOf};
 ghost use Rattle.silk.specs.FrameCalls.{decodeIndices, pulsed, decodePulses};
+ghost use Rattle.frame_type.specs.Kind.{frameType};
+ghost use Rattle.silk.specs.PulseWriting.{encodePulses};
 ghost use Rattle.spectrum.specs.Calls.{stabiliseCall, decodeCall};
 use entcode::Dec;
 use entcode::Decoded;
 use entcode::Enc;
 use entcode::Encoded;
+use frame_type::FrameType;
 use silk::Indices;
 use silk::IndicesRead;
 use spectrum::Moves;
@@ -117,6 +120,15 @@ pub extern "C" fn tg_enc_done(buf: &mut [u8], w: Enc) -> Encoded
     entenc::ec_enc_done(buf, w)
 }
 
+// ---- the types of a packet's first frame
+
+#[no_mangle]
+pub extern "C" fn tg_frame_type(packet: &[u8], active: u32) -> FrameType
+    ensures { λ a. ⌜ a ≡ frameType (now (packet .entry)) active ⌝ }
+{
+    frame_type::frame_type(packet, active)
+}
+
 // ---- side indices
 
 #[no_mangle]
@@ -161,6 +173,22 @@ pub extern "C" fn tg_decode_pulses(
     ensures { λ a. ⌜ pulsed (now (pulses .exit)) a ≡ decodePulses (now (packet .entry)) r (now (pulses .entry)) khz subframes signal offset ⌝ }
 {
     decode_pulses::silk_decode_pulses(packet, r, pulses, khz, subframes, signal, offset)
+}
+
+#[no_mangle]
+pub extern "C" fn tg_encode_pulses(
+    buf: &mut [u8],
+    w: Enc,
+    pulses: &[i16],
+    khz: u32,
+    subframes: u32,
+    signal: u32,
+    offset: u32,
+    rate: u32,
+) -> Encoded
+    ensures { λ a. ⌜ sent (now (buf .exit)) a ≡ encodePulses (out (now (buf .entry)) w) (now (pulses .entry)) khz subframes signal offset rate ⌝ }
+{
+    encode_pulses::silk_encode_pulses(buf, w, pulses, khz, subframes, signal, offset, rate)
 }
 
 // ---- line spectra

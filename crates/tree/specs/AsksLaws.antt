@@ -1,7 +1,7 @@
 -- Laws of trees, each by one induction: what was written reads back, and trees behind trees. Assumes nothing.
 use Prim.Native.Nat.{ℕ}
-use mathlib.Core.Path.{_≡_, refl, sym, ap, subst, _∙_}
-use mathlib.Core.List.{List, [], _∷_, _++_}
+use mathlib.Core.Path.{_≡_, refl, sym, ap, ap₂, subst, _∙_}
+use mathlib.Core.List.{List, [], _∷_, _++_, append-nil}
 use Rattle.entcode.specs.declared.Dec.{Dec}
 use Rattle.entcode.specs.Models.{Model, Sym}
 use Rattle.entcode.specs.Reader.{readVal, readNext}
@@ -71,3 +71,12 @@ pub symbols-of : {Q R A : Type 0} (y : R) (h : R → Q) (t : Asks Q A) → symbo
 unfolding symbols of
 symbols-of y h (done x) = refl
 symbols-of y h (ask m w f) = ap {B = List Sym} (λ (l : List Sym). record { model = m; value = w (h y) } ∷ l) (symbols-of y h (f (w (h y))))
+
+-- one element, then the others
+pub symbols-cons : {P Q R A : Type 0} (y : R) (h : R → P) (t : Asks P A) (k : R → Q) (u : Asks Q (List A))
+    → symbols y (then (of h t) (λ a. then (of k u) (λ l. done (a ∷ l)))) ≡ symbols (h y) t ++ symbols (k y) u
+unfolding symbols
+symbols-cons y h t k u =
+    symbols-then y (of h t) (λ a. then (of k u) (λ l. done (a ∷ l)))
+    ∙ ap₂ (λ (a b : List Sym). a ++ b) (symbols-of y h t)
+    (symbols-then y (of k u) (λ l. done (meant y (of h t) ∷ l)) ∙ append-nil (symbols y (of k u)) ∙ symbols-of y k u)

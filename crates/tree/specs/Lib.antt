@@ -3,6 +3,8 @@ pub mod Asks
 pub mod AsksLaws
 pub mod Outcomes
 pub mod Telling
+pub mod Says
 pub mod Told
+pub mod SoundTelling
 pub mod Ran
 pub mod Through

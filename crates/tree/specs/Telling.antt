@@ -5,7 +5,7 @@ use mathlib.Core.Bool.{Bool, true, _&&_}
 use mathlib.Core.List.{List, [], _∷_, _++_}
 use borrow.Author.Tests.{eqb-true}
 use lib.Dec.{eqb}
-use Rattle.tests.specs.Both.{and-both}
+use Rattle.tests.specs.Both.{and-both, both-and}
 use Rattle.entcode.specs.Models.{Model, bit, raw, num, tab, Sym, Fitting}
 use Rattle.entcode.specs.Rules.{sayRule}
 use Rattle.entcode.specs.ReadLaws.{Inside}
@@ -32,9 +32,26 @@ unfolding writtenAll
 written-append o [] l = refl
 written-append o (q ∷ k) l = written-append (written o q) k l
 
+pub said-front : (k l : List Sym) → allSaid (k ++ l) ≡ true → allSaid k ≡ true
+unfolding allSaid
+said-front [] l e = refl
+said-front (q ∷ k) l e =
+    let p = and-both (eqb (sayRule (q .model) (q .value)) 0) (allSaid (k ++ l)) e in both-and _ _ (p .0) (said-front k l (p .1))
+
+pub said-back : (k l : List Sym) → allSaid (k ++ l) ≡ true → allSaid l ≡ true
+unfolding allSaid
+said-back [] l e = e
+said-back (q ∷ k) l e = said-back k l (and-both (eqb (sayRule (q .model) (q .value)) 0) (allSaid (k ++ l)) e .1)
+
+pub said-both : (k l : List Sym) → allSaid k ≡ true → allSaid l ≡ true → allSaid (k ++ l) ≡ true
+unfolding allSaid
+said-both [] l a b = b
+said-both (q ∷ k) l a b =
+    let p = and-both (eqb (sayRule (q .model) (q .value)) 0) (allSaid k) a in both-and _ _ (p .0) (said-both k l (p .1) b)
+
 -- ---- a value that may be written is one of its model's
 
-fits-inside : (m : Model) (v : ℕ) → Fitting m v → Inside m v
+pub fits-inside : (m : Model) (v : ℕ) → Fitting m v → Inside m v
 fits-inside (bit lp) v h = h
 fits-inside (raw n) v h = h
 fits-inside (num ft) v h = h

@@ -69,6 +69,26 @@ midway-next {p = p} {u = u} {t = t} {v = v} {next = next} h f e l =
       most = omega (arith, h .most, f .most);
     }
 
+-- a turn writes one symbol of a row u, by the row r that was lent
+pub midway-ask : {R A Q B S D : Type 0} {o p q : Out} {y : R} {whole : Asks R A} {n k : ℕ} {z : Q} {left : Asks Q B} {r u : List ℕ} {v a : ℕ}
+    {w : S} {next : Asks S D} → Midway o y whole n p z left → r ≡ u → v ≡ a → Wrote p (record { model = tab 8 r; value = v }) q
+    → symbols z left ≡ record { model = tab 8 u; value = a } ∷ symbols w next → n + 16 ≤ k → Midway o y whole k q w next
+unfolding writtenAll
+midway-ask {p = p} {w = w} {next = next} h e f g i l =
+    record {
+      is = h .is ∙ ap (λ (s : List Sym). writtenAll p s) i ∙ rw (sym e, sym f) (ap (λ (t : Out). writtenAll t (symbols w next)) (sym (g .is)));
+      core = g .core;
+      least = omega (arith, h .least, g .least);
+      most = omega (arith, h .most, g .most);
+    }
+
+-- what is left begins with the question
+pub midway-asked : {R A Q B : Type 0} {o p q : Out} {y : R} {whole : Asks R A} {n k : ℕ} {z : Q} {r u : List ℕ} {w : Q → ℕ} {g : ℕ → Asks Q B} {v : ℕ}
+    → Midway o y whole n p z (ask (tab 8 u) w g) → r ≡ u → v ≡ w z → Wrote p (record { model = tab 8 r; value = v }) q → n + 16 ≤ k
+    → Midway o y whole k q z (g (w z))
+unfolding symbols
+midway-asked h e f t l = midway-ask h e f t refl l
+
 pub midway-end : {R A Q B : Type 0} {o p : Out} {y : R} {whole : Asks R A} {n : ℕ} {z : Q} {left : Asks Q B}
     → Midway o y whole n p z left → symbols z left ≡ [] → Told o y whole n p
 unfolding writtenAll

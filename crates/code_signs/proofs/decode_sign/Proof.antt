@@ -6,19 +6,16 @@ use mathlib.Core.Path.{_≡_, refl, sym, ap, subst, _∙_}
 use lib.IntN.{ℤ, pos, negsuc, negℤ, natAbs, _-ℤ_, +ℤ-idl}
 use mir.Facts.{toZ-ofZ}
 use mir.Syntax.{w16}
-use mir.Val.{SFits, toZ, ofZ}
+use mir.Val.{SFits, ofZ}
 use Rattle.ints.specs.Parts.{up}
 use Rattle.ints.specs.Sums.{up-neg, down-neg}
 use Rattle.ints.specs.Widths.{fits-up, parts-fit}
 use Rattle.tree.specs.Ran.{Ran}
 use Rattle.silk.specs.PulseSyntax.{sign}
 use Rattle.silk.specs.PulseSteps.{sign-none, sign-minus, sign-plus}
+use Rattle.code_signs.proofs.Bits.{zero-of}
 use Rattle.code_signs.proofs.decode_sign.Statement.{statement}
 use Rattle.code_signs.proofs.decode_sign.Tie as tie
-
--- the machine tests the bits of m
-zero-of : (m : ℤ) → SFits w16 m → ofZ w16 m ≡ 0 → m ≡ pos 0
-zero-of m f e = sym (toZ-ofZ f) ∙ ap (toZ w16) e
 
 some : (m : ℤ) → (m ≡ pos 0 → ⊥) → 1 ≤ natAbs m
 some (pos zero) h = absurd (h refl)

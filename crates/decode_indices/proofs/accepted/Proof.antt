@@ -1,46 +1,25 @@
--- `decode_indices::accepted` meets its contract: the signal type is not negative. Assumes nothing.
+-- `decode_indices::accepted` meets its contract. Assumes nothing.
 use borrow.Author.Needs.{needs}
 use mathlib.Core.Path.{_≡_}
-use native.Mathlib.Omega.{arith}
-use borrow.Author.Tests.{eq-eqb, ne-eqb}
-use Prim.Native.Nat.{ℕ}
-use lib.Dec.{T}
-use lib.IntN.{ℤ, pos, negsuc, natAbs}
-use lib.Signed.{nonNeg}
-use mir.Syntax.{w8, w16, w32}
-use mir.Val.{Fits, SFits}
+use mir.Syntax.{w16}
+use mir.Val.{SFits}
 use mir.Facts.{toZ-ofZ}
-use Rattle.silk.specs.IndexParts.{Upto}
 use Rattle.silk.specs.FrameCalls.{nextLag}
 use Rattle.decode_indices.proofs.accepted.Statement.{statement}
 use Rattle.decode_indices.proofs.accepted.Tie as tie
 
-signal-fits : (z : ℤ) → Upto 2 z → T (nonNeg z) × Fits w32 (natAbs z)
-signal-fits (pos n) h = (tt, omega (arith, h .most))
-signal-fits (negsuc n) h = let e = h .least in let q : _≡_ {A = ℕ} 0 1 = cc in absurd (omega arith)
+next-type-run-requires : tie.Need-next-type-run-requires
+next-type-run-requires c κs = search needs
 
-cast-signal : tie.Need-cast-signal
-cast-signal c =
-    let z = c .before .before in
-    let f : SFits w8 (z .args .x .signal) = search needs in
-    rw (toZ-ofZ f) (signal-fits (z .args .x .signal) (z .pre))
+next-lag-run-requires : tie.Need-next-lag-run-requires
+next-lag-run-requires c κs = search needs
 
 returns : tie.Need-returns
-unfolding nextLag
 returns c =
-    let z = c .before .before .before .before in
-    let f : SFits w8 (z .args .x .signal) = search needs in
-    let l : SFits w16 (z .args .x .lag) = search needs in
-    let e : natAbs (z .args .x .signal) ≡ 2 = rw (toZ-ofZ f) at (c .if1 .taken) in
-    rw (toZ-ofZ f, toZ-ofZ l, eq-eqb _ _ e)
-
-returns-2 : tie.Need-returns-2
-unfolding nextLag
-returns-2 c =
-    let z = c .before .before .before .before in
-    let f : SFits w8 (z .args .x .signal) = search needs in
-    let e : natAbs (z .args .x .signal) ≡ 2 → ⊥ = rw (toZ-ofZ f) at (c .if1 .left) in
-    rw (toZ-ofZ f, toZ-ofZ (z .fits .before), ne-eqb _ _ e)
+    let z = c .before .before in
+    let f : SFits w16 (c .next-lag-run .result) = search needs in
+    let e : c .next-lag-run .result ≡ nextLag (z .args .before) (z .args .x) = rw (toZ-ofZ (z .fits .before)) at (c .next-lag-run .ensures) in
+    rw (toZ-ofZ f, e, c .before .next-type-run .ensures)
 
 pub accepted-spec : {M : Type 1} → statement M
-accepted-spec = tie.close (tie.spec cast-signal returns returns-2)
+accepted-spec = tie.close (tie.spec next-type-run-requires next-lag-run-requires returns)

@@ -43,8 +43,8 @@ first-refusal-requires c κs = search needs
 pulse-rows-requires : tie.Need-pulse-rows-requires
 pulse-rows-requires c κs = search needs
 
-blocks-of-requires : tie.Need-blocks-of-requires
-blocks-of-requires c κs = let o = accepted (c .before) .own .numbers in (o .khz16, o .subframes4)
+blocks-of-run-requires : tie.Need-blocks-of-run-requires
+blocks-of-run-requires c κs = let o = accepted (c .before) .own .numbers in (o .khz16, o .subframes4)
 
 slice-aggregate-silk-decode-pulses-run : tie.Need-slice-aggregate-silk-decode-pulses-run
 slice-aggregate-silk-decode-pulses-run c = search needs
@@ -54,7 +54,7 @@ silk-decode-pulses-run-requires c κs =
     let a = c .before .before .before .before .before .before .before .before .before .args in
     let k = accepted (c .before .before .before .before) in
     let o = k .own .numbers in
-    let e = c .before .before .blocks-of .ensures in (
+    let e = c .before .before .blocks-of-run .ensures in (
       k .gate .sound .core,
       (
         omega (arith, k .gate .low),
@@ -78,7 +78,7 @@ returns c =
     let a = c .before .before .before .before .before .before .before .before .before .before .before .args in
     let r = c .before .silk-decode-pulses-run in
     let x : Excited (a .packet .now) (a .d) (a .signal) (a .offset) _ (r .last .1 .1 .1 .0) (r .result) =
-    subst (λ (k : ℕ). Excited (a .packet .now) (a .d) (a .signal) (a .offset) k (r .last .1 .1 .1 .0) (r .result)) (c .before .before .before .before .blocks-of .ensures) (r .ensures) in
+    subst (λ (k : ℕ). Excited (a .packet .now) (a .d) (a .signal) (a .offset) k (r .last .1 .1 .1 .0) (r .result)) (c .before .before .before .before .blocks-of-run .ensures) (r .ensures) in
     pulses-read (a .packet .now) (a .d) (a .pulses .now) (a .khz) (a .subframes) (a .signal) (a .offset) _ (number (c .before .before .before .before .before .before .before))
     (c .before .before .before .before .before .before .if1 .taken) _ _ (x .value) (x .ran .is) (x .is)
 
@@ -95,7 +95,7 @@ silk-decode-pulses-spec =
     gate-requires
     first-refusal-requires
     pulse-rows-requires
-    blocks-of-requires
+    blocks-of-run-requires
     slice-aggregate-silk-decode-pulses-run
     silk-decode-pulses-run-requires
     same-length

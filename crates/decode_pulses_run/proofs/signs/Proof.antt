@@ -1,18 +1,15 @@
 -- `signs` meets its contract. The invariant: i blocks have their signs, and the tree has come as far. Assumes nothing.
 use borrow.Author.Needs.{needs}
-use Prim.Native.Nat.{ℕ, _+_, _-_, _*_, _<_, _≤_, min}
+use Prim.Native.Nat.{ℕ, _+_, _-_, _*_, _<_, _≤_}
 use native.Mathlib.Omega.{arith}
-use mathlib.Core.Path.{_≡_, sym, ap, subst, _∙_}
+use mathlib.Core.Path.{sym, ap, subst, _∙_}
 use mathlib.Core.List.{List, map-id}
 use lib.IntN.{pos}
-use lib.ListN.{length, getD, take, drop, length-map}
-use Rattle.icdf.specs.Rule.{Icdf}
-use Rattle.sheet.specs.SheetRule.{row-good}
+use lib.ListN.{length, getD, length-map}
 use Rattle.tree.specs.Ran.{Ran}
-use Rattle.silk.specs.PulseSyntax.{each, sign, signRowOf}
-use Rattle.silk.specs.PulseSteps.{PulseRows}
+use Rattle.silk.specs.PulseSyntax.{each, sign}
 use Rattle.silk.specs.PulsePlaces.{mags, natural}
-use Rattle.silk.specs.PulseRowLaws.{sign-in}
+use Rattle.silk.specs.PulseRowLaws.{sign-good, sign-ends, sign-lent}
 use Rattle.silk.specs.PulseBlocks.{rows16, held-flat, held-counted}
 use Rattle.silk.specs.PulseRounds.{Signing, blockOf, working-start, working-here, working-next, working-size, working-ended, working-end}
 use Rattle.decode_pulses_run.proofs.signs.Statement.{statement}
@@ -24,30 +21,11 @@ Inv-loop packet rows pulses₀ n signal offset x d₀ i₀ pulses d i = Signing 
 abbrev μ-loop : tie.MeasureT-loop
 μ-loop packet rows pulses₀ n signal offset x d₀ i₀ pulses d i = n - i
 
--- the number of the row, and the part that is lent
-abbrev rowNo : ℕ → ℕ → ℕ → ℕ
-rowNo signal offset c = 7 * (offset + 2 * signal) + min c 6
-
-few : (signal offset c : ℕ) → signal ≤ 2 → offset ≤ 1 → rowNo signal offset c < 42
-few signal offset c h k = omega arith
-
-row-is : (l : List ℕ) (signal offset c r : ℕ) → PulseRows l → signal ≤ 2 → offset ≤ 1 → r ≡ 825 + rowNo signal offset c * 2
-    → take (r + 2 - r) (drop r l) ≡ signRowOf signal offset c
-row-is l signal offset c r p h k e = rw e (sign-in l (rowNo signal offset c) p (few signal offset c h k))
-
-row-ends : (signal offset c r : ℕ) → signal ≤ 2 → offset ≤ 1 → r ≡ 825 + rowNo signal offset c * 2 → r + 2 ≤ 909
-row-ends signal offset c r h k e = omega (arith, few signal offset c h k)
-
-row-good-at : (l : List ℕ) (signal offset c r : ℕ) → PulseRows l → signal ≤ 2 → offset ≤ 1 → r ≡ 825 + rowNo signal offset c * 2
-    → Icdf 8 (take (r + 2 - r) (drop r l))
-row-good-at l signal offset c r p h k e =
-    let m = few signal offset c h k in rw (row-is l signal offset c r p h k e) (row-good (124 + rowNo signal offset c) (omega arith))
-
 -- the row that this turn lends ends within the rows
-lent-ends : (c : tie.After-sign-row-at Inv-loop μ-loop) → c .sign-row-at .result + 2 ≤ 909
+lent-ends : (c : tie.After-sign-row-at-run Inv-loop μ-loop) → c .sign-row-at-run .result + 2 ≤ 909
 lent-ends c =
     let b = c .before .before .before .before .before .before in
-    row-ends (b .args .signal) (b .args .offset) (getD (b .args .t4 .counts) (c .before .before .before .loop .i) 0) (c .sign-row-at .result) (b .pre .1 .1 .1 .1) (b .pre .1 .1 .1 .2) (c .sign-row-at .ensures)
+    sign-ends (b .args .signal) (b .args .offset) (getD (b .args .t4 .counts) (c .before .before .before .loop .i) 0) (b .pre .1 .1 .1 .1) (b .pre .1 .1 .1 .2) (c .sign-row-at-run .result) (c .sign-row-at-run .ensures)
 
 sized : (c : tie.At-loop Inv-loop μ-loop) → c .loop .i < c .before .before .before .args .n → c .loop .i * 16 + 16 ≤ length (c .loop .pulses)
 sized c h = working-size _ _ _ _ _ _ _ _ _ _ _ _ _ _ (c .loop .pulses) (c .loop .d) (c .loop .i) (c .loop .inv) h
@@ -64,11 +42,11 @@ mul-at c = search needs
 add-end : tie.Need-add-end Inv-loop μ-loop
 add-end c = search needs
 
-element-copy-out-sign-row-at : tie.Need-element-copy-out-sign-row-at Inv-loop μ-loop
-element-copy-out-sign-row-at c = search needs
+element-copy-out-sign-row-at-run : tie.Need-element-copy-out-sign-row-at-run Inv-loop μ-loop
+element-copy-out-sign-row-at-run c = search needs
 
-sign-row-at-requires : tie.Need-sign-row-at-requires Inv-loop μ-loop
-sign-row-at-requires c κs = let b = c .before .before .before .before .before in (b .pre .1 .1 .1 .1, b .pre .1 .1 .1 .2)
+sign-row-at-run-requires : tie.Need-sign-row-at-run-requires Inv-loop μ-loop
+sign-row-at-run-requires c κs = let b = c .before .before .before .before .before in (b .pre .1 .1 .1 .1, b .pre .1 .1 .1 .2)
 
 add-last : tie.Need-add-last Inv-loop μ-loop
 add-last c = omega (arith, lent-ends c)
@@ -99,13 +77,13 @@ silk-decode-signs-run-requires c κs =
     let b = c .before .before .before .before .before .before .before .before in
     let l = c .before .before .before .before .before .loop in
     let g = l .inv .turning .through in
-    let r = c .before .before .sign-row-at in
+    let r = c .before .before .sign-row-at-run in
     let o = working-here _ _ _ _ _ _ _ _ _ _ _ _ _ _ (l .pulses) (l .d) (l .i) (l .inv) (omega arith) in (
       g .core,
       (
         omega (arith, g .most, b .pre .1 .0, b .pre .1 .1 .1 .0),
         (
-          row-good-at (b .args .rows .now) (b .args .signal) (b .args .offset) (getD (b .args .t4 .counts) (l .i) 0) (r .result) (b .pre .1 .1 .0) (b .pre .1 .1 .1 .1) (b .pre .1 .1 .1 .2) (r .ensures),
+          rw (sign-lent (b .args .signal) (b .args .offset) (getD (b .args .t4 .counts) (l .i) 0) (b .pre .1 .1 .1 .1) (b .pre .1 .1 .1 .2) (r .result) (r .ensures) (b .args .rows .now) (b .pre .1 .1 .0)) (sign-good (b .args .signal) (b .args .offset) (getD (b .args .t4 .counts) (l .i) 0) (b .pre .1 .1 .1 .1) (b .pre .1 .1 .1 .2)),
           (natural (o .value) (o .is), ap length (o .is) ∙ length-map (o .value) pos ∙ o .has),
         ),
       ),
@@ -121,12 +99,12 @@ loop-again : tie.Need-loop-again Inv-loop μ-loop
 loop-again c =
     let b = c .before .before .before .before .before .before .before .before .before .before in
     let l = c .before .before .before .before .before .before .before .loop in
-    let r = c .before .before .before .before .sign-row-at in
+    let r = c .before .before .before .before .sign-row-at-run in
     let t : l .i < b .args .n = c .before .before .before .before .before .before .loop-test .taken in
     let a = c .before .silk-decode-signs-run in
     let y = a .last .1 .1 .1 .0 in
     let o = working-here _ _ _ _ _ _ _ _ _ _ _ _ _ _ (l .pulses) (l .d) (l .i) (l .inv) t in
-    let e = row-is (b .args .rows .now) (b .args .signal) (b .args .offset) (getD (b .args .t4 .counts) (l .i) 0) (r .result) (b .pre .1 .1 .0) (b .pre .1 .1 .1 .1) (b .pre .1 .1 .1 .2) (r .ensures) in
+    let e = sign-lent (b .args .signal) (b .args .offset) (getD (b .args .t4 .counts) (l .i) 0) (b .pre .1 .1 .1 .1) (b .pre .1 .1 .1 .2) (r .result) (r .ensures) (b .args .rows .now) (b .pre .1 .1 .0) in
     working-next _ _ _ _ _ _ _ _ _ _ _ _ _ _ (l .pulses) (l .d) (l .i) (l .inv) t y y (a .result) 256 (sym (map-id y))
     (a .kept .1 .1 .1 .0 ∙ ap length (o .is) ∙ length-map (o .value) pos ∙ o .has) (omega arith)
     (subst (λ (q : List ℕ). Ran (b .args .packet .now) (l .d) (each (pos 0) (sign q) (mags (blockOf (l .pulses) (l .i)))) 256 y (a .result)) e (a .ensures))
@@ -149,8 +127,8 @@ signs-spec =
     loop-holds
     mul-at
     add-end
-    element-copy-out-sign-row-at
-    sign-row-at-requires
+    element-copy-out-sign-row-at-run
+    sign-row-at-run-requires
     add-last
     sub-silk-decode-signs-run
     part-silk-decode-signs-run-start

@@ -23,8 +23,8 @@ cutting c = tab-cutting (c .args .scale) (c .args .table .now) (c .args .d) (par
 shr-unit : tie.Need-shr-unit
 shr-unit c = omega (arith, c .before .before .before .pre .1 .1 .most)
 
-search-part-requires : tie.Need-search-part-requires
-search-part-requires c κs =
+find-part-requires : tie.Need-find-part-requires
+find-part-requires c κs =
     let b = c .before .before .before in
     (b .pre .1 .1, omega (arith, div-mul-le-self (b .args .d .rng) (2 ^ b .args .scale), b .pre .0 .most))
 
@@ -32,21 +32,21 @@ cut-requires : tie.Need-cut-requires
 cut-requires c κs =
     let b = c .before .before .before .before in
     let h = cutting-holds (b .args .packet .now) _ (b .args .d) _ _ _ (b .pre .0) (b .pre .1 .1) (cutting b) in
-    (b .pre .0, (b .pre .1 .0, rw (c .search-part .ensures) (h .cut .some, h .cut .inside, h .low, h .high)))
+    (b .pre .0, (b .pre .1 .0, rw (c .find-part .ensures) (h .cut .some, h .cut .inside, h .low, h .high)))
 
 cast-t8 : tie.Need-cast-t8
 cast-t8 c =
     let b = c .before .before .before .before .before .before in
     let t = b .args .table .now in
     let f = search-found (b .args .scale) (b .args .d .rng / 2 ^ b .args .scale) (b .args .d .val) t (b .pre .1 .1) in
-    rw (c .before .before .search-part .ensures) (omega (arith, f .inside, b .pre .1 .1 .few))
+    rw (c .before .before .find-part .ensures) (omega (arith, f .inside, b .pre .1 .1 .few))
 
 returns : tie.Need-returns
 returns c =
     let b = c .before .before .before .before .before .before in
     let p = b .args .packet .now in
     let d = b .args .d in
-    let x = c .before .before .search-part in
+    let x = c .before .before .find-part in
     let y : Bytes p = λ i. omega (arith, c .before .before .before .before .before .shared-slice-known .given i) in
     took p (tab (b .args .scale) (b .args .table .now)) d _ y (b .pre .1 .1) (b .pre .0)
     (ap (gives (x .result .symbol)) (c .before .cut .ensures)
@@ -54,4 +54,4 @@ returns c =
     ∙ tab-read p (b .args .scale) (b .args .table .now) d _ _ _ (cutting b))
 
 pub ec-dec-icdf-run-spec : {M : Type 1} → statement M
-ec-dec-icdf-run-spec = tie.close (tie.spec shr-unit search-part-requires cut-requires cast-t8 returns)
+ec-dec-icdf-run-spec = tie.close (tie.spec shr-unit find-part-requires cut-requires cast-t8 returns)

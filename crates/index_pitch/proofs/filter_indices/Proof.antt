@@ -1,15 +1,13 @@
 -- `index_pitch::filter_indices` meets its contract. The invariant: the rest of the tree, run from here, gives what the whole gives from the start.
 -- Assumes nothing.
 use borrow.Author.Needs.{needs}
-use Prim.Native.Nat.{ℕ, _+_, _-_, _*_, _%_, _^_, _≤_, _<_}
+use Prim.Native.Nat.{ℕ, _+_, _-_, _*_, _≤_}
 use mathlib.Core.Path.{_≡_, sym, ap, _∙_}
 use mathlib.Core.List.{List}
 use native.Mathlib.Nat.{sub-zero}
 use native.Mathlib.Omega.{arith}
-use lib.Dec.{lit<}
 use lib.IntN.{pos}
 use lib.ListN.{length, length-set}
-use lib.Pow.{shl-exact, pow-mono}
 use mir.Syntax.{w8}
 use mir.Val.{toZ}
 use mir.Facts.{toZ-pos}
@@ -20,16 +18,9 @@ use Rattle.silk.specs.declared.Indices.{Indices}
 use Rattle.silk.specs.IndexRows.{subframes-most, filter-row}
 use Rattle.silk.specs.IndexSyntax.{filters}
 use Rattle.silk.specs.IndexSteps.{filters-end, filters-next}
+use Rattle.index_pitch.proofs.FilterSizes.{size-is, size-most}
 use Rattle.index_pitch.proofs.filter_indices.Statement.{statement}
 use Rattle.index_pitch.proofs.filter_indices.Tie as tie
-
--- the row's size, as the machine shifts
-module _ (p : ℕ) (h : p < 3) where
-  size-is : 8 * 2 ^ p % 2 ^ 64 ≡ 8 * 2 ^ p
-  size-is = shl-exact 4 p 64 (lit< tt) (omega arith)
-
-  size-most : 8 * 2 ^ p % 2 ^ 64 ≤ 32
-  size-most = omega (arith, size-is, pow-mono {i = p} {j = 2} (omega arith))
 
 record Going (b : List ℕ) (p n : ℕ) (x₀ : Indices) (d₀ : Dec) (x : Indices) (d : Dec) (k : ℕ) : Type 0 where
   pub rest : run b d (filters p (n - k) k x) ≡ run b d₀ (filters p n 0 x₀)

@@ -9,8 +9,9 @@ use mir.Syntax.{w8}
 use mir.Val.{SFits}
 use mir.Facts.{toZ-ofZ}
 use Rattle.lists.specs.Every.{every}
+use Rattle.ranges.specs.InRange.{inRange}
 use Rattle.spectrum.proofs.BookLaws.{book-usable}
-use Rattle.spectrum.specs.Calls.{bookOf, placeIndices, inRange, numbersOk}
+use Rattle.spectrum.specs.Calls.{bookOf, placeIndices, numbersOk}
 use Rattle.spectrum.specs.Values.{at}
 use Rattle.nlsf_decode.proofs.numbers_ok.Statement.{statement}
 use Rattle.nlsf_decode.proofs.numbers_ok.Tie as tie
@@ -21,17 +22,17 @@ order-of-requires c κs = search needs
 add-e : tie.Need-add-e
 add-e c = omega (arith, c .order-of .ensures, book-usable (c .before .args .khz) .few)
 
-sub-all-small : tie.Need-sub-all-small
-sub-all-small c = search needs
+sub-all-in-range : tie.Need-sub-all-in-range
+sub-all-in-range c = search needs
 
-part-all-small-start : tie.Need-part-all-small-start
-part-all-small-start c = search needs
+part-all-in-range-start : tie.Need-part-all-in-range-start
+part-all-in-range-start c = search needs
 
-part-all-small-end : tie.Need-part-all-small-end
-part-all-small-end c = omega (arith, c .before .order-of .ensures, book-usable (c .before .before .args .khz) .few)
+part-all-in-range-end : tie.Need-part-all-in-range-end
+part-all-in-range-end c = omega (arith, c .before .order-of .ensures, book-usable (c .before .before .args .khz) .few)
 
-all-small-requires : tie.Need-all-small-requires
-all-small-requires c κs = search needs
+all-in-range-requires : tie.Need-all-in-range-requires
+all-in-range-requires c κs = search needs
 
 array-copy-out-first : tie.Need-array-copy-out-first
 array-copy-out-first c = search needs
@@ -43,8 +44,8 @@ returns c =
     let a = b .before .args in
     let f : SFits w8 (at (a .t1) 0) = sfits-of (c .first .given) in
     let k : b .order-of .result + 1 - 1 ≡ bookOf (a .khz) .order = omega (arith, b .order-of .ensures) in
-    let e : c .before .all-small .result ≡ every (inRange (negsuc 9) (pos 10)) (placeIndices (bookOf (a .khz) .order) (a .t1)) =
-    c .before .all-small .ensures ∙ ap (λ (m : ℕ). every (inRange (negsuc 9) (pos 10)) (take m (drop 1 (a .t1)))) k in
+    let e : c .before .all-in-range .result ≡ every (inRange (negsuc 9) (pos 10)) (placeIndices (bookOf (a .khz) .order) (a .t1)) =
+    c .before .all-in-range .ensures ∙ ap (λ (m : ℕ). every (inRange (negsuc 9) (pos 10)) (take m (drop 1 (a .t1)))) k in
     rw (toZ-ofZ f, e)
 
 pub numbers-ok-spec : {M : Type 1} → statement M
@@ -53,9 +54,9 @@ numbers-ok-spec =
     (tie.spec
     order-of-requires
     add-e
-    sub-all-small
-    part-all-small-start
-    part-all-small-end
-    all-small-requires
+    sub-all-in-range
+    part-all-in-range-start
+    part-all-in-range-end
+    all-in-range-requires
     array-copy-out-first
     returns)

@@ -20,10 +20,10 @@ use Rattle.nlsf_stabilize.proofs.distances.smallest_run.Tie as tie
 
 abbrev Inv-loop : tie.InvT-loop
 Inv-loop v g at₀ least₀ i₀ at least i =
-    ((1 ≤ i) × (i ≤ suc (length v))) × (First (diffs (pos 0) v g) i at × (toZ w32 least ≡ item (diffs (pos 0) v g) at))
+    ((1 ≤ i) × (i ≤ length v)) × (First (diffs (pos 0) v g) i at × (toZ w32 least ≡ item (diffs (pos 0) v g) at))
 
 abbrev μ-loop : tie.MeasureT-loop
-μ-loop v g at₀ least₀ i₀ at least i = suc (length v) - i
+μ-loop v g at₀ least₀ i₀ at least i = length v - i
 
 diff-at-run-requires : tie.Need-diff-at-run-requires Inv-loop μ-loop
 diff-at-run-requires c κs = (c .pre .0, (c .pre .1, omega arith))
@@ -34,8 +34,8 @@ loop-holds c = (
   (first-one (diffs (pos 0) (c .before .args .v .now) (c .before .args .g .now)), toZ-ofZ {w = w32} (sfits-of (c .diff-at-run .ok)) ∙ c .diff-at-run .ensures),
 )
 
-diff-at-run-requires-2 : tie.Need-diff-at-run-requires-2 Inv-loop μ-loop
-diff-at-run-requires-2 c κs = (c .before .before .before .pre .0, (c .before .before .before .pre .1, omega arith))
+diff-between-requires : tie.Need-diff-between-requires Inv-loop μ-loop
+diff-between-requires c κs = (c .before .before .before .pre .1, (omega arith, omega arith))
 
 add-i : tie.Need-add-i Inv-loop μ-loop
 add-i c = search needs
@@ -47,7 +47,7 @@ loop-again : tie.Need-loop-again Inv-loop μ-loop
 loop-again c =
     let b = c .before .before .before in
     let ds = diffs (pos 0) (b .before .before .args .v .now) (b .before .before .args .g .now) in
-    let e : toZ w32 (ofZ w32 (c .before .diff-at-run2 .result)) ≡ item ds (b .loop .i) = toZ-ofZ {w = w32} (sfits-of (c .before .diff-at-run2 .ok)) ∙ c .before .diff-at-run2 .ensures in
+    let e : toZ w32 (ofZ w32 (c .before .diff-between .result)) ≡ item ds (b .loop .i) = toZ-ofZ {w = w32} (sfits-of (c .before .diff-between .ok)) ∙ c .before .diff-between .ensures in
     let q : toZ w32 (b .loop .least) ≡ item ds (b .loop .at) = b .loop .inv .1 .1 in (
       (omega arith, omega arith),
       ⊎-elim
@@ -62,12 +62,26 @@ loop-again c =
           (c .if1 .came),
     )
 
+diff-at-run-requires-2 : tie.Need-diff-at-run-requires-2 Inv-loop μ-loop
+diff-at-run-requires-2 c κs = (c .before .before .before .pre .0, (c .before .before .before .pre .1, omega arith))
+
 returns : tie.Need-returns Inv-loop μ-loop
 returns c =
-    let b = c .before .before .before in
-    let e : c .before .loop .i ≡ suc (length (b .args .v .now)) = omega arith in
-    place-found (b .args .v .now) (b .args .g .now) (c .before .loop .at) (b .pre .1)
-    (subst (λ (n : ℕ). First (diffs (pos 0) (b .args .v .now) (b .args .g .now)) n (c .before .loop .at)) e (c .before .loop .inv .1 .0))
+    let b = c .before .before .before .before .before in
+    let l = c .before .before .before .loop in
+    let ds = diffs (pos 0) (b .args .v .now) (b .args .g .now) in
+    let d : toZ w32 (ofZ w32 (c .before .diff-at-run2 .result)) ≡ item ds (l .i) = toZ-ofZ {w = w32} (sfits-of (c .before .diff-at-run2 .ok)) ∙ c .before .diff-at-run2 .ensures in
+    let q : toZ w32 (l .least) ≡ item ds (l .at) = l .inv .1 .1 in
+    place-found (b .args .v .now) (b .args .g .now) (l .i) (l .i) (omega arith) (b .pre .1) (first-newer ds (l .i) (l .at) (l .inv .1 .0) (rw (d, q) at (c .if2 .taken)))
+
+returns-2 : tie.Need-returns-2 Inv-loop μ-loop
+returns-2 c =
+    let b = c .before .before .before .before .before in
+    let l = c .before .before .before .loop in
+    let ds = diffs (pos 0) (b .args .v .now) (b .args .g .now) in
+    let d : toZ w32 (ofZ w32 (c .before .diff-at-run2 .result)) ≡ item ds (l .i) = toZ-ofZ {w = w32} (sfits-of (c .before .diff-at-run2 .ok)) ∙ c .before .diff-at-run2 .ensures in
+    let q : toZ w32 (l .least) ≡ item ds (l .at) = l .inv .1 .1 in
+    place-found (b .args .v .now) (b .args .g .now) (l .i) (l .at) (omega arith) (b .pre .1) (first-older ds (l .i) (l .at) (l .inv .1 .0) (rw (d, q) at (c .if2 .left)))
 
 pub smallest-run-spec : {M : Type 1} → statement M
 smallest-run-spec =
@@ -77,8 +91,10 @@ smallest-run-spec =
     μ-loop
     diff-at-run-requires
     loop-holds
-    diff-at-run-requires-2
+    diff-between-requires
     add-i
     loop-less
     loop-again
-    returns)
+    diff-at-run-requires-2
+    returns
+    returns-2)

@@ -1,0 +1,3 @@
+pub mod Agree
+pub mod Kind
+pub mod KindLaws

@@ -1,0 +1,101 @@
+// The same fields written: what a record says of them, each by the row that its reader reads. The record's fields lie in their ranges.
+ghost use Prim.Native.Nat.{ℕ, _-_, _^_, _≤_, _<_};
+ghost use lib.IntN.{pos};
+ghost use lib.ListN.{getD};
+ghost use Rattle.entcode.specs.Flat.{out};
+ghost use Rattle.tree.specs.Told.{Told};
+ghost use Rattle.silk.specs.IndexRows.{Writing, Subframes};
+ghost use Rattle.silk.specs.IndexSyntax.{kindOf, kind, firstGain, moreGains, gains, interpolation, seed};
+ghost use Rattle.silk.specs.IndexParts.{Upto, Kind, firstMost};
+ghost use Rattle.silk.specs.IndexSays.{WritesGains};
+use entcode::Enc;
+use entenc_run::ec_enc_icdf_run;
+use silk::Indices;
+
+// Type and offset as one number.
+pub fn kind_tell_run(buf: &mut [u8], w: Enc, rows: &[u8], x: Indices, active: u32) -> Enc
+    requires { ⌜ Writing (out (now buf) w) (now rows) (2 ^ 29) ⌝ }
+    requires { ⌜ (active < 2) × Kind active (kindOf x) ⌝ }
+    requires { ⌜ Upto 2 (x .signal) × Upto 1 (x .offset) ⌝ }
+    ensures { λ r. ⌜ Told (out (now (buf .entry)) w) x (kind active) 16 (out (now (buf .exit)) r) ⌝ }
+{
+    let base = active * 2;
+    let start = base as usize;
+    let end = start + (2 + start);
+    let kind = (x.signal as u32) * 2 + (x.offset as u32);
+    ec_enc_icdf_run(buf, w, kind - base, &rows[start..end], 8)
+}
+
+// The first gain.
+fn first_gain_tell(buf: &mut [u8], w: Enc, rows: &[u8], x: Indices, mode: u32, signal: u32) -> Enc
+    requires { ⌜ Writing (out (now buf) w) (now rows) (2 ^ 29) ⌝ }
+    requires { ⌜ (signal < 3) × Upto (firstMost mode) (getD (x .gains) 0 (pos 0)) ⌝ }
+    ensures { λ r. ⌜ Told (out (now (buf .entry)) w) x (firstGain mode signal x) 32 (out (now (buf .exit)) r) ⌝ }
+{
+    let gain = x.gains[0] as u32;
+    if mode == 2 {
+        return ec_enc_icdf_run(buf, w, gain, &rows[30..71], 8);
+    }
+    let start = 6 + (signal as usize) * 8;
+    let end = start + 8;
+    let h = ec_enc_icdf_run(buf, w, gain / 8, &rows[start..end], 8);
+    ec_enc_icdf_run(buf, h, gain % 8, &rows[548..556], 8)
+}
+
+// The gains past the first.
+fn more_gains_tell(buf: &mut [u8], w: Enc, rows: &[u8], x: Indices, n: usize) -> Enc
+    requires { ⌜ Writing (out (now buf) w) (now rows) (2 ^ 29) ⌝ }
+    requires { ⌜ Subframes n × ((k : ℕ) → 1 ≤ k → k < n → Upto 40 (getD (x .gains) k (pos 0))) ⌝ }
+    ensures { λ r. ⌜ Told (out (now (buf .entry)) w) x (moreGains (n - 1) 1 x) 48 (out (now (buf .exit)) r) ⌝ }
+{
+    let mut q = w;
+    let mut k: usize = 1;
+    while k < n {
+        q = ec_enc_icdf_run(buf, q, x.gains[k] as u32, &rows[30..71], 8);
+        k += 1;
+    }
+    q
+}
+
+pub fn gains_tell_run(
+    buf: &mut [u8],
+    w: Enc,
+    rows: &[u8],
+    x: Indices,
+    mode: u32,
+    subframes: u32,
+    signal: u32,
+) -> Enc
+    requires { ⌜ Writing (out (now buf) w) (now rows) (2 ^ 28) ⌝ }
+    requires { ⌜ Subframes subframes × (signal < 3) × WritesGains mode subframes x ⌝ }
+    ensures { λ r. ⌜ Told (out (now (buf .entry)) w) x (gains mode subframes signal x) 80 (out (now (buf .exit)) r) ⌝ }
+{
+    let f = first_gain_tell(buf, w, rows, x, mode, signal);
+    more_gains_tell(buf, f, rows, x, subframes as usize)
+}
+
+// Nothing for 2 subframes.
+pub fn interpolation_tell_run(
+    buf: &mut [u8],
+    w: Enc,
+    rows: &[u8],
+    x: Indices,
+    subframes: u32,
+) -> Enc
+    requires { ⌜ Writing (out (now buf) w) (now rows) (2 ^ 29) ⌝ }
+    requires { ⌜ Upto 4 (x .interp) ⌝ }
+    ensures { λ r. ⌜ Told (out (now (buf .entry)) w) x (interpolation subframes x) 16 (out (now (buf .exit)) r) ⌝ }
+{
+    if subframes == 4 {
+        return ec_enc_icdf_run(buf, w, x.interp as u32, &rows[350..355], 8);
+    }
+    w
+}
+
+pub fn seed_tell_run(buf: &mut [u8], w: Enc, rows: &[u8], x: Indices) -> Enc
+    requires { ⌜ Writing (out (now buf) w) (now rows) (2 ^ 29) ⌝ }
+    requires { ⌜ Upto 3 (x .seed) ⌝ }
+    ensures { λ r. ⌜ Told (out (now (buf .entry)) w) x (seed x) 16 (out (now (buf .exit)) r) ⌝ }
+{
+    ec_enc_icdf_run(buf, w, x.seed as u32, &rows[533..537], 8)
+}
