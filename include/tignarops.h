@@ -122,6 +122,22 @@ tg_indices_read tg_decode_indices(const uint8_t *packet, size_t len, tg_reader r
                                   uint32_t subframes, uint32_t active, uint32_t mode, uint32_t prev_type,
                                   int16_t prev_lag);
 
+typedef struct {
+    uint32_t refusal;
+    tg_writer state;
+    uint32_t prev_type;
+    int16_t prev_lag;
+} tg_indices_written;
+
+/* The side indices of a frame, written; numbers as for tg_decode_indices. The lag is coded absolutely
+ * and must lie in 0 to 16 x khz - 1; every other field that the frame codes must be one that a reader
+ * can give (interp 4 for 2 subframes, ltp_scale 0 but in mode 0). Fields that the frame does not code
+ * are not looked at. prev_type and prev_lag are answered as the reader of the frame would answer them.
+ * Refusals 1 to 4, and 8 (a field); a refusal answers prev_type and prev_lag as they came. */
+tg_indices_written tg_encode_indices(uint8_t *buf, size_t len, tg_writer w, tg_indices record, uint32_t khz,
+                                     uint32_t subframes, uint32_t active, uint32_t mode, uint32_t prev_type,
+                                     int16_t prev_lag);
+
 /* The pulses of a frame: n is 16 x its blocks, (5 x khz x subframes + 15) / 16 of them; signal_type 0
  * to 2, offset_type 0 or 1. Whatever the pulses held does not matter. Refusals 1 to 4, and 6 (n); a
  * refusal leaves the pulses as they are. */

@@ -8,6 +8,7 @@ ghost use Rattle.silk.specs.Record.{settingOf};
 ghost use Rattle.silk.specs.FrameCalls.{decodeIndices, pulsed, decodePulses};
 ghost use Rattle.frame_type.specs.Kind.{frameType};
 ghost use Rattle.silk.specs.PulseWriting.{encodePulses};
+ghost use Rattle.silk.specs.IndexWriting.{encodeIndices};
 ghost use Rattle.spectrum.specs.Calls.{stabiliseCall, decodeCall};
 use entcode::Dec;
 use entcode::Decoded;
@@ -16,6 +17,7 @@ use entcode::Encoded;
 use frame_type::FrameType;
 use silk::Indices;
 use silk::IndicesRead;
+use silk::IndicesWritten;
 use spectrum::Moves;
 use spectrum::Spectrum;
 
@@ -148,6 +150,33 @@ pub extern "C" fn tg_decode_indices(
     decode_indices::silk_decode_indices(
         packet,
         r,
+        record,
+        khz,
+        subframes,
+        active,
+        mode,
+        prevtype,
+        prevlag,
+    )
+}
+
+#[no_mangle]
+pub extern "C" fn tg_encode_indices(
+    buf: &mut [u8],
+    w: Enc,
+    record: Indices,
+    khz: u32,
+    subframes: u32,
+    active: u32,
+    mode: u32,
+    prevtype: u32,
+    prevlag: i16,
+) -> IndicesWritten
+    ensures { λ a. ⌜ record { buf = now (buf .exit); answer = a } ≡ encodeIndices (out (now (buf .entry)) w) «record» (settingOf khz subframes active mode prevtype prevlag) ⌝ }
+{
+    encode_indices::silk_encode_indices(
+        buf,
+        w,
         record,
         khz,
         subframes,
