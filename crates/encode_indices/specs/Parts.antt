@@ -16,7 +16,8 @@ use Rattle.silk.specs.IndexFields.{WritesIn}
 use Rattle.silk.specs.IndexSays.{kind-same, kind-says, gains-says, spectrum-says, interpolation-says}
 use Rattle.encode_indices.specs.Fields.{signal-is, voicing-says}
 
-module _ (s : Setting) (x : Indices) (rate : Rate (s .khz)) (sub : Subframes (s .subframes)) (active : s .active < 2) (h : Shape x) (w : WritesIn s x) where
+module _
+    (s : Setting) (x : Indices) (rate : Rate (s .khz)) (sub : Subframes (s .subframes)) (active : s .active < 2) (h : Shape x) (w : WritesIn s x) where
   abbrev voicingOf : ℕ → Indices → Asks Indices Indices
   voicingOf n = voicing n (relativeIn (s .mode) (s .prevtype)) (s .khz) (s .subframes) (s .mode) (s .prevlag)
 

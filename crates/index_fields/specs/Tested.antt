@@ -57,12 +57,14 @@ residuals-tested n l h =
     (part-decides (inRange (negsuc 9) (pos 10)) (λ z. natAbs z ≤ 10) (around-decides 9) l (pos 0) 1 (suc n) (omega arith) h)
 
 -- the period, and a filter of it for each of n subframes; most is its last filter
+abbrev Filters : ℕ → List ℤ → ℤ → Type 0
+Filters n l period = (k : ℕ) → k < n → Upto (8 * 2 ^ natAbs period - 1) (getD l k (pos 0))
+
 pub filters-tested : (n : ℕ) (l : List ℤ) (period most : ℤ) → n ≤ length l → (Upto 2 period → most ≡ pos (8 * 2 ^ natAbs period - 1))
-    → Decides (inRange (pos 0) (pos 2) period && every (inRange (pos 0) most) (take (n - 0) (drop 0 l)))
-    (Upto 2 period × ((k : ℕ) → k < n → Upto (8 * 2 ^ natAbs period - 1) (getD l k (pos 0))))
+    → Decides (inRange (pos 0) (pos 2) period && every (inRange (pos 0) most) (take (n - 0) (drop 0 l))) (Upto 2 period × Filters n l period)
 filters-tested n l period most h e =
     decides-both (upto-tested 2 period) (λ u.
-    subst (λ (m : ℤ). Decides (every (inRange (pos 0) m) (take (n - 0) (drop 0 l))) ((k : ℕ) → k < n → Upto (8 * 2 ^ natAbs period - 1) (getD l k (pos 0)))) (sym (e u))
+    subst (λ (m : ℤ). Decides (every (inRange (pos 0) m) (take (n - 0) (drop 0 l))) (Filters n l period)) (sym (e u))
     (decides-as (λ p k b. p k zero-le b) (λ p k a b. p k b) (uptos-tested (8 * 2 ^ natAbs period - 1) l 0 n zero-le h)))
 
 -- ---- the type: as the signal type goes with the active flag

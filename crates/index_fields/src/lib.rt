@@ -26,12 +26,14 @@ fn kind_ok(x: Indices, active: u32) -> bool
     ((least <= x.signal) & (x.signal <= most)) & ((0 <= x.offset) & (x.offset <= 1))
 }
 
+// 0 to 63 by itself, 0 to 40 against the frame before.
 fn first_most(mode: u32) -> i8
     ensures { λ n. ⌜ n ≡ pos (firstMost mode) ⌝ }
 {
     if mode == 2 { 40 } else { 63 }
 }
 
+// A gain for each subframe.
 fn gains_ok(x: Indices, mode: u32, subframes: u32) -> bool
     requires { ⌜ Subframes subframes ⌝ }
     ensures { λ b. ⌜ Decides b (WritesGains mode subframes x) ⌝ }
@@ -71,6 +73,7 @@ fn interpolation_ok(interp: i8, subframes: u32) -> bool
 
 // ---- pitch
 
+// A lag is written absolutely.
 fn lag_ok(lag: i16, khz: u32) -> bool
     requires { ⌜ Rate khz ⌝ }
     ensures { λ b. ⌜ Decides b (Upto (16 * khz - 1) lag) ⌝ }

@@ -1,4 +1,5 @@
-// The same fields written: what a record says of them, each by the row that its reader reads. The record's fields lie in their ranges.
+// Type, gains, interpolation and seed written (RFC 6716, sections 4.2.7.3, 4.2.7.4, 4.2.7.5.5 and 4.2.7.7): what a record whose fields lie in their
+// ranges says of them, each by the row that its reader reads. The rows are lent by the caller.
 ghost use Prim.Native.Nat.{ℕ, _-_, _^_, _≤_, _<_};
 ghost use lib.IntN.{pos};
 ghost use lib.ListN.{getD};

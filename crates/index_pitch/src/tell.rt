@@ -1,4 +1,5 @@
-// The same fields written: what a record says of them, each by the row that its reader reads. The record's fields lie in their ranges.
+// Lag, contour, filters and scale of a voiced frame written (RFC 6716, section 4.2.7.6): what a record whose fields lie in their ranges says of them,
+// each by the row that its reader reads. The rows are lent by the caller.
 ghost use Prim.Native.Nat.{ℕ, _-_, _*_, _^_, _<_};
 ghost use lib.IntN.{ℤ, pos, natAbs};
 ghost use lib.ListN.{getD};

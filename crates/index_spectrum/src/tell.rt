@@ -1,4 +1,5 @@
-// The same fields written: what a record says of them, each by the row that its reader reads. The record's fields lie in their ranges.
+// First index and residuals written (RFC 6716, section 4.2.7.5): what a record whose fields lie in their ranges says of them, each by the row that its
+// reader reads. The rows are lent by the caller.
 ghost use mathlib.Core.Path.{_≡_};
 ghost use mathlib.Core.Bool.{false};
 ghost use Prim.Native.Nat.{ℕ, _+_, _*_, _^_, _≤_, _<_};

@@ -16,6 +16,7 @@ use Rattle.tignarops.proofs.tg_enc_bits.Reads as enc-bits
 use Rattle.tignarops.proofs.tg_enc_done.Reads as enc-done
 use Rattle.tignarops.proofs.tg_frame_type.Reads as frame-type
 use Rattle.tignarops.proofs.tg_decode_indices.Reads as decode-indices
+use Rattle.tignarops.proofs.tg_encode_indices.Reads as encode-indices
 use Rattle.tignarops.proofs.tg_decode_pulses.Reads as decode-pulses
 use Rattle.tignarops.proofs.tg_encode_pulses.Reads as encode-pulses
 use Rattle.tignarops.proofs.tg_nlsf_decode.Reads as nlsf-decode
@@ -78,6 +79,9 @@ frame-type-one k x a c e f p q = one (λ s. s) p q
 
 pub decode-indices-one : Answers decode-indices.Post
 decode-indices-one k x a c e f p q = one (λ s. s) p q
+
+pub encode-indices-one : Leaves encode-indices.Post (λ e. e .0 .now)
+encode-indices-one k x a c e f p q = (one (λ s. s .answer) p q, one (λ s. s .buf) p q)
 
 pub decode-pulses-one : Leaves decode-pulses.Post (λ e. e .1 .1 .0 .now)
 decode-pulses-one k x a c e f p q = (one (λ s. s .answer) p q, one (λ s. s .pulses) p q)

@@ -7,8 +7,8 @@ ghost use Rattle.entcode.specs.Writing.{sent, encSym, encTell, encDone, encOpen
 ghost use Rattle.silk.specs.Record.{settingOf};
 ghost use Rattle.silk.specs.FrameCalls.{decodeIndices, pulsed, decodePulses};
 ghost use Rattle.frame_type.specs.Kind.{frameType};
-ghost use Rattle.silk.specs.PulseWriting.{encodePulses};
 ghost use Rattle.silk.specs.IndexWriting.{encodeIndices};
+ghost use Rattle.silk.specs.PulseWriting.{encodePulses};
 ghost use Rattle.spectrum.specs.Calls.{stabiliseCall, decodeCall};
 use entcode::Dec;
 use entcode::Decoded;

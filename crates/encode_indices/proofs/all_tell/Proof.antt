@@ -2,8 +2,10 @@
 use borrow.Author.Needs.{needs}
 use Prim.Native.Nat.{ℕ, _+_, _^_, _≤_, _<_}
 use mathlib.Core.Path.{sym, ap, _∙_}
+use mathlib.Core.List.{List}
 use native.Mathlib.Omega.{arith}
 use lib.IntN.{pos}
+use Rattle.entcode.specs.declared.Enc.{Enc}
 use Rattle.entcode.specs.Flat.{out}
 use Rattle.silk.specs.Record.{settingOf}
 use Rattle.silk.specs.IndexRows.{Writing}
@@ -16,37 +18,44 @@ use Rattle.encode_indices.proofs.all_tell.Tie as tie
 shape : (z : tie.Start) → Shape (z .args .x)
 shape z = record { gains = search needs; ltp = search needs; nlsf = search needs }
 
--- ---- the start, from behind each part; and a writer for the next part there
+-- ---- the start, from behind each part; and a writer for the next part there, whose total is at most n
+
+abbrev Ready : tie.Start → List ℕ → Enc → ℕ → Type 0
+Ready z b w n = Writing (out b w) (z .args .rows .now) n
 
 abbrev kind-start : tie.After-kind-tell-run → tie.Start
 kind-start c = c .before .before .before .before .before
 
-kind-told : (c : tie.After-kind-tell-run) (n : ℕ) → 2 ^ 26 + 16 ≤ n → Writing (out (c .kind-tell-run .last .0) (c .kind-tell-run .result)) (kind-start c .args .rows .now) n
+kind-told : (c : tie.After-kind-tell-run) (n : ℕ) → 2 ^ 26 + 16 ≤ n → Ready (kind-start c) (c .kind-tell-run .last .0) (c .kind-tell-run .result) n
 kind-told c n h = writing-next n (kind-start c .pre .0) (c .kind-tell-run .ensures) (omega arith)
 
 abbrev gains-start : tie.After-gains-tell-run → tie.Start
 gains-start c = kind-start (c .before .before .before .before)
 
-gains-told : (c : tie.After-gains-tell-run) (n : ℕ) → 2 ^ 26 + 96 ≤ n → Writing (out (c .gains-tell-run .last .0) (c .gains-tell-run .result)) (gains-start c .args .rows .now) n
-gains-told c n h = writing-next n (kind-told (c .before .before .before .before) (2 ^ 26 + 16) (omega arith)) (c .gains-tell-run .ensures) (omega arith)
+gains-told : (c : tie.After-gains-tell-run) (n : ℕ) → 2 ^ 26 + 96 ≤ n → Ready (gains-start c) (c .gains-tell-run .last .0) (c .gains-tell-run .result) n
+gains-told c n h =
+    writing-next n (kind-told (c .before .before .before .before) (2 ^ 26 + 16) (omega arith)) (c .gains-tell-run .ensures) (omega arith)
 
 abbrev spectrum-start : tie.After-spectrum-tell-run → tie.Start
 spectrum-start c = gains-start (c .before .before .before .before)
 
-spectrum-told : (c : tie.After-spectrum-tell-run) (n : ℕ) → 2 ^ 26 + 624 ≤ n → Writing (out (c .spectrum-tell-run .last .0) (c .spectrum-tell-run .result)) (spectrum-start c .args .rows .now) n
-spectrum-told c n h = writing-next n (gains-told (c .before .before .before .before) (2 ^ 26 + 96) (omega arith)) (c .spectrum-tell-run .ensures) (omega arith)
+spectrum-told : (c : tie.After-spectrum-tell-run) (n : ℕ) → 2 ^ 26 + 624 ≤ n → Ready (spectrum-start c) (c .spectrum-tell-run .last .0) (c .spectrum-tell-run .result) n
+spectrum-told c n h =
+    writing-next n (gains-told (c .before .before .before .before) (2 ^ 26 + 96) (omega arith)) (c .spectrum-tell-run .ensures) (omega arith)
 
 abbrev interpolation-start : tie.After-interpolation-tell-run → tie.Start
 interpolation-start c = spectrum-start (c .before .before .before .before)
 
-interpolation-told : (c : tie.After-interpolation-tell-run) (n : ℕ) → 2 ^ 26 + 640 ≤ n → Writing (out (c .interpolation-tell-run .last .0) (c .interpolation-tell-run .result)) (interpolation-start c .args .rows .now) n
-interpolation-told c n h = writing-next n (spectrum-told (c .before .before .before .before) (2 ^ 26 + 624) (omega arith)) (c .interpolation-tell-run .ensures) (omega arith)
+interpolation-told : (c : tie.After-interpolation-tell-run) (n : ℕ) → 2 ^ 26 + 640 ≤ n → Ready (interpolation-start c) (c .interpolation-tell-run .last .0) (c .interpolation-tell-run .result) n
+interpolation-told c n h =
+    writing-next n (spectrum-told (c .before .before .before .before) (2 ^ 26 + 624) (omega arith)) (c .interpolation-tell-run .ensures) (omega arith)
 
 abbrev pitch-start : tie.After-voicing-tell → tie.Start
 pitch-start c = interpolation-start (c .before .before .before .before)
 
-pitch-told : (c : tie.After-voicing-tell) (n : ℕ) → 2 ^ 26 + 800 ≤ n → Writing (out (c .voicing-tell .last .0) (c .voicing-tell .result)) (pitch-start c .args .rows .now) n
-pitch-told c n h = writing-next n (interpolation-told (c .before .before .before .before) (2 ^ 26 + 640) (omega arith)) (c .voicing-tell .ensures (pos 0)) (omega arith)
+pitch-told : (c : tie.After-voicing-tell) (n : ℕ) → 2 ^ 26 + 800 ≤ n → Ready (pitch-start c) (c .voicing-tell .last .0) (c .voicing-tell .result) n
+pitch-told c n h =
+    writing-next n (interpolation-told (c .before .before .before .before) (2 ^ 26 + 640) (omega arith)) (c .voicing-tell .ensures (pos 0)) (omega arith)
 
 -- ---- the calls
 

@@ -25,8 +25,11 @@ shape : (z : tie.Start) → Shape (z .args .x)
 shape z = record { gains = search (needs, z .good .1 .1 .0); ltp = search (needs, z .good .1 .1 .0); nlsf = search (needs, z .good .1 .1 .0) }
 
 -- the first refusal of gate and numbers
+abbrev begun : tie.After-first-refusal → tie.Start
+begun c = c .before .before .before .before
+
 early : (c : tie.After-first-refusal) (l : ℤ)
-    → c .first-refusal .result ≡ firstOf (gateW (c .before .before .before .before .args .buf .now) (c .before .before .before .before .args .w)) (cond (settingOk (setting (c .before .before .before .before) l)) 0 4)
+    → c .first-refusal .result ≡ firstOf (gateW (begun c .args .buf .now) (begun c .args .w)) (cond (settingOk (setting (begun c) l)) 0 4)
 early c l = rw (c .before .before .gate .ensures, c .before .numbers-rule .ensures) at (c .first-refusal .ensures)
 
 gate-requires : tie.Need-gate-requires
@@ -40,17 +43,17 @@ first-refusal-requires c κs = search needs
 
 fields-ok-run-requires : tie.Need-fields-ok-run-requires
 fields-ok-run-requires c κs =
-    let z = c .before .before .before .before .before in
+    let z = begun (c .before) in
     let r = rule-chosen (entry z) (z .args .x) (setting z (pos 0)) (c .before .first-refusal .result) (early (c .before) (pos 0)) (c .if1 .taken) in
     (r .rate, r .subframes, r .active)
 
 -- what the test of the fields decides
 late : (c : tie.After-fields-ok-run) (l : ℤ)
-    → cond (c .fields-ok-run .result) 0 8 ≡ tellRule (entry (c .before .before .before .before .before .before)) (setting (c .before .before .before .before .before .before) l) (c .before .before .before .before .before .before .args .x)
+    → let z = begun (c .before .before) in cond (c .fields-ok-run .result) 0 8 ≡ tellRule (entry z) (setting z l) (z .args .x)
 late c l =
-    let z = c .before .before .before .before .before .before in
-    rule-fields (entry z) (z .args .x) (setting z l) (c .before .before .first-refusal .result) (early (c .before .before) l) (c .before .if1 .taken) (shape z) _
-    (c .fields-ok-run .ensures)
+    let z = begun (c .before .before) in
+    let n = c .before .before .first-refusal .result in
+    rule-fields (entry z) (z .args .x) (setting z l) n (early (c .before .before) l) (c .before .if1 .taken) (shape z) _ (c .fields-ok-run .ensures)
 
 returns : tie.Need-returns
 returns c l = ap (λ (t : Bool). cond t 0 8) (sym (c .if2 .taken)) ∙ late (c .before) l
@@ -60,7 +63,7 @@ returns-2 c l = ap (λ (t : Bool). cond t 0 8) (sym (c .if2 .left)) ∙ late (c 
 
 returns-3 : tie.Need-returns-3
 returns-3 c l =
-    let z = c .before .before .before .before .before in
+    let z = begun (c .before) in
     rule-early (entry z) (z .args .x) (setting z l) (c .before .first-refusal .result) (early (c .before) l) (c .if1 .left)
 
 pub refusal-spec : {M : Type 1} → statement M

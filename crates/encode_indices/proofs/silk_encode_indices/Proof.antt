@@ -62,7 +62,8 @@ returns c =
     let z = begun b in
     let x = z .args .«record» in
     let t = c .before .before .before .all-tell in
-    let a : c .accepted .result ≡ indicesTold (setting z) x (out (t .last .0) (t .result)) .answer = rw (toZ-ofZ (z .fits .prevlag)) at (c .accepted .ensures) in
+    let q = out (t .last .0) (t .result) in
+    let a : c .accepted .result ≡ indicesTold (setting z) x q .answer = rw (toZ-ofZ (z .fits .prevlag)) at (c .accepted .ensures) in
     let s : IndicesWritten → IndicesSent = λ w. record { buf = t .last .0; answer = w } in
     ap s a ∙ ap (indicesTold (setting z) x) (t .ensures (z .args .prevlag) .is) ∙ indices-told (entry z) x (setting z) (open-rule b)
 
@@ -73,7 +74,8 @@ returns-2 : tie.Need-returns-2
 returns-2 c =
     let z = c .before .before .before .before in
     let n = c .before .refusal in
-    rw (toZ-ofZ (z .fits .prevlag)) (indices-untold (entry z) (z .args .«record») (setting z) (n .result) (n .ensures (z .args .prevlag)) (c .if1 .left))
+    rw (toZ-ofZ (z .fits .prevlag))
+    (indices-untold (entry z) (z .args .«record») (setting z) (n .result) (n .ensures (z .args .prevlag)) (c .if1 .left))
 
 pub silk-encode-indices-spec : {M : Type 1} → statement M
 silk-encode-indices-spec =

@@ -21,7 +21,8 @@ returns c before = rw (eq-eqb _ _ (c .before .before .before .before .if1 .taken
 
 returns-2 : tie.Need-returns-2
 unfolding voicing
-returns-2 c before = rw (ne-eqb _ _ (c .if1 .left)) (told-within {n = 0} {m = 160} (omega arith) (told-done (c .before .before .before .pre .0 .core)))
+returns-2 c before =
+    rw (ne-eqb _ _ (c .if1 .left)) (told-within {n = 0} {m = 160} (omega arith) (told-done (c .before .before .before .pre .0 .core)))
 
 pub voicing-tell-spec : {M : Type 1} → statement M
 voicing-tell-spec = tie.close (tie.spec pitch-tell-run-requires same-length returns returns-2)

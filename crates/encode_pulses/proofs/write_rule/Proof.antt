@@ -9,10 +9,10 @@ pulse-rule-requires : tie.Need-pulse-rule-requires
 pulse-rule-requires c κs = search needs
 
 returns : tie.Need-returns
-returns c = rw (numbers-write, le-leb _ _ (c .before .if1 .taken)) (c .pulse-rule .ensures)
+returns c = rw (numbers-write, le-leb _ 8 (c .before .if1 .taken)) (c .pulse-rule .ensures)
 
 returns-2 : tie.Need-returns-2
-returns-2 c = rw (numbers-write, lt-leb _ _ (c .if1 .left))
+returns-2 c = rw (numbers-write, lt-leb _ 8 (c .if1 .left))
 
 pub write-rule-spec : {M : Type 1} → statement M
 write-rule-spec = tie.close (tie.spec pulse-rule-requires returns returns-2)

@@ -38,7 +38,8 @@ all-in-range-requires c κs = search needs
 returns : tie.Need-returns
 returns c =
     let z = c .before .before .before .before .before in
-    let e : bookOf (z .args .khz) .order ≡ 16 = ap (λ (t : Bool). cond t wideBook narrowBook .order) (eq-eqb _ _ (c .before .before .before .if1 .taken)) ∙ wide-shaped .order in
+    let e : bookOf (z .args .khz) .order ≡ 16
+    = ap (λ (t : Bool). cond t wideBook narrowBook .order) (eq-eqb _ _ (c .before .before .before .if1 .taken)) ∙ wide-shaped .order in
     ordered z _ 16 e (rw (c .all-in-range .ensures) (residuals-tested 16 (z .args .x .nlsf) (omega (arith, size z))))
 
 sub-all-in-range-2 : tie.Need-sub-all-in-range-2
@@ -56,7 +57,8 @@ all-in-range-requires-2 c κs = search needs
 returns-2 : tie.Need-returns-2
 returns-2 c =
     let z = c .before .before .before .before .before in
-    let e : bookOf (z .args .khz) .order ≡ 10 = ap (λ (t : Bool). cond t wideBook narrowBook .order) (ne-eqb _ _ (c .before .before .before .if1 .left)) ∙ narrow-shaped .order in
+    let e : bookOf (z .args .khz) .order ≡ 10
+    = ap (λ (t : Bool). cond t wideBook narrowBook .order) (ne-eqb _ _ (c .before .before .before .if1 .left)) ∙ narrow-shaped .order in
     ordered z _ 10 e (rw (c .all-in-range2 .ensures) (residuals-tested 10 (z .args .x .nlsf) (omega (arith, size z))))
 
 pub residuals-ok-spec : {M : Type 1} → statement M

@@ -1,0 +1,113 @@
+-- `put_indices_run` meets its contract. Assumes nothing.
+use borrow.Author.Needs.{needs}
+use mathlib.Core.Path.{_∙_}
+use native.Mathlib.Omega.{arith}
+use mir.Syntax.{w8}
+use mir.Val.{SFits}
+use mir.Facts.{toZ-ofZ}
+use Rattle.numerals.specs.Put.{put-then}
+use Rattle.listing.specs.Ascii.{ascii}
+use Rattle.silk.specs.IndexRows.{subframes-most}
+use Rattle.frame_text.specs.FrameText.{indicesText}
+use Rattle.frame_text.proofs.put_indices_run.Statement.{statement}
+use Rattle.frame_text.proofs.put_indices_run.Tie as tie
+
+interp-fits : (z : tie.Start) → SFits w8 (z .args .x .interp)
+interp-fits z = search (needs, z .good .1 .1 .0)
+
+seed-fits : (z : tie.Start) → SFits w8 (z .args .x .seed)
+seed-fits z = search (needs, z .good .1 .1 .0)
+
+put-kind-requires : tie.Need-put-kind-requires
+put-kind-requires c κs = (search needs, search needs, subframes-most (c .before .before .pre .1 .1))
+
+put-gains-requires : tie.Need-put-gains-requires
+put-gains-requires c κs = (search needs, subframes-most (c .before .before .before .before .before .before .pre .1 .1))
+
+put-spectrum-requires : tie.Need-put-spectrum-requires
+put-spectrum-requires c κs = search needs
+
+slice-aggregate-put-one : tie.Need-slice-aggregate-put-one
+slice-aggregate-put-one c = search needs
+
+put-one-requires : tie.Need-put-one-requires
+put-one-requires c κs = search needs
+
+put-pitch-requires : tie.Need-put-pitch-requires
+put-pitch-requires c κs = search needs
+
+slice-aggregate-put-one-2 : tie.Need-slice-aggregate-put-one-2
+slice-aggregate-put-one-2 c = search needs
+
+put-one-requires-2 : tie.Need-put-one-requires-2
+put-one-requires-2 c κs =
+    let p = c .before .before .before .before .before in
+    let i = p .before .before .before .before in
+    let s = i .before .before .before .before .before .before in
+    let g = s .before .before .before .before in
+    let k = g .before .before .before .before in
+    let z = k .before .before .before in
+    let r = z .pre .0 .0 in
+    omega (
+      arith,
+      r,
+      k .put-kind .ensures .behind,
+      k .put-kind .ensures .most,
+      k .put-kind .kept .0,
+      g .put-gains .ensures .behind,
+      g .put-gains .ensures .most,
+      g .put-gains .kept .0,
+      s .put-spectrum .ensures .behind,
+      s .put-spectrum .ensures .most,
+      s .put-spectrum .kept .0,
+      i .put-one .ensures .behind,
+      i .put-one .ensures .most,
+      i .put-one .kept .0,
+      p .put-pitch .ensures .behind,
+      p .put-pitch .ensures .most,
+      p .put-pitch .kept .0,
+    )
+
+same-length : tie.Need-same-length
+same-length c =
+    let o = c .before .before in
+    let p = o .before .before .before .before .before .before in
+    let i = p .before .before .before .before in
+    let s = i .before .before .before .before .before .before in
+    let g = s .before .before .before .before in
+    let k = g .before .before .before .before in
+    o .put-one2 .kept .0
+    ∙ p .put-pitch .kept .0
+    ∙ i .put-one .kept .0
+    ∙ s .put-spectrum .kept .0
+    ∙ g .put-gains .kept .0
+    ∙ k .put-kind .kept .0
+
+returns : tie.Need-returns
+unfolding ascii indicesText
+returns c =
+    let o = c .before .before in
+    let p = o .before .before .before .before .before .before in
+    let i = p .before .before .before .before in
+    let s = i .before .before .before .before .before .before in
+    let g = s .before .before .before .before in
+    let k = g .before .before .before .before in
+    let z = k .before .before .before in
+    let t = put-then (put-then (k .put-kind .ensures) (g .put-gains .ensures)) (s .put-spectrum .ensures) in
+    let u = put-then (put-then t (rw (toZ-ofZ (interp-fits z)) at (i .put-one .ensures))) (p .put-pitch .ensures) in
+    put-then u (rw (toZ-ofZ (seed-fits z)) at (o .put-one2 .ensures))
+
+pub put-indices-run-spec : {M : Type 1} → statement M
+put-indices-run-spec =
+    tie.close
+    (tie.spec
+    put-kind-requires
+    put-gains-requires
+    put-spectrum-requires
+    slice-aggregate-put-one
+    put-one-requires
+    put-pitch-requires
+    slice-aggregate-put-one-2
+    put-one-requires-2
+    same-length
+    returns)

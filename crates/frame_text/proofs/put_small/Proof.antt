@@ -1,0 +1,55 @@
+-- `put_small` meets its contract. Assumes nothing.
+use borrow.Author.Needs.{needs}
+use mathlib.Core.List.{[], _∷_}
+use native.Mathlib.Omega.{arith}
+use lib.IntN.{pos}
+use lib.ListN.{length}
+use mir.Syntax.{w16}
+use mir.Facts.{toZ-pos}
+use Rattle.numerals.specs.Put.{put-then, put-as}
+use Rattle.listing.specs.Lines.{counted}
+use Rattle.listing.specs.LineLaws.{line-parts}
+use Rattle.frame_text.proofs.put_small.Statement.{statement}
+use Rattle.frame_text.proofs.put_small.Tie as tie
+
+cast-t9 : tie.Need-cast-t9
+cast-t9 c = search needs
+
+slice-aggregate-put-start-run : tie.Need-slice-aggregate-put-start-run
+slice-aggregate-put-start-run c = search needs
+
+put-start-run-requires : tie.Need-put-start-run-requires
+put-start-run-requires c κs = search needs
+
+put-small-numbers-requires : tie.Need-put-small-numbers-requires
+put-small-numbers-requires c κs = search needs
+
+put-byte-run-requires : tie.Need-put-byte-run-requires
+put-byte-run-requires c κs = search needs
+
+same-length : tie.Need-same-length
+same-length c = search needs
+
+returns : tie.Need-returns
+unfolding counted
+returns c =
+    let b = c .before .before .before .before .before .before in
+    let s = b .before .before .before .before in
+    let a = s .before .before .before .before .before .args in
+    let xs = a .xs .now in
+    let e = rw (toZ-pos w16 {n = length xs} (omega arith)) at (s .put-start-run .ensures) in
+    put-as (put-then e (put-then (b .put-small-numbers .ensures) (c .before .before .put-byte-run .ensures)))
+    (line-parts (a .word .now) (pos (length xs) ∷ []) xs)
+    (omega arith)
+
+pub put-small-spec : {M : Type 1} → statement M
+put-small-spec =
+    tie.close
+    (tie.spec
+    cast-t9
+    slice-aggregate-put-start-run
+    put-start-run-requires
+    put-small-numbers-requires
+    put-byte-run-requires
+    same-length
+    returns)

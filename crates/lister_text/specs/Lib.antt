@@ -1,0 +1,3 @@
+pub mod ListerText
+pub mod Readings
+pub mod Refusals

@@ -1,0 +1,4 @@
+pub mod Ascii
+pub mod Lines
+pub mod LineLaws
+pub mod Printed

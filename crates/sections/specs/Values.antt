@@ -1,0 +1,37 @@
+-- The numbers of a program's input (document 01): a count of one byte, values of two bytes, high first. Past the end a byte is 0.
+-- Assumes nothing.
+use Prim.Native.Nat.{ℕ, zero, suc, _+_, _*_}
+use mathlib.Core.Path.{_≡_, refl, ap, _∙_}
+use mathlib.Core.List.{List, [], _∷_, _++_}
+use native.Mathlib.Omega.{arith}
+use lib.IntN.{ℤ, pos}
+use lib.ListN.{length, getD}
+use Rattle.ints.specs.Wrap.{wrap16}
+
+abbrev pub byteAt : List ℕ → ℕ → ℕ
+byteAt s i = getD s i 0
+
+abbrev pub pairAt : List ℕ → ℕ → ℕ
+pairAt s i = 256 * byteAt s i + byteAt s (i + 1)
+
+-- two bytes as a number with a sign
+unfoldable pub valueAt : List ℕ → ℕ → ℤ
+valueAt s i = wrap16 (pos (pairAt s i))
+
+-- n values, one behind the other
+unfoldable pub valuesAt : List ℕ → ℕ → ℕ → List ℤ
+valuesAt s i zero = []
+valuesAt s i (suc n) = valueAt s i ∷ valuesAt s (i + 2) n
+
+pub values-length : (s : List ℕ) (i n : ℕ) → length (valuesAt s i n) ≡ n
+unfolding valuesAt
+values-length s i zero = refl
+values-length s i (suc n) = ap suc (values-length s (i + 2) n)
+
+-- one value more
+pub values-more : (s : List ℕ) (i n : ℕ) → valuesAt s i n ++ (valueAt s (i + 2 * n) ∷ []) ≡ valuesAt s i (suc n)
+unfolding valuesAt
+values-more s i zero = let e : i + 2 * 0 ≡ i = omega arith in ap (λ (k : ℕ). valueAt s k ∷ []) e
+values-more s i (suc n) =
+    let e : i + 2 * suc n ≡ i + 2 + 2 * n = omega arith in
+    ap (λ (k : ℕ). valueAt s i ∷ (valuesAt s (i + 2) n ++ (valueAt s k ∷ []))) e ∙ ap (λ (l : List ℤ). valueAt s i ∷ l) (values-more s (i + 2) n)

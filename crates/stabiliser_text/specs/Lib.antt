@@ -1,0 +1,4 @@
+pub mod StabiliserText
+pub mod Answers
+pub mod Cases
+pub mod Longer
