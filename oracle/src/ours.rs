@@ -25,7 +25,7 @@ pub struct Moves {
 
 pub mod raw {
     use super::{Answer, Moves, Reader, Spectrum, Writer};
-    use crate::frames::indices::{IndicesRead, Record};
+    use crate::frames::indices::{IndicesRead, IndicesWritten, Record};
     type Read = Answer<Reader>;
     type Written = Answer<Writer>;
 
@@ -75,6 +75,18 @@ pub mod raw {
             prev_type: u32,
             prev_lag: i16,
         ) -> IndicesRead;
+        pub fn tg_encode_indices(
+            buf: *mut u8,
+            len: usize,
+            w: Writer,
+            record: Record,
+            khz: u32,
+            subframes: u32,
+            active: u32,
+            mode: u32,
+            prev_type: u32,
+            prev_lag: i16,
+        ) -> IndicesWritten;
         pub fn tg_decode_pulses(
             packet: *const u8,
             len: usize,
@@ -86,6 +98,19 @@ pub mod raw {
             signal_type: u32,
             offset_type: u32,
         ) -> Read;
+
+        pub fn tg_encode_pulses(
+            buf: *mut u8,
+            len: usize,
+            w: Writer,
+            pulses: *const i16,
+            n: usize,
+            khz: u32,
+            subframes: u32,
+            signal_type: u32,
+            offset_type: u32,
+            rate_level: u32,
+        ) -> Written;
 
         pub fn tg_nlsf_decode(vector: *mut i16, n: usize, indices: Spectrum, khz: u32) -> Moves;
         pub fn tg_nlsf_stabilise(v: *mut i16, n: usize, gaps: *const i16, m: usize) -> Moves;
@@ -154,13 +179,34 @@ pub fn decode_indices(packet: &[u8], r: Reader, call: &indices::Call) -> indices
             packet.as_ptr(),
             packet.len(),
             r,
-            call.held.record,
+            call.record,
             call.size.khz,
             call.size.subframes,
             call.active,
             call.mode,
-            call.held.prev_type,
-            call.held.prev_lag,
+            call.kept.prev_type,
+            call.kept.prev_lag,
+        )
+    }
+}
+
+pub fn encode_indices(
+    buffer: &mut [u8],
+    w: Writer,
+    call: &indices::Call,
+) -> indices::IndicesWritten {
+    unsafe {
+        raw::tg_encode_indices(
+            buffer.as_mut_ptr(),
+            buffer.len(),
+            w,
+            call.record,
+            call.size.khz,
+            call.size.subframes,
+            call.active,
+            call.mode,
+            call.kept.prev_type,
+            call.kept.prev_lag,
         )
     }
 }
@@ -182,6 +228,24 @@ pub fn decode_pulses(packet: &[u8], r: Reader, call: &pulses::Call) -> (Answer<R
         )
     };
     (answer, pulses)
+}
+
+pub fn encode_pulses(buffer: &mut [u8], w: Writer, given: &pulses::Levelled) -> Answer<Writer> {
+    let call = &given.call;
+    unsafe {
+        raw::tg_encode_pulses(
+            buffer.as_mut_ptr(),
+            buffer.len(),
+            w,
+            call.pulses.as_ptr(),
+            call.pulses.len(),
+            call.size.khz,
+            call.size.subframes,
+            call.signal_type,
+            call.offset_type,
+            given.rate_level,
+        )
+    }
 }
 
 // SAFETY of the calls on line spectra: the same, and no gap is a part of the vector.

@@ -44,7 +44,7 @@ fn answer<S: Debug>(answer: Option<Answer<S>>) -> String {
     answer.map_or("panics".to_string(), |answer| format!("{answer:?}"))
 }
 
-fn hex(bytes: &[u8]) -> String {
+pub fn hex(bytes: &[u8]) -> String {
     let shown = bytes.iter().take(SHOWN).map(|byte| format!("{byte:02X} "));
     let more = if bytes.len() > SHOWN { ".." } else { "" };
     shown.collect::<String>() + more

@@ -3,7 +3,9 @@
 
 use oracle::celt::entdec::{ec_dec_icdf, ec_dec_init};
 use oracle::celt::entenc::{ec_enc_done, ec_enc_icdf, ec_enc_init};
-use oracle::frames::indices::{Call, Held, Read};
+use oracle::frames::indices::{Call, Kept, Read, Record};
+#[cfg(libopus)]
+use oracle::frames::InLibopus;
 use oracle::frames::{Frame, Size};
 use oracle::ours::raw::{tg_decode_pulses, tg_nlsf_decode, tg_nlsf_stabilise};
 use oracle::ours::{self, Spectrum};
@@ -147,7 +149,8 @@ fn indices(packets: &[[u8; 256]]) {
         },
         active: 1,
         mode: 0,
-        held: Held::default(),
+        record: Record::default(),
+        kept: Kept::default(),
     };
     let mut each = packets.to_vec();
     let opened: Vec<Reader> = packets.iter().map(|p| ours::dec_open(p).state).collect();

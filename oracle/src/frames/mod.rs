@@ -3,9 +3,11 @@
 pub mod indices;
 #[cfg(libopus)]
 mod libopus;
+mod listed;
 mod plans;
 pub mod pulses;
 mod tally;
+mod whole;
 
 use crate::coder::Coder;
 use crate::compare::{Answer, Kind};
@@ -13,6 +15,8 @@ use crate::hold::Outcome;
 use crate::rng::Rng;
 use std::fmt::Debug;
 use tally::Tally;
+
+pub use listed::files;
 
 /// The rate in kHz and the number of subframes.
 #[derive(Clone, Copy, Debug)]
@@ -27,7 +31,7 @@ impl Size {
         [8, 12, 16].into_iter().flat_map(each)
     }
 
-    /// Takes one of the two out of its range.
+    /// Each takes one of the two out of its range.
     const OUTSIDE: [fn(&mut Size); 6] = [
         |size| size.khz -= 1,
         |size| size.khz += 1,
@@ -47,10 +51,14 @@ impl Size {
 pub trait Given: Clone + Debug + 'static {
     /// Every choice of numbers that document 01 accepts.
     fn all() -> Vec<Self>;
+    /// The numbers, those of the size first.
+    fn numbers(&self) -> [u32; 5];
     fn size(&mut self) -> &mut Size;
-    /// Takes one number or length, besides the size, out of its range, most often by one.
-    fn outside() -> &'static [fn(&mut Self)];
+    /// Each takes one number or length, besides the size, out of its range, most often by one.
+    fn outside() -> Vec<Change<Self>>;
 }
+
+pub type Change<G> = Box<dyn Fn(&mut G)>;
 
 /// A call on a frame.
 pub trait Frame {
@@ -61,7 +69,8 @@ pub trait Frame {
     type Held: PartialEq + Debug;
 
     const NAME: &'static str;
-    const WAYS: &'static [&'static str];
+    /// Ways that an accepted call can take, in lists one after the other.
+    const WAYS: &'static [&'static [&'static str]];
     /// The numbers of document 01's table that can refuse it.
     const REFUSALS: &'static [usize];
     /// So many calls under each choice of numbers are compared with the crate's.
@@ -69,15 +78,17 @@ pub trait Frame {
 
     /// Gives something else besides the numbers, at random.
     fn refill(call: &mut Self::Given, rng: &mut Rng);
+    /// A share, 1 for all, of the calls at the limits of what is given besides the numbers.
+    fn at_limits(_: &mut Rng, _share: u32, _: &mut Put<Self>) -> Outcome {
+        Ok(())
+    }
     /// What a refused call hands back.
     fn held(call: &Self::Given) -> Self::Held;
 
     fn refusal(call: &Self::Given, bytes: &[u8], state: &StateOf<Self>) -> u32;
     fn ours(call: &Self::Given, bytes: &mut [u8], state: StateOf<Self>) -> Answer<Left<Self>>;
-    /// The crate's call, and libopus's, which document 01 accepts.
+    /// The crate's call, which document 01 accepts.
     fn unopus(call: &Self::Given, bytes: &mut [u8], state: StateOf<Self>) -> Left<Self>;
-    #[cfg(libopus)]
-    fn libopus(call: &Self::Given, bytes: &mut [u8], state: StateOf<Self>) -> Left<Self>;
 
     /// Marks the places in `WAYS` of the ways that an accepted call took.
     fn took(
@@ -89,6 +100,16 @@ pub trait Frame {
     );
 }
 
+/// A call on a frame that libopus has too.
+#[cfg(libopus)]
+pub trait InLibopus: Frame {
+    /// libopus's call, which document 01 accepts.
+    fn libopus(call: &Self::Given, bytes: &mut [u8], state: StateOf<Self>) -> Left<Self>;
+}
+
+/// Takes the calls of a plan.
+pub type Put<'a, C> = dyn FnMut(&mut [u8], StateOf<C>, &<C as Frame>::Given) -> Outcome + 'a;
+
 pub type StateOf<C> = <<C as Frame>::Coder as Kind>::State;
 
 /// The state and what else the call hands back.
@@ -99,14 +120,33 @@ type Side<C> = fn(&<C as Frame>::Given, &mut [u8], StateOf<C>) -> Left<C>;
 
 pub fn hold(seed: u64) -> Outcome {
     both::<indices::Read>(seed)?;
-    both::<pulses::Read>(seed)
+    both::<pulses::Read>(seed)?;
+    crate_alone::<indices::Write>(seed)?;
+    both::<pulses::Write>(seed)?;
+    pulses::crate_writer::hold(seed)?;
+    whole::hold(seed).map_err(|e| format!("frames: {e}"))
 }
 
+#[cfg(libopus)]
+fn both<C: InLibopus>(seed: u64) -> Outcome {
+    crate_alone::<C>(seed)?;
+    to_libopus::<C>(seed).map_err(|e| format!("{}: {e}", C::NAME))
+}
+
+#[cfg(not(libopus))]
 fn both<C: Frame>(seed: u64) -> Outcome {
-    to_the_crate::<C>(seed, 1)
-        .map(|tally| tally.show("the crate's"))
-        .and_then(|()| to_libopus::<C>(seed))
-        .map_err(|e| format!("{}: {e}", C::NAME))
+    crate_alone::<C>(seed)?;
+    println!(
+        "{}: no libopus.a; comparison with libopus left out",
+        C::NAME
+    );
+    Ok(())
+}
+
+fn crate_alone<C: Frame>(seed: u64) -> Outcome {
+    let tally = to_the_crate::<C>(seed, 1).map_err(|e| format!("{}: {e}", C::NAME))?;
+    tally.show("the crate's");
+    Ok(())
 }
 
 fn to_the_crate<C: Frame>(seed: u64, share: u32) -> Result<Tally<C>, String> {
@@ -115,18 +155,20 @@ fn to_the_crate<C: Frame>(seed: u64, share: u32) -> Result<Tally<C>, String> {
         let refusal = C::refusal(call, bytes, &state);
         tally.equal(bytes, state, call, (C::unopus, refusal))
     };
-    plans::accepted::<C>(&mut rng, C::EACH / share, &mut put)?;
+    plans::accepted::<C>(&mut rng, C::Given::all(), C::EACH / share, &mut put)?;
     plans::refused::<C>(&mut rng, &mut put)?;
+    C::at_limits(&mut rng, share, &mut put)?;
     tally.missing(C::REFUSALS)?;
     Ok(tally)
 }
 
 /// The calls that document 01 accepts: libopus refuses nothing.
 #[cfg(libopus)]
-fn to_libopus<C: Frame>(seed: u64) -> Outcome {
+fn to_libopus<C: InLibopus>(seed: u64) -> Outcome {
     let (mut tally, mut rng) = (Tally::<C>::default(), Rng::new(seed));
     plans::accepted::<C>(
         &mut rng,
+        C::Given::all(),
         C::EACH / 4,
         &mut |bytes, state, call| match C::refusal(call, bytes, &state) {
             0 => tally.equal(bytes, state, call, (C::libopus, 0)),
@@ -137,18 +179,11 @@ fn to_libopus<C: Frame>(seed: u64) -> Outcome {
     tally.missing(&[])
 }
 
-#[cfg(not(libopus))]
-fn to_libopus<C: Frame>(_: u64) -> Outcome {
-    println!(
-        "{}: no libopus.a; comparison with libopus left out",
-        C::NAME
-    );
-    Ok(())
-}
-
 /// That a small share of all calls, built with overflow checks, overflows nowhere in the crate.
 pub fn no_overflow(seed: u64) -> Outcome {
     to_the_crate::<indices::Read>(seed, 16)?.show_overflow();
     to_the_crate::<pulses::Read>(seed, 16)?.show_overflow();
+    to_the_crate::<indices::Write>(seed, 16)?.show_overflow();
+    to_the_crate::<pulses::Write>(seed, 16)?.show_overflow();
     Ok(())
 }

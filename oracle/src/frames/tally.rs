@@ -19,7 +19,7 @@ impl<C: Frame> Default for Tally<C> {
     fn default() -> Self {
         Tally {
             answers: [0; 10],
-            ways: vec![0; C::WAYS.len()],
+            ways: vec![0; C::WAYS.concat().len()],
             copies: Copies::default(),
             call: PhantomData,
         }
@@ -48,7 +48,7 @@ impl<C: Frame> Tally<C> {
         Ok(())
     }
 
-    fn count(
+    pub fn count(
         &mut self,
         bytes: &mut [u8],
         before: StateOf<C>,
@@ -64,7 +64,12 @@ impl<C: Frame> Tally<C> {
         }
     }
 
-    fn all(&self) -> u64 {
+    /// The ways, each with how often it was taken.
+    fn ways(&self) -> impl Iterator<Item = (&'static str, u64)> + '_ {
+        C::WAYS.concat().into_iter().zip(self.ways.iter().copied())
+    }
+
+    pub fn all(&self) -> u64 {
         self.answers.iter().sum()
     }
 
@@ -74,8 +79,7 @@ impl<C: Frame> Tally<C> {
         let refused = refused.map(|r| format!(", refused with {r}: {}", self.answers[r]));
         let refused = refused.collect::<String>();
         println!("{}:   accepted {}{refused}", C::NAME, self.answers[0]);
-        let ways = C::WAYS.iter().zip(&self.ways);
-        let ways = ways.map(|(way, n)| format!("{way} {n}"));
+        let ways = self.ways().map(|(way, n)| format!("{way} {n}"));
         println!("{}:   {}", C::NAME, ways.collect::<Vec<_>>().join(", "));
     }
 
@@ -91,7 +95,7 @@ impl<C: Frame> Tally<C> {
     pub fn missing(&self, refusals: &[usize]) -> Outcome {
         let refusals = refusals.iter().filter(|&&r| self.answers[r] == 0);
         let refusals = refusals.map(|r| format!("refused with {r}"));
-        let ways = C::WAYS.iter().zip(&self.ways).filter(|(_, &n)| n == 0);
+        let ways = self.ways().filter(|(_, n)| *n == 0);
         report::complete(ways.map(|(way, _)| way.to_string()).chain(refusals))
     }
 }

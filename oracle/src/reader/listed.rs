@@ -5,20 +5,18 @@ use crate::coder::{along, in_short, speech};
 use crate::compare::Sink;
 use crate::hold::Outcome;
 use crate::models::FEW;
-use crate::record::Recorded;
+use crate::record::{Recorded, Words};
 use crate::rng::Rng;
 use crate::state::Reader;
 
 impl Recorded for Reading {
-    const FOLDER: &'static str = "reader_cases";
-
     fn list(sink: &mut dyn Sink<Reading>, rng: &mut Rng) -> Outcome {
         along(sink, rng, [0, 1, 2, 3, 5, 8, 13, 21, 34, 55], 80)?;
         speech(sink, rng, 1)?;
         in_short(sink, rng, &FEW, &FEW)
     }
 
-    fn words(reader: &Reader) -> [u32; 11] {
+    fn words(reader: &Reader) -> Words {
         reader.words()
     }
 

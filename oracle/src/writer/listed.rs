@@ -5,13 +5,11 @@ use crate::coder::{along, in_short, speech};
 use crate::compare::Sink;
 use crate::hold::Outcome;
 use crate::models::Model;
-use crate::record::Recorded;
+use crate::record::{Recorded, Words};
 use crate::rng::Rng;
 use crate::state::Writer;
 
 impl Recorded for Writing {
-    const FOLDER: &'static str = "writer_cases";
-
     fn list(sink: &mut dyn Sink<Writing>, rng: &mut Rng) -> Outcome {
         plans::listed(sink)?;
         along(sink, rng, [0, 1, 2, 3, 5, 8, 13, 21, 34], 80)?;
@@ -21,7 +19,7 @@ impl Recorded for Writing {
         in_short(sink, rng, &[Model::Bits(25)], &[Model::Bits(26)])
     }
 
-    fn words(writer: &Writer) -> [u32; 11] {
+    fn words(writer: &Writer) -> Words {
         writer.words()
     }
 

@@ -1,8 +1,12 @@
 //! The side indices of a frame.
 
+mod crate_writer;
+mod fields;
 mod read;
+mod record_ways;
+mod write;
 
-use super::{Given, Size};
+use super::{Change, Given, Size};
 use crate::rng::Rng;
 use crate::silk::structs::{silk_NLSF_CB_struct, SideInfoIndices};
 use crate::silk::tables_NLSF_CB_NB_MB::silk_NLSF_CB_NB_MB;
@@ -14,7 +18,10 @@ use crate::silk::tables_pitch_lag::{
 };
 use std::mem::transmute;
 
+pub use crate_writer::by_the_crate;
+pub use fields::{Range, FIELDS, LAG};
 pub use read::{IndicesRead, Read};
+pub use write::{IndicesWritten, Write};
 
 /// The indices as include/tignarops.h, the crate and libopus lay them out.
 #[repr(C)]
@@ -34,7 +41,7 @@ pub struct Record {
 }
 
 impl Record {
-    fn any(rng: &mut Rng) -> Self {
+    pub fn any(rng: &mut Rng) -> Self {
         let mut some = || rng.word() as i8;
         Record {
             gains: [(); 4].map(|()| some()),
@@ -62,10 +69,9 @@ impl Record {
     }
 }
 
-/// The record, and what is kept for the next frame.
-#[derive(Clone, Debug, Default, PartialEq, Eq)]
-pub struct Held {
-    pub record: Record,
+/// What is kept for the next frame.
+#[derive(Clone, Copy, Debug, Default, PartialEq, Eq)]
+pub struct Kept {
     pub prev_type: u32,
     pub prev_lag: i16,
 }
@@ -76,7 +82,8 @@ pub struct Call {
     pub size: Size,
     pub active: u32,
     pub mode: u32,
-    pub held: Held,
+    pub record: Record,
+    pub kept: Kept,
 }
 
 impl Given for Call {
@@ -88,9 +95,10 @@ impl Given for Call {
                     size,
                     active,
                     mode,
-                    held: Held {
+                    record: Record::default(),
+                    kept: Kept {
                         prev_type,
-                        ..Held::default()
+                        prev_lag: 0,
                     },
                 }));
             }
@@ -98,26 +106,38 @@ impl Given for Call {
         all
     }
 
+    fn numbers(&self) -> [u32; 5] {
+        let (size, kept) = (self.size, self.kept);
+        [
+            size.khz,
+            size.subframes,
+            self.active,
+            self.mode,
+            kept.prev_type,
+        ]
+    }
+
     fn size(&mut self) -> &mut Size {
         &mut self.size
     }
 
-    fn outside() -> &'static [fn(&mut Call)] {
-        &[
+    fn outside() -> Vec<Change<Call>> {
+        let changes: [fn(&mut Call); 6] = [
             |c| c.active = 2,
             |c| c.active = u32::MAX,
             |c| c.mode = 3,
             |c| c.mode = u32::MAX,
-            |c| c.held.prev_type = 3,
-            |c| c.held.prev_type = u32::MAX,
-        ]
+            |c| c.kept.prev_type = 3,
+            |c| c.kept.prev_type = u32::MAX,
+        ];
+        changes.map(|change| Box::new(change) as _).into()
     }
 }
 
 impl Call {
     fn any_prev_lag(&mut self, rng: &mut Rng) {
         let from_an_end = rng.between(0, 7) as i16;
-        self.held.prev_lag = match rng.between(0, 3) {
+        self.kept.prev_lag = match rng.between(0, 3) {
             0 => i16::MIN + from_an_end,
             1 => i16::MAX - from_an_end,
             2 => rng.between(0, 16 * self.size.khz - 1) as i16,
@@ -126,8 +146,8 @@ impl Call {
     }
 
     /// Whether the lag is coded relative to the one before, or after a symbol that says it is not.
-    fn delta_is_due(&self) -> bool {
-        self.mode == 2 && self.held.prev_type == 2
+    pub fn delta_is_due(&self) -> bool {
+        self.mode == 2 && self.kept.prev_type == 2
     }
 
     // ---- the crate's rows for the frame

@@ -1,10 +1,11 @@
 //! Reading side indices.
 
-use super::{Call, Held, Record};
+use super::record_ways::{record_ways, WAYS};
+use super::{Call, Kept, Record};
 use crate::compare::Answer;
 use crate::domain::{indices_refusal, order};
 #[cfg(libopus)]
-use crate::frames::libopus;
+use crate::frames::{libopus, InLibopus};
 use crate::frames::{Frame, Left};
 use crate::ours;
 use crate::reader::Reading;
@@ -28,51 +29,31 @@ pub struct IndicesRead {
 /// Reading side indices, as a call on a frame.
 pub struct Read;
 
-ways! { Way, WAYS:
-    Inactive "signal type 0",
-    Unvoiced "1",
-    Voiced "2",
-    GainAlone "gain independent",
-    GainAfter "conditional",
-    Down "residual extended downward",
-    Upward "upward",
-    Lowest "residual -10",
-    Highest "10",
-    InterpRead "interpolation read",
-    InterpFixed "fixed",
+ways! { Way, OWN_WAYS:
     Absolute "lag absolute",
     Relative "relative",
     RelativeZero "absolute after symbol 0",
     Wrapped "lag wrapped upward",
     WrappedDown "downward",
-    Contour8Of2 "contour of 8 kHz, 2 subframes",
-    Contour8Of4 "8 kHz, 4",
-    ContourOf2 "above, 2",
-    ContourOf4 "above, 4",
-    ScaleRead "scale read",
-    ScaleFixed "fixed at 0",
-    Period0 "period 0",
-    Period1 "1",
-    Period2 "2",
 }
 
 impl Frame for Read {
     type Coder = Reading;
     type Given = Call;
-    type Held = Held;
+    type Held = (Record, Kept);
 
     const NAME: &'static str = "side indices";
-    const WAYS: &'static [&'static str] = WAYS;
+    const WAYS: &'static [&'static [&'static str]] = &[WAYS, OWN_WAYS];
     const REFUSALS: &'static [usize] = &[1, 2, 3, 4];
     const EACH: u32 = 6_400;
 
     fn refill(call: &mut Call, rng: &mut Rng) {
-        call.held.record = Record::any(rng);
+        call.record = Record::any(rng);
         call.any_prev_lag(rng);
     }
 
-    fn held(call: &Call) -> Held {
-        call.held.clone()
+    fn held(call: &Call) -> (Record, Kept) {
+        (call.record, call.kept)
     }
 
     fn refusal(call: &Call, packet: &[u8], reader: &Reader) -> u32 {
@@ -81,15 +62,14 @@ impl Frame for Read {
 
     fn ours(call: &Call, packet: &mut [u8], reader: Reader) -> Answer<Left<Read>> {
         let read = ours::decode_indices(packet, reader, call);
-        let held = Held {
-            record: read.record,
+        let kept = Kept {
             prev_type: read.prev_type,
             prev_lag: read.prev_lag,
         };
         Answer {
             refusal: read.refusal,
             value: 0,
-            state: (read.state, held),
+            state: (read.state, (read.record, kept)),
         }
     }
 
@@ -101,50 +81,41 @@ impl Frame for Read {
         let held = unsafe {
             set(decoder, call);
             silk_decode_indices(decoder, &mut ctx, 0, 0, call.mode as i32);
-            Held {
-                record: Record::of_the_crate((*decoder).indices),
+            let kept = Kept {
                 prev_type: (*decoder).ec_prevSignalType as u32,
                 prev_lag: (*decoder).ec_prevLagIndex,
-            }
+            };
+            (Record::of_the_crate((*decoder).indices), kept)
         };
         (Reader::of_the_crate(&ctx), held)
-    }
-
-    #[cfg(libopus)]
-    fn libopus(call: &Call, packet: &mut [u8], reader: Reader) -> Left<Read> {
-        libopus::indices(call, packet, reader)
     }
 
     fn took(
         call: &Call,
         _: &mut [u8],
         _: Reader,
-        (_, after): &Left<Read>,
+        (_, (record, _)): &Left<Read>,
         mut mark: impl FnMut(usize, bool),
     ) {
-        let mut mark = |way: Way, taken| mark(way as usize, taken);
-        let record = &after.record;
-        mark(Way::Inactive, record.signal_type == 0);
-        mark(Way::Unvoiced, record.signal_type == 1);
-        mark(Way::Voiced, record.signal_type == 2);
-        mark(Way::GainAlone, call.mode != 2);
-        mark(Way::GainAfter, call.mode == 2);
-        let residuals = &record.nlsf[1..=order(call.size.khz)];
-        mark(Way::Down, residuals.iter().any(|&r| r <= -4));
-        mark(Way::Upward, residuals.iter().any(|&r| r >= 4));
-        mark(Way::Lowest, residuals.contains(&-10));
-        mark(Way::Highest, residuals.contains(&10));
-        mark(Way::InterpRead, call.size.subframes == 4);
-        mark(Way::InterpFixed, call.size.subframes == 2);
+        record_ways(call, record, &mut mark);
         if record.signal_type == 2 {
-            pitch_ways(call, record, &mut mark);
+            lag_ways(call, record.lag, &mut |way, taken| {
+                mark(WAYS.len() + way as usize, taken)
+            });
         }
     }
 }
 
-fn pitch_ways(call: &Call, record: &Record, mark: &mut impl FnMut(Way, bool)) {
-    let before = call.held.prev_lag;
-    let step = record.lag.wrapping_sub(before);
+#[cfg(libopus)]
+impl InLibopus for Read {
+    fn libopus(call: &Call, packet: &mut [u8], reader: Reader) -> Left<Read> {
+        libopus::indices(call, packet, reader)
+    }
+}
+
+fn lag_ways(call: &Call, lag: i16, mark: &mut impl FnMut(Way, bool)) {
+    let before = call.kept.prev_lag;
+    let step = lag.wrapping_sub(before);
     let due = call.delta_is_due();
     // A lag before that no absolute lag comes near tells the two apart.
     let far = !(-11..16 * call.size.khz as i16 + 8).contains(&before);
@@ -152,32 +123,8 @@ fn pitch_ways(call: &Call, record: &Record, mark: &mut impl FnMut(Way, bool)) {
     mark(Way::Absolute, !due);
     mark(Way::Relative, relative);
     mark(Way::RelativeZero, due && far && !relative);
-    mark(Way::Wrapped, relative && step > 0 && record.lag < before);
-    mark(
-        Way::WrappedDown,
-        relative && step < 0 && record.lag > before,
-    );
-    mark(
-        Way::Contour8Of2,
-        (call.size.khz, call.size.subframes) == (8, 2),
-    );
-    mark(
-        Way::Contour8Of4,
-        (call.size.khz, call.size.subframes) == (8, 4),
-    );
-    mark(
-        Way::ContourOf2,
-        call.size.khz > 8 && call.size.subframes == 2,
-    );
-    mark(
-        Way::ContourOf4,
-        call.size.khz > 8 && call.size.subframes == 4,
-    );
-    mark(Way::ScaleRead, call.mode == 0);
-    mark(Way::ScaleFixed, call.mode != 0);
-    mark(Way::Period0, record.period == 0);
-    mark(Way::Period1, record.period == 1);
-    mark(Way::Period2, record.period == 2);
+    mark(Way::Wrapped, relative && step > 0 && lag < before);
+    mark(Way::WrappedDown, relative && step < 0 && lag > before);
 }
 
 /// Sets what the crate's call looks at.
@@ -187,9 +134,9 @@ unsafe fn set(decoder: *mut silk_decoder_state, call: &Call) {
     (*decoder).LPC_order = order(call.size.khz) as i32;
     (*decoder).pitch_lag_low_bits_iCDF = call.low_bits();
     (*decoder).pitch_contour_iCDF = call.contours();
-    (*decoder).ec_prevSignalType = call.held.prev_type as i32;
-    (*decoder).ec_prevLagIndex = call.held.prev_lag;
+    (*decoder).ec_prevSignalType = call.kept.prev_type as i32;
+    (*decoder).ec_prevLagIndex = call.kept.prev_lag;
     (*decoder).VAD_flags = [call.active as i32, 0, 0];
     (*decoder).psNLSF_CB = call.book();
-    (*decoder).indices = call.held.record.for_the_crate();
+    (*decoder).indices = call.record.for_the_crate();
 }

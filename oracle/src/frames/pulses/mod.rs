@@ -1,11 +1,17 @@
 //! The pulses of a frame.
 
+mod blocks;
+pub mod crate_writer;
+mod pulse_ways;
 mod read;
+mod write;
 
-use super::{Given, Size};
+use super::{Change, Given, Size};
 use crate::domain::pulses_of;
 
+pub use blocks::{by_the_crate, shifts, write, Pieces};
 pub use read::Read;
+pub use write::{limit_blocks, Write};
 
 /// What a call on pulses is given.
 #[derive(Clone, Debug)]
@@ -14,6 +20,13 @@ pub struct Call {
     pub signal_type: u32,
     pub offset_type: u32,
     pub pulses: Vec<i16>,
+}
+
+/// What writing pulses is given: the pulses, and the rate level.
+#[derive(Clone, Debug)]
+pub struct Levelled {
+    pub call: Call,
+    pub rate_level: u32,
 }
 
 impl Given for Call {
@@ -32,12 +45,23 @@ impl Given for Call {
         all
     }
 
+    fn numbers(&self) -> [u32; 5] {
+        let size = self.size;
+        [
+            size.khz,
+            size.subframes,
+            self.signal_type,
+            self.offset_type,
+            0,
+        ]
+    }
+
     fn size(&mut self) -> &mut Size {
         &mut self.size
     }
 
-    fn outside() -> &'static [fn(&mut Call)] {
-        &[
+    fn outside() -> Vec<Change<Call>> {
+        let changes: [fn(&mut Call); 9] = [
             |c| c.signal_type = 3,
             |c| c.signal_type = u32::MAX,
             |c| c.offset_type = 2,
@@ -51,6 +75,7 @@ impl Given for Call {
                 c.offset_type = 2;
                 c.pulses.push(1);
             },
-        ]
+        ];
+        changes.map(|change| Box::new(change) as _).into()
     }
 }

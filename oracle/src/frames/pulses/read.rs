@@ -1,10 +1,11 @@
 //! Reading pulses.
 
+use super::pulse_ways::{pulse_ways, Block, WAYS};
 use super::Call;
 use crate::compare::Answer;
 use crate::domain::pulses_refusal;
 #[cfg(libopus)]
-use crate::frames::libopus;
+use crate::frames::{libopus, InLibopus};
 use crate::frames::{Frame, Left};
 use crate::models::Model;
 use crate::ours;
@@ -18,47 +19,10 @@ use crate::ways::ways;
 /// Reading pulses, as a call on a frame.
 pub struct Read;
 
-ways! { Way, WAYS:
-    Level0 "rate level 0",
-    Level1 "1",
-    Level2 "2",
-    Level3 "3",
-    Level4 "4",
-    Level5 "5",
-    Level6 "6",
-    Level7 "7",
-    Level8 "8",
-    NoLows "blocks without low bits",
-    OneLow "with 1",
-    MoreLows "2 to 9",
-    TenLows "10",
-    Empty "count 0",
+ways! { Way, OWN_WAYS:
+    // The smallest shift that fits leaves a count above 0, so that no writer comes to it.
     EmptyLows "count 0 with low bits",
-    Full "count 16",
-    Split "count split among pulses",
-    AsOne "all on one pulse",
-    SignRow "sign row below 6",
-    LastSignRow "sign row 6",
-    Minus "pulse below 0",
-    Plus "above 0",
-    Large "beyond 16",
-    Largest "17,407",
 }
-
-const LEVELS: [Way; 9] = [
-    Way::Level0,
-    Way::Level1,
-    Way::Level2,
-    Way::Level3,
-    Way::Level4,
-    Way::Level5,
-    Way::Level6,
-    Way::Level7,
-    Way::Level8,
-];
-
-/// The low bits and the count before them.
-type Block = (usize, u32);
 
 impl Frame for Read {
     type Coder = Reading;
@@ -66,7 +30,7 @@ impl Frame for Read {
     type Held = Vec<i16>;
 
     const NAME: &'static str = "pulses";
-    const WAYS: &'static [&'static str] = WAYS;
+    const WAYS: &'static [&'static [&'static str]] = &[WAYS, OWN_WAYS];
     const REFUSALS: &'static [usize] = &[1, 2, 3, 4, 6];
     const EACH: u32 = 12_000;
 
@@ -107,11 +71,6 @@ impl Frame for Read {
         (Reader::of_the_crate(&ctx), pulses)
     }
 
-    #[cfg(libopus)]
-    fn libopus(call: &Call, packet: &mut [u8], reader: Reader) -> Left<Read> {
-        libopus::pulses(call, packet, reader)
-    }
-
     fn took(
         call: &Call,
         packet: &mut [u8],
@@ -120,10 +79,18 @@ impl Frame for Read {
         mut mark: impl FnMut(usize, bool),
     ) {
         let (level, blocks) = counts(call, packet, before);
-        mark(LEVELS[level] as usize, true);
-        for (block, pulses) in blocks.into_iter().zip(after.chunks(16)) {
-            block_ways(block, pulses, &mut |way, taken| mark(way as usize, taken));
+        for &(lows, count) in &blocks {
+            let empty = count == 0 && lows > 0;
+            mark(WAYS.len() + Way::EmptyLows as usize, empty);
         }
+        pulse_ways(level, blocks.into_iter().zip(after.chunks(16)), &mut mark);
+    }
+}
+
+#[cfg(libopus)]
+impl InLibopus for Read {
+    fn libopus(call: &Call, packet: &mut [u8], reader: Reader) -> Left<Read> {
+        libopus::pulses(call, packet, reader)
     }
 }
 
@@ -144,25 +111,4 @@ fn counts(call: &Call, packet: &mut [u8], mut reader: Reader) -> (usize, Vec<Blo
         (lows, count)
     };
     (level, (0..call.pulses.len() / 16).map(block).collect())
-}
-fn block_ways((lows, count): Block, pulses: &[i16], mark: &mut impl FnMut(Way, bool)) {
-    mark(Way::NoLows, lows == 0);
-    mark(Way::OneLow, lows == 1);
-    mark(Way::MoreLows, (2..10).contains(&lows));
-    mark(Way::TenLows, lows == 10);
-    mark(Way::Empty, count == 0 && lows == 0);
-    mark(Way::EmptyLows, count == 0 && lows > 0);
-    mark(Way::Full, count == 16);
-    let sized = pulses.iter().filter(|p| p.unsigned_abs() >> lows != 0);
-    let sized = sized.count();
-    mark(Way::Split, count > 1 && sized > 1);
-    mark(Way::AsOne, count > 1 && sized == 1);
-    let signed = pulses.iter().any(|&p| p != 0);
-    mark(Way::SignRow, signed && count < 6);
-    mark(Way::LastSignRow, signed && count >= 6);
-    mark(Way::Minus, pulses.iter().any(|&p| p < 0));
-    mark(Way::Plus, pulses.iter().any(|&p| p > 0));
-    mark(Way::Large, pulses.iter().any(|&p| p.abs() > 16));
-    // "Largest magnitude: 16 x 1024 + 1023."
-    mark(Way::Largest, pulses.iter().any(|&p| p.abs() == 17_407));
 }
