@@ -42,7 +42,7 @@ pub trait Kind: Sized {
         before: &Self::State,
         ask: Self::Ask<'_>,
         answer: &Answer<Self::State>,
-        mark: impl FnMut(usize),
+        mark: impl FnMut(usize, bool),
     );
     /// Where in the bytes the state reads or writes next, for a report.
     fn places(state: &Self::State) -> [usize; 2];
@@ -76,13 +76,52 @@ pub trait Sink<K: Kind> {
     fn counters(&self) -> &Counters<K>;
 }
 
+/// A copy of the bytes for each of two sides.
+pub struct Copies {
+    ours: Bytes,
+    theirs: Bytes,
+}
+
+impl Default for Copies {
+    fn default() -> Self {
+        Copies {
+            ours: [0; LONGEST + 1],
+            theirs: [0; LONGEST + 1],
+        }
+    }
+}
+
+impl Copies {
+    /// What both sides answer to the call, with what it leaves in the bytes; or the difference.
+    pub fn put<K: Kind, S: PartialEq + Debug>(
+        &mut self,
+        bytes: &mut [u8],
+        (state, ask): (K::State, &dyn Debug),
+        ours: impl FnOnce(&mut [u8]) -> Answer<S>,
+        theirs: impl FnOnce(&mut [u8]) -> Answer<S>,
+    ) -> Result<Answer<S>, String> {
+        let our_bytes = &mut self.ours[..bytes.len()];
+        let their_bytes = &mut self.theirs[..bytes.len()];
+        our_bytes.copy_from_slice(bytes);
+        their_bytes.copy_from_slice(bytes);
+        let answer = ours(our_bytes);
+        // The crate panics where an index or, with overflow checks, a sum leaves its range.
+        let theirs = catch_unwind(AssertUnwindSafe(|| theirs(their_bytes))).ok();
+        if theirs.as_ref() != Some(&answer) || our_bytes != their_bytes {
+            let (ours, theirs) = ((Some(answer), &*our_bytes), (theirs, &*their_bytes));
+            return Err(report::difference::<K, S>(bytes, state, ask, ours, theirs));
+        }
+        bytes.copy_from_slice(our_bytes);
+        Ok(answer)
+    }
+}
+
 /// Two sides, and what was counted of the calls on which they agree.
 pub struct Pair<K: Kind> {
     ours: Side<K>,
     theirs: Side<K>,
     counters: Counters<K>,
-    our_bytes: Bytes,
-    their_bytes: Bytes,
+    copies: Copies,
 }
 
 impl<K: Kind> Pair<K> {
@@ -91,8 +130,7 @@ impl<K: Kind> Pair<K> {
             ours,
             theirs,
             counters: Counters::new(),
-            our_bytes: [0; LONGEST + 1],
-            their_bytes: [0; LONGEST + 1],
+            copies: Copies::default(),
         }
     }
 }
@@ -104,21 +142,15 @@ impl<K: Kind> Sink<K> for Pair<K> {
         state: K::State,
         ask: K::Ask<'_>,
     ) -> Result<Answer<K::State>, String> {
-        let our_bytes = &mut self.our_bytes[..bytes.len()];
-        let their_bytes = &mut self.their_bytes[..bytes.len()];
-        our_bytes.copy_from_slice(bytes);
-        their_bytes.copy_from_slice(bytes);
-        let ours = (self.ours)(our_bytes, state, ask);
-        let theirs = self.theirs;
-        // The crate panics where an index or, with overflow checks, a sum leaves its range.
-        let theirs = catch_unwind(AssertUnwindSafe(|| theirs(their_bytes, state, ask))).ok();
-        if theirs != Some(ours) || our_bytes != their_bytes {
-            let (ours, theirs) = ((Some(ours), &*our_bytes), (theirs, &*their_bytes));
-            return Err(report::difference::<K>(bytes, state, ask, ours, theirs));
-        }
-        bytes.copy_from_slice(our_bytes);
-        self.counters.count(bytes.len(), &state, ask, &ours);
-        Ok(ours)
+        let (ours, theirs) = (self.ours, self.theirs);
+        let answer = self.copies.put::<K, _>(
+            bytes,
+            (state, &ask),
+            |bytes| ours(bytes, state, ask),
+            |bytes| theirs(bytes, state, ask),
+        )?;
+        self.counters.count(bytes.len(), &state, ask, &answer);
+        Ok(answer)
     }
 
     fn counters(&self) -> &Counters<K> {

@@ -1,6 +1,8 @@
 //! What the calls of a comparison were: a counter that stays 0 says that its way was never compared.
 
 use crate::compare::{Answer, Kind};
+use crate::hold::Outcome;
+use crate::report;
 use std::marker::PhantomData;
 
 /// Document 01's numbers, and 0 for an accepted call.
@@ -38,7 +40,9 @@ impl<K: Kind> Counters<K> {
                 symbol[way as usize] += u64::from(taken)
             })
         });
-        K::took(length, before, ask, answer, |way| own[way] += 1);
+        K::took(length, before, ask, answer, |way, taken| {
+            own[way] += u64::from(taken)
+        });
     }
 
     /// The ways, each with how often it was taken.
@@ -77,7 +81,7 @@ impl<K: Kind> Counters<K> {
     }
 
     /// The ways, and the wanted answers of each call, that never occurred.
-    pub fn missing(&self, wanted: impl Fn(usize, usize) -> bool) -> Result<(), String> {
+    pub fn missing(&self, wanted: impl Fn(usize, usize) -> bool) -> Outcome {
         let answers = K::CALLS
             .iter()
             .enumerate()
@@ -92,12 +96,7 @@ impl<K: Kind> Counters<K> {
         let ways = ways
             .filter(|(_, &n)| n == 0)
             .map(|(way, _)| way.to_string());
-        let missing: Vec<String> = answers.chain(ways).collect();
-        if missing.is_empty() {
-            Ok(())
-        } else {
-            Err(format!("NEVER COMPARED: {}", missing.join(", ")))
-        }
+        report::complete(answers.chain(ways))
     }
 }
 

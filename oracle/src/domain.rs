@@ -2,7 +2,7 @@
 //! Written from its text alone, and put around the crate's calls, which refuse nothing.
 
 use crate::compare::Answer;
-use crate::frames::{indices, pulses};
+use crate::frames::{indices, pulses, Size};
 use crate::models::Model;
 use crate::state::{Reader, State, Writer};
 use crate::{reader, spectra, writer};
@@ -43,43 +43,65 @@ pub fn reader_refusal(packet: &[u8], reader: &Reader, ask: reader::Ask) -> u32 {
 
 /// The number that refuses reading side indices, or 0.
 pub fn indices_refusal(packet: &[u8], reader: &Reader, call: &indices::Call) -> u32 {
-    let kept = frame_kept(call.khz, call.subframes)
-        && call.active <= 1
-        && call.mode <= 2
-        && call.held.prev_type <= 2;
-    or(reader_gate(packet, reader), || first(&[(4, !kept)]))
+    let outside = !indices_numbers_kept(call);
+    or(reader_gate(packet, reader), || first(&[(4, outside)]))
+}
+
+/// The number that refuses writing side indices, or 0.
+pub fn indices_written_refusal(buffer: &[u8], writer: &Writer, call: &indices::Call) -> u32 {
+    or(writer_gate(buffer, writer), || {
+        match indices_numbers_kept(call) {
+            true => first(&[(8, !call.can_be_written())]),
+            false => 4,
+        }
+    })
+}
+
+fn indices_numbers_kept(call: &indices::Call) -> bool {
+    frame_kept(call.size) && call.active <= 1 && call.mode <= 2 && call.kept.prev_type <= 2
 }
 
 /// The number that refuses reading pulses, or 0.
 pub fn pulses_refusal(packet: &[u8], reader: &Reader, call: &pulses::Call) -> u32 {
-    let kept =
-        frame_kept(call.khz, call.subframes) && call.signal_type <= 2 && call.offset_type <= 1;
+    let outside = !pulses_numbers_kept(call);
     or(reader_gate(packet, reader), || {
+        first(&[(4, outside), (6, call.pulses.len() != pulses_of(call.size))])
+    })
+}
+
+/// The number that refuses writing pulses, or 0.
+pub fn pulses_written_refusal(buffer: &[u8], writer: &Writer, given: &pulses::Levelled) -> u32 {
+    let call = &given.call;
+    let outside = !pulses_numbers_kept(call) || given.rate_level > 8;
+    or(writer_gate(buffer, writer), || {
         first(&[
-            (4, !kept),
-            (6, call.pulses.len() != pulses_of(call.khz, call.subframes)),
+            (4, outside),
+            (6, call.pulses.len() != pulses_of(call.size)),
+            (8, pulses::shifts(&call.pulses).is_none()),
         ])
     })
 }
 
+fn pulses_numbers_kept(call: &pulses::Call) -> bool {
+    frame_kept(call.size) && call.signal_type <= 2 && call.offset_type <= 1
+}
+
 /// "8, 12 or 16 kHz; 2 or 4 subframes."
-fn frame_kept(khz: u32, subframes: u32) -> bool {
-    [8, 12, 16].contains(&khz) && [2, 4].contains(&subframes)
+fn frame_kept(size: Size) -> bool {
+    [8, 12, 16].contains(&size.khz) && [2, 4].contains(&size.subframes)
 }
 
 /// "Frame length is 5 x kHz x subframes .. Blocks of 16 .. The pulse buffer holds exactly 16 x blocks."
-pub fn pulses_of(khz: u32, subframes: u32) -> usize {
-    (5 * u64::from(khz) * u64::from(subframes)).next_multiple_of(16) as usize
+pub fn pulses_of(size: Size) -> usize {
+    (5 * u64::from(size.khz) * u64::from(size.subframes)).next_multiple_of(16) as usize
 }
 
 /// The number that refuses a call on a writer, or 0.
 pub fn writer_refusal(buffer: &[u8], writer: &Writer, ask: writer::Ask) -> u32 {
-    let length = buffer.len();
-    let gate = || gate(length, sound_writer(length, writer), writer.nbits_total);
     match ask {
-        writer::Ask::Open => first(&[(1, length > LONGEST)]),
-        writer::Ask::Account | writer::Ask::Done { .. } => gate(),
-        writer::Ask::Write(model, value) => or(gate(), || {
+        writer::Ask::Open => first(&[(1, buffer.len() > LONGEST)]),
+        writer::Ask::Account | writer::Ask::Done { .. } => writer_gate(buffer, writer),
+        writer::Ask::Write(model, value) => or(writer_gate(buffer, writer), || {
             or(model_refusal(model), || {
                 first(&[(8, !can_be_written(model, value))])
             })
@@ -137,6 +159,11 @@ fn gate(length: usize, sound: bool, total: u32) -> u32 {
 fn reader_gate(packet: &[u8], reader: &Reader) -> u32 {
     let sound = sound_reader(packet.len(), reader);
     gate(packet.len(), sound, reader.nbits_total)
+}
+
+fn writer_gate(buffer: &[u8], writer: &Writer) -> u32 {
+    let sound = sound_writer(buffer.len(), writer);
+    gate(buffer.len(), sound, writer.nbits_total)
 }
 
 /// "A sound reader: .."

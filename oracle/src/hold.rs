@@ -8,16 +8,12 @@ use crate::rng::Rng;
 /// What a plan comes to: an error is a difference, or an answer that the plan rules out.
 pub type Outcome = Result<(), String>;
 
+/// What the calls of a plan are, and a share of them, 1 for all, put to a sink.
+pub type Plan<K> = (&'static str, fn(&mut dyn Sink<K>, &mut Rng, u32) -> Outcome);
+
 /// A kind of coder with the calls that are compared.
-pub trait Plans: Sides {
-    /// Puts a share of every plan, 1 for all of it, to the sink. Says, after each, how many calls
-    /// there were since the first, and what the plan is.
-    fn run(
-        sink: &mut impl Sink<Self>,
-        rng: &mut Rng,
-        share: u32,
-        said: impl FnMut(u64, &str),
-    ) -> Outcome;
+pub trait Plans: Sides + 'static {
+    const PLANS: &'static [Plan<Self>];
 }
 
 pub fn to_the_crate<K: Plans>(seed: u64) -> Outcome {
@@ -58,22 +54,26 @@ pub fn in_short<K: Plans>(seed: u64) -> Result<u64, String> {
     Ok(pair.counters().all())
 }
 
+/// Says, after each plan, how many calls it put and what it is.
 fn run<K: Plans>(
-    sink: &mut impl Sink<K>,
+    sink: &mut dyn Sink<K>,
     seed: u64,
     share: u32,
     say: impl Fn(u64, &str),
 ) -> Outcome {
-    let mut counted = 0;
-    K::run(sink, &mut Rng::new(seed), share, |all, plan| {
-        if all > counted {
-            say(all - counted, plan);
+    let mut rng = Rng::new(seed);
+    for (what, plan) in K::PLANS {
+        let before = sink.counters().all();
+        plan(sink, &mut rng, share)?;
+        let calls = sink.counters().all() - before;
+        if calls > 0 {
+            say(calls, what);
         }
-        counted = all;
-    })
+    }
+    Ok(())
 }
 
-fn show<K: Plans>(sink: &impl Sink<K>) {
+fn show<K: Plans>(sink: &dyn Sink<K>) {
     println!("{}: {} calls in all", K::NAME, sink.counters().all());
     for line in sink.counters().lines() {
         println!("{}:   {line}", K::NAME);

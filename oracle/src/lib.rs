@@ -5,6 +5,7 @@
 include!(concat!(env!("OUT_DIR"), "/unopus.rs"));
 
 pub mod bytes;
+pub mod coder;
 pub mod compare;
 pub mod counters;
 pub mod domain;

@@ -6,7 +6,7 @@
 
 use oracle::hold::Plans;
 use oracle::reader::Reading;
-use oracle::record::{self, Recorded};
+use oracle::record::{self, Files};
 use oracle::spectra::Spectra;
 use oracle::writer::Writing;
 use oracle::{frames, hold, roundtrip, tables, types};
@@ -41,9 +41,7 @@ fn compare() -> Result<(), String> {
     roundtrip::hold(seed).map_err(|e| format!("round trip: {e}"))?;
     types::hold(seed).map_err(|e| format!("frame types: {e}"))?;
     frames::hold(seed)?;
-    read_record::<Reading>()?;
-    read_record::<Writing>()?;
-    read_record::<Spectra>()
+    read_records()
 }
 
 fn calls<K: Plans>(seed: u64) -> Result<(), String> {
@@ -79,47 +77,55 @@ fn seed() -> Result<u64, String> {
 
 // ---- the recorded answers
 
-fn folder<K: Recorded>() -> PathBuf {
+/// A program that replays a list, by the name of its folder.
+type List = (&'static str, fn() -> Result<Files, String>);
+
+const LISTS: [List; 4] = [
+    ("reader_cases", record::files::<Reading>),
+    ("writer_cases", record::files::<Writing>),
+    ("spectra_cases", record::files::<Spectra>),
+    ("frames_cases", frames::files),
+];
+
+fn folder(name: &str) -> PathBuf {
     let crates = Path::new(env!("CARGO_MANIFEST_DIR")).join("../crates");
-    crates.join(K::FOLDER)
+    crates.join(name)
 }
 
 fn write_records() -> Result<(), String> {
-    write_record::<Reading>()?;
-    write_record::<Writing>()?;
-    write_record::<Spectra>()
-}
-
-fn write_record<K: Recorded>() -> Result<(), String> {
-    let files = record::files::<K>()?;
-    let write = |name, bytes: &[u8]| {
-        fs::write(folder::<K>().join(name), bytes)
-            .map_err(|e| format!("record: {}/{name}: {e}", K::FOLDER))
-    };
-    write("stdin", &files.stdin)?;
-    write("stdout", files.stdout.as_bytes())
+    for (program, files) in LISTS {
+        let files = files().map_err(|e| format!("record: {program}: {e}"))?;
+        let write = |name, bytes: &[u8]| {
+            fs::write(folder(program).join(name), bytes)
+                .map_err(|e| format!("record: {program}/{name}: {e}"))
+        };
+        write("stdin", &files.stdin)?;
+        write("stdout", files.stdout.as_bytes())?;
+    }
+    Ok(())
 }
 
 /// That the files in the tree are what the crate answers today.
-fn read_record<K: Recorded>() -> Result<(), String> {
-    let files = record::files::<K>().map_err(|e| format!("record: {}: {e}", K::FOLDER))?;
-    let same = |name: &str, bytes: &[u8]| match fs::read(folder::<K>().join(name)) {
+fn read_records() -> Result<(), String> {
+    for (program, files) in LISTS {
+        let files = files().map_err(|e| format!("record: {program}: {e}"))?;
+        same(program, "stdin", &files.stdin)?;
+        same(program, "stdout", files.stdout.as_bytes())?;
+        let all = files.stdout.lines().last().unwrap_or_default();
+        println!("record: crates/{program} has the crate's answers of today: {all}");
+    }
+    Ok(())
+}
+
+fn same(program: &str, name: &str, bytes: &[u8]) -> Result<(), String> {
+    match fs::read(folder(program).join(name)) {
         Ok(found) if found == bytes => Ok(()),
         Ok(found) => {
             let place = found.iter().zip(bytes).take_while(|(a, b)| a == b).count();
             Err(format!(
-                "record: {}/{name} DIFFERS from what is recorded today, from byte {place} on",
-                K::FOLDER
+                "record: {program}/{name} DIFFERS from what is recorded today, from byte {place} on"
             ))
         }
-        Err(e) => Err(format!("record: {}/{name}: {e}", K::FOLDER)),
-    };
-    same("stdin", &files.stdin)?;
-    same("stdout", files.stdout.as_bytes())?;
-    let all = files.stdout.lines().last().unwrap_or_default();
-    println!(
-        "record: crates/{} has the crate's answers of today: {all}",
-        K::FOLDER
-    );
-    Ok(())
+        Err(e) => Err(format!("record: {program}/{name}: {e}")),
+    }
 }

@@ -2,6 +2,7 @@
 
 use crate::rng::Rng;
 use crate::ways::ways;
+use std::sync::OnceLock;
 
 #[derive(Clone, Copy, Debug, PartialEq, Eq)]
 pub enum Model<'a> {
@@ -215,21 +216,20 @@ pub const FEW: [Model; 5] = [
     Model::Bits(26),
 ];
 
-/// Tables at the limits of document 01's rule, each with its scale.
-pub fn limit_tables() -> Vec<(Vec<u8>, u32)> {
-    let under = |scale| tables(scale).into_iter().map(move |table| (table, scale));
-    SCALES.into_iter().flat_map(under).collect()
-}
-
 /// Models at every number where document 01's rules change, and to either side of it.
-pub fn at_limits(tables: &[(Vec<u8>, u32)]) -> Vec<Model<'_>> {
-    let bits = EXPONENTS.into_iter().map(Model::Bit);
-    let tables = tables
-        .iter()
-        .map(|(entries, scale)| Model::Table(entries, *scale));
-    let numbers = TOTALS.into_iter().map(Model::Number);
-    let raw = COUNTS.into_iter().map(Model::Bits);
-    bits.chain(tables).chain(numbers).chain(raw).collect()
+pub fn at_limits() -> &'static [Model<'static>] {
+    static LIMITS: OnceLock<Vec<Model>> = OnceLock::new();
+    LIMITS.get_or_init(|| {
+        let under = |scale| {
+            let tables = tables(scale).into_iter();
+            tables.map(move |table| Model::Table(table.leak(), scale))
+        };
+        let bits = EXPONENTS.into_iter().map(Model::Bit);
+        let tables = SCALES.into_iter().flat_map(under);
+        let numbers = TOTALS.into_iter().map(Model::Number);
+        let raw = COUNTS.into_iter().map(Model::Bits);
+        bits.chain(tables).chain(numbers).chain(raw).collect()
+    })
 }
 
 /// Tables that just keep the rule under a scale, and some that break it by one.

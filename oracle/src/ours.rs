@@ -184,13 +184,34 @@ pub fn decode_indices(packet: &[u8], r: Reader, call: &indices::Call) -> indices
             packet.as_ptr(),
             packet.len(),
             r,
-            call.held.record,
-            call.khz,
-            call.subframes,
+            call.record,
+            call.size.khz,
+            call.size.subframes,
             call.active,
             call.mode,
-            call.held.prev_type,
-            call.held.prev_lag,
+            call.kept.prev_type,
+            call.kept.prev_lag,
+        )
+    }
+}
+
+pub fn encode_indices(
+    buffer: &mut [u8],
+    w: Writer,
+    call: &indices::Call,
+) -> indices::IndicesWritten {
+    unsafe {
+        raw::tg_encode_indices(
+            buffer.as_mut_ptr(),
+            buffer.len(),
+            w,
+            call.record,
+            call.size.khz,
+            call.size.subframes,
+            call.active,
+            call.mode,
+            call.kept.prev_type,
+            call.kept.prev_lag,
         )
     }
 }
@@ -205,13 +226,31 @@ pub fn decode_pulses(packet: &[u8], r: Reader, call: &pulses::Call) -> (Answer<R
             r,
             pulses.as_mut_ptr(),
             pulses.len(),
-            call.khz,
-            call.subframes,
+            call.size.khz,
+            call.size.subframes,
             call.signal_type,
             call.offset_type,
         )
     };
     (answer, pulses)
+}
+
+pub fn encode_pulses(buffer: &mut [u8], w: Writer, given: &pulses::Levelled) -> Answer<Writer> {
+    let call = &given.call;
+    unsafe {
+        raw::tg_encode_pulses(
+            buffer.as_mut_ptr(),
+            buffer.len(),
+            w,
+            call.pulses.as_ptr(),
+            call.pulses.len(),
+            call.size.khz,
+            call.size.subframes,
+            call.signal_type,
+            call.offset_type,
+            given.rate_level,
+        )
+    }
 }
 
 // SAFETY of the calls on line spectra: the same, and no gap is a part of the vector.

@@ -8,15 +8,15 @@ use crate::rng::Rng;
 
 /// A kind of coder with a list of its own.
 pub trait Recorded: Sides {
-    /// The folder of the program that replays the list.
-    const FOLDER: &'static str;
-
     /// Puts the calls of the list to the sink.
-    fn list(sink: &mut impl Sink<Self>, rng: &mut Rng) -> Outcome;
-    fn words(state: &Self::State) -> [u32; 11];
+    fn list(sink: &mut dyn Sink<Self>, rng: &mut Rng) -> Outcome;
+    fn words(state: &Self::State) -> Words;
     /// The numbers that go with the call, and the table's entries.
     fn asked(ask: Self::Ask<'_>) -> (Vec<u32>, Vec<u8>);
 }
+
+/// A state, in the order of its fields.
+pub type Words = [u32; 11];
 
 /// What the program reads, and what it prints where every call agrees.
 pub struct Files {
@@ -24,29 +24,34 @@ pub struct Files {
     pub stdout: String,
 }
 
+impl Files {
+    /// The list so far, and how many calls of each name are on it.
+    pub fn new(list: Records, calls: &[(&str, u64)]) -> Self {
+        let lines = calls.iter().map(|(name, n)| format!("{name} {n}\n"));
+        let all: u64 = calls.iter().map(|(_, n)| n).sum();
+        Files {
+            stdin: list.bytes,
+            stdout: lines.collect::<String>() + &format!("all {all} agree\n"),
+        }
+    }
+}
+
 /// The list, the same every time.
 pub fn files<K: Recorded>() -> Result<Files, String> {
     let mut list = List::<K> {
-        records: Vec::new(),
-        given: None,
-        handed_back: None,
+        records: Records::default(),
         counters: Counters::new(),
     };
     K::list(&mut list, &mut Rng::new(0))?;
     list.counters.missing(|_, _| true)?;
     let calls = K::CALLS.iter().enumerate();
-    let lines = calls.map(|(call, (name, _))| format!("{name} {}\n", list.counters.of_call(call)));
-    Ok(Files {
-        stdout: lines.collect::<String>() + &format!("all {} agree\n", list.counters.all()),
-        stdin: list.records,
-    })
+    let calls = calls.map(|(call, (name, _))| (*name, list.counters.of_call(call)));
+    Ok(Files::new(list.records, &calls.collect::<Vec<_>>()))
 }
 
 /// A sink that answers as the crate does behind document 01's table, and writes each call down.
 struct List<K: Recorded> {
-    records: Vec<u8>,
-    given: Option<Vec<u8>>,
-    handed_back: Option<K::State>,
+    records: Records,
     counters: Counters<K>,
 }
 
@@ -57,30 +62,18 @@ impl<K: Recorded> Sink<K> for List<K> {
         state: K::State,
         ask: K::Ask<'_>,
     ) -> Result<Answer<K::State>, String> {
-        if self.given.as_deref() != Some(bytes) {
-            self.record(0, 0, bytes);
-        }
         let before = bytes.to_vec();
         let answer = K::unopus(bytes, state, ask);
         self.counters.count(bytes.len(), &state, ask, &answer);
-
-        let chained = self.handed_back == Some(state);
-        let changed = before != bytes;
-        let (numbers, table) = K::asked(ask);
-        let mut rest = little_endian(&[answer.refusal, answer.value]);
-        rest.extend(little_endian(&K::words(&answer.state)));
-        rest.extend(little_endian(&numbers));
-        if !chained {
-            rest.extend(little_endian(&K::words(&state)));
-        }
-        rest.extend(table);
-        if changed {
-            rest.extend(&*bytes);
-        }
-        let how = u8::from(chained) + 2 * u8::from(changed);
-        self.record(K::call(ask) as u8 + 1, how, &rest);
-        self.given = Some(bytes.to_vec());
-        self.handed_back = Some(answer.state);
+        let (numbers, rest) = K::asked(ask);
+        self.records.call(&Recording {
+            call: K::call(ask) as u8 + 1,
+            bytes: (&before, bytes),
+            states: (K::words(&state), K::words(&answer.state)),
+            answer: [answer.refusal, answer.value],
+            numbers: &numbers,
+            rest: &rest,
+        });
         Ok(answer)
     }
 
@@ -89,11 +82,55 @@ impl<K: Recorded> Sink<K> for List<K> {
     }
 }
 
-impl<K: Recorded> List<K> {
+// ---- the layout
+
+/// A call with its answer; of bytes and states what was before it and what it left.
+pub struct Recording<'a> {
+    pub call: u8,
+    pub bytes: (&'a [u8], &'a [u8]),
+    pub states: (Words, Words),
+    pub answer: [u32; 2],
+    pub numbers: &'a [u32],
+    pub rest: &'a [u8],
+}
+
+/// Records one after the other.
+#[derive(Default)]
+pub struct Records {
+    bytes: Vec<u8>,
+    given: Option<Vec<u8>>,
+    handed_back: Option<Words>,
+}
+
+impl Records {
+    pub fn call(&mut self, recording: &Recording) {
+        let (before, after) = recording.bytes;
+        if self.given.as_deref() != Some(before) {
+            self.record(0, 0, before);
+        }
+        let (given, handed_back) = recording.states;
+        let chained = self.handed_back == Some(given);
+        let changed = before != after;
+        let mut rest = little_endian(&recording.answer);
+        rest.extend(little_endian(&handed_back));
+        rest.extend(little_endian(recording.numbers));
+        if !chained {
+            rest.extend(little_endian(&given));
+        }
+        rest.extend(recording.rest);
+        if changed {
+            rest.extend(after);
+        }
+        let how = u8::from(chained) + 2 * u8::from(changed);
+        self.record(recording.call, how, &rest);
+        self.given = Some(after.to_vec());
+        self.handed_back = Some(handed_back);
+    }
+
     fn record(&mut self, call: u8, how: u8, rest: &[u8]) {
-        self.records.extend((rest.len() as u16).to_le_bytes());
-        self.records.extend([call, how]);
-        self.records.extend(rest);
+        self.bytes.extend((rest.len() as u16).to_le_bytes());
+        self.bytes.extend([call, how]);
+        self.bytes.extend(rest);
     }
 }
 

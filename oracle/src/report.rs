@@ -1,6 +1,8 @@
 //! A difference, in the words that it takes to make it again.
 
 use crate::compare::{Answer, Kind};
+use crate::hold::Outcome;
+use std::fmt::Debug;
 
 /// As many bytes of a packet or buffer are printed from one place on.
 const SHOWN: usize = 32;
@@ -9,12 +11,12 @@ const SHOWN: usize = 32;
 pub type Left<'a, S> = (Option<Answer<S>>, &'a [u8]);
 
 /// The call, its bytes and state, and both sides' answers.
-pub fn difference<K: Kind>(
+pub fn difference<K: Kind, S: Debug>(
     bytes: &[u8],
     state: K::State,
-    ask: K::Ask<'_>,
-    (ours, our_bytes): Left<K::State>,
-    (theirs, their_bytes): Left<K::State>,
+    ask: &dyn Debug,
+    (ours, our_bytes): Left<S>,
+    (theirs, their_bytes): Left<S>,
 ) -> String {
     let mut lines = vec![
         format!("DIFFER: {ask:?}"),
@@ -38,7 +40,7 @@ pub fn difference<K: Kind>(
     lines.join("\n    ")
 }
 
-pub fn answer<S: std::fmt::Debug>(answer: Option<Answer<S>>) -> String {
+fn answer<S: Debug>(answer: Option<Answer<S>>) -> String {
     answer.map_or("panics".to_string(), |answer| format!("{answer:?}"))
 }
 
@@ -46,4 +48,13 @@ pub fn hex(bytes: &[u8]) -> String {
     let shown = bytes.iter().take(SHOWN).map(|byte| format!("{byte:02X} "));
     let more = if bytes.len() > SHOWN { ".." } else { "" };
     shown.collect::<String>() + more
+}
+
+/// That nothing is missing of what should have been compared.
+pub fn complete(missing: impl Iterator<Item = String>) -> Outcome {
+    let missing: Vec<String> = missing.collect();
+    if missing.is_empty() {
+        return Ok(());
+    }
+    Err(format!("NEVER COMPARED: {}", missing.join(", ")))
 }

@@ -167,7 +167,7 @@ fn any_model<'a>(rng: &mut Rng, tables: &'a [Table]) -> Model<'a> {
     }
 }
 
-fn accepted<S: std::fmt::Debug>(answer: Answer<S>) -> Result<Answer<S>, String> {
+pub fn accepted<S: std::fmt::Debug>(answer: Answer<S>) -> Result<Answer<S>, String> {
     match answer.refusal {
         0 => Ok(answer),
         _ => Err(format!("REFUSED: {answer:?}")),

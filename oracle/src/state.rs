@@ -1,6 +1,7 @@
 //! The state of a reader or writer beside its bytes, as our calls, the crate and libopus hold it.
 
 use crate::celt::entcode::ec_ctx;
+use std::fmt::Debug;
 
 /// The crate's `ec_ctx` without its buffer, as include/tignarops.h lays it out.
 #[repr(C)]
@@ -34,7 +35,7 @@ pub struct EcCtx<T> {
 }
 
 /// 32 bits, with a sign or without.
-pub trait Word: Copy {
+pub trait Word: Copy + Default + PartialEq + Debug {
     fn of(bits: u32) -> Self;
     fn bits(self) -> u32;
 }

@@ -21,7 +21,22 @@ pub fn hold_all() -> Result<(), String> {
         unopus::BOOKS
     );
     against_libopus()?;
+    probabilities()?;
     ends()
+}
+
+/// What the oracle's side of the writers of frames leans on: else some symbol would have to be refused.
+fn probabilities() -> Result<(), String> {
+    let rows = unopus::inverse_rows();
+    let empty = |row: &&Vec<u8>| row.windows(2).any(|pair| pair[0] == pair[1]);
+    if let Some(row) = rows.iter().find(empty) {
+        return Err(format!("NO PROBABILITY for a symbol of {row:?}"));
+    }
+    println!(
+        "tables: every symbol of the {} inverse rows has a probability",
+        rows.len()
+    );
+    Ok(())
 }
 
 #[cfg(libopus)]

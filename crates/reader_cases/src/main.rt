@@ -7,27 +7,10 @@ use entcode::Dec;
 use entcode::Decoded;
 use libc::STDIN_FILENO;
 use records::Place;
+use records::reader_run;
 use records::word_run;
 
 // ---- one call
-
-fn state(buf: &[u8], at: usize) -> Dec
-    requires { ⌜ at + 44 ≤ length (now buf) ⌝ }
-{
-    Dec {
-        storage: word_run(buf, at),
-        endoffs: word_run(buf, at + 4),
-        window: word_run(buf, at + 8),
-        wbits: word_run(buf, at + 12),
-        total: word_run(buf, at + 16),
-        offs: word_run(buf, at + 20),
-        rng: word_run(buf, at + 24),
-        val: word_run(buf, at + 28),
-        ext: word_run(buf, at + 32),
-        rem: word_run(buf, at + 36),
-        error: word_run(buf, at + 40),
-    }
-}
 
 // Calls 1 to 6.
 fn ask(call: u8, packet: &[u8], d: Dec, number: u32, table: &[u8]) -> Decoded {
@@ -49,27 +32,12 @@ fn ask(call: u8, packet: &[u8], d: Dec, number: u32, table: &[u8]) -> Decoded {
     tignarops::tg_dec_bits(packet, d, number)
 }
 
-fn same_state(a: Dec, b: Dec) -> bool {
-    (a.storage == b.storage)
-        & (a.endoffs == b.endoffs)
-        & (a.window == b.window)
-        & (a.wbits == b.wbits)
-        & (a.total == b.total)
-        & (a.offs == b.offs)
-        & (a.rng == b.rng)
-        & (a.val == b.val)
-        & (a.ext == b.ext)
-        & (a.rem == b.rem)
-        & (a.error == b.error)
-}
-
 // Whether the call's answer is the 13 numbers at `at`.
 fn agrees(buf: &[u8], at: usize, a: Decoded) -> bool
     requires { ⌜ at + 52 ≤ length (now buf) ⌝ }
 {
-    (a.refusal == word_run(buf, at))
-        & (a.value == word_run(buf, at + 4))
-        & same_state(a.state, state(buf, at + 8))
+    let should = records::decoded_run(buf, at);
+    records::same_decoded(a, should)
 }
 
 // ---- one record
@@ -83,7 +51,7 @@ fn run(buf: &[u8], p: Place, call: u8, at: usize, before: usize, tail: usize, en
 {
     let from = p.from;
     let to = p.to;
-    let d = state(buf, before);
+    let d = reader_run(buf, before);
     let number = word_run(buf, at + 52);
     let a = ask(call, &buf[from..to], d, number, &buf[tail..end]);
     if agrees(buf, at, a) {

@@ -6,90 +6,26 @@ ghost use lib.ListN.{length};
 ghost use Rattle.records.specs.Places.{Placed};
 use libc::STDIN_FILENO;
 use records::Place;
+use records::fill_run;
 use records::word_run;
 use spectrum::Moves;
 use spectrum::Spectrum;
 
-// ---- numbers with a sign
+// ---- one call
 
-fn small(bits: u8) -> i8 {
-    if bits < 128 {
-        bits as i8
-    } else {
-        !((255 - bits) as i8)
-    }
-}
-
-fn signed(bits: u32) -> i16
-    requires { ⌜ bits < 65536 ⌝ }
+// The 17 indices.
+fn indices(bytes: &[u8]) -> Spectrum
+    requires { ⌜ 17 ≤ length (now bytes) ⌝ }
 {
-    if bits < 32768 {
-        bits as i16
-    } else {
-        !((65535 - bits) as i16)
-    }
-}
-
-fn wide(x: u8) -> u32
-    ensures { λ r. ⌜ r < 256 ⌝ }
-{
-    x as u32
-}
-
-fn value(low: u8, high: u8) -> i16 {
-    signed(wide(low) + 256 * wide(high))
-}
-
-// The values that the bytes hold, as many as there is room for.
-fn fill(values: &mut [i16], bytes: &[u8])
-    requires { ⌜ 2 * length (now values) ≤ length (now bytes) ⌝ }
-{
-    let mut i = 0;
-    while i < values.len() {
-        let x = value(bytes[2 * i], bytes[2 * i + 1]);
-        values[i] = x;
-        i += 1;
-    }
-}
-
-fn same(values: &[i16], bytes: &[u8]) -> bool
-    requires { ⌜ 2 * length (now values) ≤ length (now bytes) ⌝ }
-{
-    let mut ok = true;
-    let mut i = 0;
-    while i < values.len() {
-        let x = value(bytes[2 * i], bytes[2 * i + 1]);
-        ok = (values[i] == x) & ok;
-        i += 1;
-    }
-    ok
-}
-
-// The byte at i, 0 past the end.
-fn byte_at(bytes: &[u8], i: usize) -> u8 {
-    if i < bytes.len() {
-        return bytes[i];
-    }
-    0
-}
-
-fn indices(bytes: &[u8]) -> Spectrum {
     let mut index = [0i8; 17];
-    let mut i = 0;
-    while i < 17 {
-        let x = small(byte_at(bytes, i));
-        index[i] = x;
-        i += 1;
-    }
+    records::fill_small_run(&mut index, bytes);
     Spectrum { index: index }
 }
-
-// ---- one call
 
 fn stabilise_in(vector: &mut [i16], gaps: &mut [i16], tail: &[u8]) -> Moves
     requires { ⌜ 2 * length (now gaps) ≤ length (now tail) ⌝ }
 {
-    fill(gaps, tail);
+    fill_run(gaps, tail);
     nlsf_stabilize::silk_NLSF_stabilize(vector, gaps)
 }
 
@@ -101,13 +37,15 @@ fn stabilise(vector: &mut [i16], tail: &[u8]) -> Moves
     stabilise_in(vector, &mut space[0..m], tail)
 }
 
-// Calls 1 and 2.
+// Calls 1, whose record has 17 indices, and 2.
 fn ask(call: u8, vector: &mut [i16], khz: u32, tail: &[u8]) -> Moves
     requires { ⌜ length (now tail) ≤ 36 ⌝ }
 {
     if call == 1 {
-        let s = indices(tail);
-        return nlsf_decode::silk_NLSF_decode(vector, s, khz);
+        if tail.len() == 17 {
+            let s = indices(tail);
+            return nlsf_decode::silk_NLSF_decode(vector, s, khz);
+        }
     }
     stabilise(vector, tail)
 }
@@ -125,9 +63,9 @@ fn agrees_in(
     requires { ⌜ length (now tail) ≤ 36 ⌝ }
     requires { ⌜ (2 * length (now vector) ≤ length (now before)) × (2 * length (now vector) ≤ length (now after)) ⌝ }
 {
-    fill(vector, before);
+    fill_run(vector, before);
     let a = ask(call, vector, khz, tail);
-    let left = same(vector, after);
+    let left = records::same_run(vector, after);
     (a.refusal == should.refusal) & ((a.moves == should.moves) & left)
 }
 

@@ -9,35 +9,9 @@ use entcode::Encoded;
 use libc::STDIN_FILENO;
 use records::Place;
 use records::word_run;
+use records::writer_run;
 
 // ---- one call
-
-// The number with a sign that has these bits.
-fn signed(bits: u32) -> i32 {
-    if bits < 0x80000000 {
-        bits as i32
-    } else {
-        !((0xFFFFFFFF - bits) as i32)
-    }
-}
-
-fn state(buf: &[u8], at: usize) -> Enc
-    requires { ⌜ at + 44 ≤ length (now buf) ⌝ }
-{
-    Enc {
-        storage: word_run(buf, at),
-        endoffs: word_run(buf, at + 4),
-        window: word_run(buf, at + 8),
-        wbits: word_run(buf, at + 12),
-        total: word_run(buf, at + 16),
-        offs: word_run(buf, at + 20),
-        rng: word_run(buf, at + 24),
-        val: word_run(buf, at + 28),
-        ext: word_run(buf, at + 32),
-        rem: signed(word_run(buf, at + 36)),
-        error: signed(word_run(buf, at + 40)),
-    }
-}
 
 // What is asked: calls 1 to 7.
 struct Call {
@@ -70,60 +44,6 @@ fn ask(c: Call, lent: &mut [u8], table: &[u8]) -> Encoded {
     tignarops::tg_enc_done(lent, w)
 }
 
-fn same_state(a: Enc, b: Enc) -> bool {
-    (a.storage == b.storage)
-        & (a.endoffs == b.endoffs)
-        & (a.window == b.window)
-        & (a.wbits == b.wbits)
-        & (a.total == b.total)
-        & (a.offs == b.offs)
-        & (a.rng == b.rng)
-        & (a.val == b.val)
-        & (a.ext == b.ext)
-        & (a.rem == b.rem)
-        & (a.error == b.error)
-}
-
-// The answer whose 13 numbers start at `at`.
-fn answer(buf: &[u8], at: usize) -> Encoded
-    requires { ⌜ at + 52 ≤ length (now buf) ⌝ }
-{
-    let s = state(buf, at + 8);
-    Encoded {
-        refusal: word_run(buf, at),
-        value: word_run(buf, at + 4),
-        state: s,
-    }
-}
-
-// ---- the buffer
-
-fn copy(from: &[u8], to: &mut [u8])
-    requires { ⌜ length (now from) ≤ length (now to) ⌝ }
-{
-    let mut i = 0;
-    while i < from.len() {
-        to[i] = from[i];
-        i += 1;
-    }
-}
-
-// Whether b begins with a.
-fn begins(a: &[u8], b: &[u8]) -> bool {
-    let mut i = 0;
-    while i < a.len() {
-        if i < b.len() {
-            if a[i] != b[i] {
-                return false;
-            }
-        } else {
-            return false;
-        }
-        i += 1;
-    }
-    true
-}
-
 // Whether the call on a copy of `before` answers what it should, and leaves `after`.
 fn agrees(
     c: Call,
@@ -135,13 +55,9 @@ fn agrees(
 ) -> bool
     requires { ⌜ length (now before) ≤ length (now lent) ⌝ }
 {
-    copy(before, lent);
+    records::copy_run(before, lent);
     let a = ask(c, lent, table);
-    (a.refusal == should.refusal)
-        & (a.value == should.value)
-        & same_state(a.state, should.state)
-        & (after.len() == lent.len())
-        & begins(after, lent)
+    records::same_encoded(a, should) & (after.len() == lent.len()) & records::begins(after, lent)
 }
 
 // The same, where there is space for a copy.
@@ -186,8 +102,8 @@ fn run(buf: &[u8], p: Place, call: u8, s: Parts, next: usize) -> Place
     let end = s.end;
     let left = s.from;
     let right = s.to;
-    let given = state(buf, s.state);
-    let should = answer(buf, at);
+    let given = writer_run(buf, s.state);
+    let should = records::encoded_run(buf, at);
     let c = Call {
         call: call,
         given: given,

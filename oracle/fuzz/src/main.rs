@@ -5,10 +5,9 @@
 
 use oracle::compare::Answer;
 use oracle::domain::{guarded, pulses_of};
-use oracle::frames::indices::{self, Held};
-use oracle::frames::{pulses, Frame};
+use oracle::frames::indices::{self, Kept, Record};
+use oracle::frames::{pulses, Frame, Left, Size, StateOf};
 use oracle::ours;
-use oracle::state::Reader;
 
 const NUMBERS: usize = 8;
 
@@ -29,16 +28,15 @@ pub unsafe extern "C" fn LLVMFuzzerTestOneInput(data: *const u8, size: usize) ->
 fn frame(numbers: &[u8; NUMBERS], packet: &mut [u8]) {
     let call = setting(numbers);
     let opened = ours::dec_open(packet).state;
-    let side = same(&call, packet, opened);
-    let (reader, held) = side.state;
+    let side = same::<indices::Read>(&call, packet, opened);
+    let (reader, (record, _)) = side.state;
     let pulses = pulses::Call {
-        khz: call.khz,
-        subframes: call.subframes,
-        signal_type: held.record.signal_type as u32,
-        offset_type: held.record.offset_type as u32,
-        pulses: vec![-1; pulses_of(call.khz, call.subframes)],
+        size: call.size,
+        signal_type: record.signal_type as u32,
+        offset_type: record.offset_type as u32,
+        pulses: vec![-1; pulses_of(call.size)],
     };
-    same(&pulses, packet, reader);
+    same::<pulses::Read>(&pulses, packet, reader);
 }
 
 /// Most often numbers that document 01 accepts.
@@ -48,25 +46,29 @@ fn setting(n: &[u8; NUMBERS]) -> indices::Call {
         None => byte.into(),
     };
     indices::Call {
-        khz: of(n[0], &[8, 12, 16]),
-        subframes: of(n[1], &[2, 4]),
+        size: Size {
+            khz: of(n[0], &[8, 12, 16]),
+            subframes: of(n[1], &[2, 4]),
+        },
         active: of(n[2], &[0, 1]),
         mode: of(n[3], &[0, 1, 2]),
-        held: Held {
+        record: Record::default(),
+        kept: Kept {
             prev_type: of(n[4], &[0, 1, 2]),
             prev_lag: i16::from_be_bytes([n[5], n[6]]),
-            ..Held::default()
         },
     }
 }
 
-fn same<C: Frame>(call: &C, packet: &mut [u8], reader: Reader) -> Answer<(Reader, C::Held)> {
-    let ours = call.ours(packet, reader);
-    let unchanged = (reader, call.held().clone());
-    let refusal = call.refusal(packet, &reader);
-    let theirs = guarded(refusal, unchanged, || (0, call.unopus(packet, reader)));
+fn same<C: Frame>(call: &C::Given, packet: &mut [u8], reader: StateOf<C>) -> Answer<Left<C>> {
+    let ours = C::ours(call, packet, reader);
+    let refusal = C::refusal(call, packet, &reader);
+    let unchanged = (reader, C::held(call));
+    let theirs = guarded(refusal, unchanged, || (0, C::unopus(call, packet, reader)));
     if ours != theirs {
-        eprintln!("DIFFER: {call:?}\n    on {reader:?}\n    ours:   {ours:?}\n    theirs: {theirs:?}");
+        eprintln!(
+            "DIFFER: {call:?}\n    on {reader:?}\n    ours:   {ours:?}\n    theirs: {theirs:?}"
+        );
         std::process::abort();
     }
     ours

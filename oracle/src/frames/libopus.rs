@@ -1,13 +1,14 @@
 //! libopus's calls: the static library's internal functions of silk/main.h.
 
-use super::indices::{self, Held, Record};
+use super::indices::{self, Kept, Record};
 use super::pulses;
+use crate::domain::order;
 use crate::libopus::{
     silk_NLSF_CB_NB_MB, silk_NLSF_CB_WB, silk_pitch_contour_10_ms_NB_iCDF,
     silk_pitch_contour_10_ms_iCDF, silk_pitch_contour_NB_iCDF, silk_pitch_contour_iCDF,
     silk_uniform4_iCDF, silk_uniform6_iCDF, silk_uniform8_iCDF,
 };
-use crate::state::{EcCtx, Reader};
+use crate::state::{EcCtx, Reader, State, Writer};
 use std::ffi::c_void;
 use std::mem::zeroed;
 use std::ptr::from_ref;
@@ -36,6 +37,16 @@ pub struct Decoder {
 }
 
 extern "C" {
+    fn ec_enc_icdf(ctx: *mut EcCtx<i32>, s: i32, icdf: *const u8, ftb: u32);
+    fn silk_shell_encoder(ctx: *mut EcCtx<i32>, pulses: *const i32);
+    fn silk_encode_signs(
+        ctx: *mut EcCtx<i32>,
+        pulses: *const i8,
+        length: i32,
+        signal_type: i32,
+        offset_type: i32,
+        sum_pulses: *const i32,
+    );
     fn silk_decode_indices(
         decoder: *mut Decoder,
         ctx: *mut EcCtx<u32>,
@@ -53,32 +64,35 @@ extern "C" {
 }
 
 /// The state and what is left after a call that document 01 accepts.
-pub fn indices(call: &indices::Call, packet: &mut [u8], reader: Reader) -> (Reader, Held) {
+pub fn indices(
+    call: &indices::Call,
+    packet: &mut [u8],
+    reader: Reader,
+) -> (Reader, (Record, Kept)) {
     let mut ctx = beside(packet, reader);
     let mut decoder = decoder(call);
     // SAFETY: a sound reader beside its packet, and all that the call looks at of the decoder.
     unsafe { silk_decode_indices(&mut decoder, &mut ctx, 0, 0, call.mode as i32) };
-    let held = Held {
-        record: decoder.record,
+    let kept = Kept {
         prev_type: decoder.prev_type as u32,
         prev_lag: decoder.prev_lag,
     };
-    (ctx.fields, held)
+    (ctx.fields, (decoder.record, kept))
 }
 
 /// With all that a call on side indices looks at.
 pub fn decoder(call: &indices::Call) -> Decoder {
     Decoder {
-        khz: call.khz as i32,
-        subframes: call.subframes as i32,
-        order: call.order() as i32,
-        low_bits: low_bits(call.khz),
-        contours: contours(call.khz, call.subframes),
-        prev_type: call.held.prev_type as i32,
-        prev_lag: call.held.prev_lag,
+        khz: call.size.khz as i32,
+        subframes: call.size.subframes as i32,
+        order: order(call.size.khz) as i32,
+        low_bits: low_bits(call.size.khz),
+        contours: contours(call.size.khz, call.size.subframes),
+        prev_type: call.kept.prev_type as i32,
+        prev_lag: call.kept.prev_lag,
         active: [call.active as i32, 0, 0],
-        book: book(call.khz),
-        record: call.held.record,
+        book: book(call.size.khz),
+        record: call.record,
         // SAFETY: numbers and pointers, which may be 0.
         ..unsafe { zeroed() }
     }
@@ -95,15 +109,46 @@ pub fn pulses(call: &pulses::Call, packet: &mut [u8], reader: Reader) -> (Reader
             pulses.as_mut_ptr(),
             call.signal_type as i32,
             call.offset_type as i32,
-            (5 * call.khz * call.subframes) as i32,
+            call.size.length(),
         )
     };
     (ctx.fields, pulses)
 }
 
-fn beside(packet: &mut [u8], fields: Reader) -> EcCtx<u32> {
+/// The state after a writing that document 01 accepts.
+pub fn write_pulses(
+    given: &pulses::Levelled,
+    shifts: &[usize],
+    buffer: &mut [u8],
+    writer: Writer,
+) -> Writer {
+    let mut ctx = beside(buffer, writer);
+    pulses::write(given, shifts, &mut ctx);
+    ctx.fields
+}
+
+impl pulses::Pieces for EcCtx<i32> {
+    fn symbol(&mut self, symbol: u32, row: &[u8]) {
+        // SAFETY: a sound writer beside its buffer, and a symbol of the row.
+        unsafe { ec_enc_icdf(self, symbol as i32, row.as_ptr(), 8) }
+    }
+
+    fn splits(&mut self, shifted: &[i32; 16]) {
+        // SAFETY: a block has 16 places.
+        unsafe { silk_shell_encoder(self, shifted.as_ptr()) }
+    }
+
+    fn signs(&mut self, call: &pulses::Call, signs: &[i8], sums: &[i32]) {
+        let (signal, offset) = (call.signal_type as i32, call.offset_type as i32);
+        let (signs, length) = (signs.as_ptr(), call.size.length());
+        // SAFETY: there are 16 pulses and a sum for each block.
+        unsafe { silk_encode_signs(self, signs, length, signal, offset, sums.as_ptr()) }
+    }
+}
+
+fn beside<T>(bytes: &mut [u8], fields: State<T>) -> EcCtx<T> {
     EcCtx {
-        buf: packet.as_mut_ptr(),
+        buf: bytes.as_mut_ptr(),
         fields,
     }
 }

@@ -1,109 +1,141 @@
-//! The calls that read a frame: ours beside the crate's and libopus's.
+//! The calls on a frame: ours beside the crate's and libopus's.
 
 pub mod indices;
 #[cfg(libopus)]
 pub mod libopus;
+mod listed;
 mod plans;
 pub mod pulses;
 mod tally;
+mod whole;
 
-use crate::compare::Answer;
-use crate::domain;
+use crate::coder::Coder;
+use crate::compare::{Answer, Kind};
 use crate::hold::Outcome;
-use crate::report;
 use crate::rng::Rng;
-use crate::state::Reader;
 use std::fmt::Debug;
-use std::panic::{catch_unwind, AssertUnwindSafe};
 use tally::Tally;
 
-/// A call that reads a frame, with all that it is given besides packet and reader.
-pub trait Frame: Clone + Debug + 'static {
-    /// What the call hands over and gets back.
-    type Held: Clone + PartialEq + Debug;
+pub use listed::files;
+
+/// The rate in kHz and the number of subframes.
+#[derive(Clone, Copy, Debug)]
+pub struct Size {
+    pub khz: u32,
+    pub subframes: u32,
+}
+
+impl Size {
+    fn all() -> impl Iterator<Item = Size> {
+        let each = |khz| [2, 4].map(|subframes| Size { khz, subframes });
+        [8, 12, 16].into_iter().flat_map(each)
+    }
+
+    /// Each takes one of the two out of its range.
+    const OUTSIDE: [fn(&mut Size); 6] = [
+        |size| size.khz -= 1,
+        |size| size.khz += 1,
+        |size| size.khz = u32::MAX,
+        |size| size.subframes -= 1,
+        |size| size.subframes += 1,
+        |size| size.subframes = u32::MAX,
+    ];
+
+    /// "Frame length is 5 x kHz x subframes."
+    fn length(self) -> i32 {
+        (5 * self.khz * self.subframes) as i32
+    }
+}
+
+/// What a call on a frame is given besides bytes and state.
+pub trait Given: Clone + Debug + 'static {
+    /// Every choice of numbers that document 01 accepts.
+    fn all() -> Vec<Self>;
+    /// The numbers, those of the size first.
+    fn numbers(&self) -> [u32; 5];
+    fn size(&mut self) -> &mut Size;
+    /// Each takes one number or length, besides the size, out of its range, most often by one.
+    fn outside() -> Vec<Change<Self>>;
+}
+
+pub type Change<G> = Box<dyn Fn(&mut G)>;
+
+/// A call on a frame.
+pub trait Frame {
+    /// The reader or the writer.
+    type Coder: Coder;
+    type Given: Given;
+    /// What the call hands back besides the state.
+    type Held: PartialEq + Debug;
 
     const NAME: &'static str;
-    const WAYS: &'static [&'static str];
+    /// Ways that an accepted call can take, in lists one after the other.
+    const WAYS: &'static [&'static [&'static str]];
     /// The numbers of document 01's table that can refuse it.
     const REFUSALS: &'static [usize];
     /// So many calls under each choice of numbers are compared with the crate's.
     const EACH: u32;
 
-    /// Every choice of numbers that document 01 accepts.
-    fn all() -> Vec<Self>;
-    /// Takes one number or length out of its range, most often by one.
-    fn outside() -> &'static [fn(&mut Self)];
-    /// Hands over something else, at random.
-    fn refill(&mut self, rng: &mut Rng);
-    fn held(&self) -> &Self::Held;
+    /// Gives something else besides the numbers, at random.
+    fn refill(call: &mut Self::Given, rng: &mut Rng);
+    /// A share, 1 for all, of the calls at the limits of what is given besides the numbers.
+    fn at_limits(_: &mut Rng, _share: u32, _: &mut Put<Self>) -> Outcome {
+        Ok(())
+    }
+    /// What a refused call hands back.
+    fn held(call: &Self::Given) -> Self::Held;
 
-    fn refusal(&self, packet: &[u8], reader: &Reader) -> u32;
-    fn ours(&self, packet: &mut [u8], reader: Reader) -> Answer<(Reader, Self::Held)>;
-    /// The crate's call, and libopus's, which document 01 accepts.
-    fn unopus(&self, packet: &mut [u8], reader: Reader) -> (Reader, Self::Held);
-    #[cfg(libopus)]
-    fn libopus(&self, packet: &mut [u8], reader: Reader) -> (Reader, Self::Held);
+    fn refusal(call: &Self::Given, bytes: &[u8], state: &StateOf<Self>) -> u32;
+    fn ours(call: &Self::Given, bytes: &mut [u8], state: StateOf<Self>) -> Answer<Left<Self>>;
+    /// The crate's call, which document 01 accepts.
+    fn unopus(call: &Self::Given, bytes: &mut [u8], state: StateOf<Self>) -> Left<Self>;
 
     /// Marks the places in `WAYS` of the ways that an accepted call took.
     fn took(
-        &self,
-        packet: &mut [u8],
-        before: Reader,
-        after: &Self::Held,
+        call: &Self::Given,
+        bytes: &mut [u8],
+        before: StateOf<Self>,
+        after: &Left<Self>,
         mark: impl FnMut(usize, bool),
     );
 }
 
-/// The crate's call or libopus's.
-type Side<C> = fn(&C, &mut [u8], Reader) -> (Reader, <C as Frame>::Held);
-
-/// Every kHz with every number of subframes.
-fn sizes() -> impl Iterator<Item = (u32, u32)> {
-    [8, 12, 16].into_iter().flat_map(|khz| [(khz, 2), (khz, 4)])
+/// A call on a frame that libopus has too.
+#[cfg(libopus)]
+pub trait InLibopus: Frame {
+    /// libopus's call, which document 01 accepts.
+    fn libopus(call: &Self::Given, bytes: &mut [u8], state: StateOf<Self>) -> Left<Self>;
 }
+
+/// Takes the calls of a plan.
+pub type Put<'a, C> = dyn FnMut(&mut [u8], StateOf<C>, &<C as Frame>::Given) -> Outcome + 'a;
+
+pub type StateOf<C> = <<C as Frame>::Coder as Kind>::State;
+
+/// The state and what else the call hands back.
+pub type Left<C> = (StateOf<C>, <C as Frame>::Held);
+
+/// The crate's call or libopus's.
+type Side<C> = fn(&<C as Frame>::Given, &mut [u8], StateOf<C>) -> Left<C>;
 
 pub fn hold(seed: u64) -> Outcome {
-    both::<indices::Call>(seed)?;
-    both::<pulses::Call>(seed)
+    both::<indices::Read>(seed)?;
+    both::<pulses::Read>(seed)?;
+    crate_alone::<indices::Write>(seed)?;
+    both::<pulses::Write>(seed)?;
+    pulses::crate_writer::hold(seed)?;
+    whole::hold(seed).map_err(|e| format!("frames: {e}"))
 }
 
-fn both<C: Frame>(seed: u64) -> Outcome {
-    to_the_crate::<C>(seed, 1)
-        .map(|tally| tally.show("the crate's"))
-        .and_then(|()| to_libopus::<C>(seed))
-        .map_err(|e| format!("{}: {e}", C::NAME))
-}
-
-fn to_the_crate<C: Frame>(seed: u64, share: u32) -> Result<Tally<C>, String> {
-    let (mut tally, mut rng) = (Tally::default(), Rng::new(seed));
-    let mut put = |packet: &mut [u8], reader, call: &C| {
-        let refusal = call.refusal(packet, &reader);
-        equal(packet, reader, call, (C::unopus, refusal), &mut tally)
-    };
-    plans::accepted(&mut rng, C::EACH / share, &mut put)?;
-    plans::refused(&mut rng, &mut put)?;
-    tally.missing(C::REFUSALS)?;
-    Ok(tally)
-}
-
-/// The calls that document 01 accepts: libopus refuses nothing.
 #[cfg(libopus)]
-fn to_libopus<C: Frame>(seed: u64) -> Outcome {
-    let (mut tally, mut rng) = (Tally::default(), Rng::new(seed));
-    plans::accepted(
-        &mut rng,
-        C::EACH / 4,
-        &mut |packet, reader, call: &C| match call.refusal(packet, &reader) {
-            0 => equal(packet, reader, call, (C::libopus, 0), &mut tally),
-            _ => Ok(()),
-        },
-    )?;
-    tally.show("libopus's");
-    tally.missing(&[])
+fn both<C: InLibopus>(seed: u64) -> Outcome {
+    crate_alone::<C>(seed)?;
+    to_libopus::<C>(seed).map_err(|e| format!("{}: {e}", C::NAME))
 }
 
 #[cfg(not(libopus))]
-fn to_libopus<C: Frame>(_: u64) -> Outcome {
+fn both<C: Frame>(seed: u64) -> Outcome {
+    crate_alone::<C>(seed)?;
     println!(
         "{}: no libopus.a; comparison with libopus left out",
         C::NAME
@@ -111,39 +143,47 @@ fn to_libopus<C: Frame>(_: u64) -> Outcome {
     Ok(())
 }
 
-/// That a small share of all calls, built with overflow checks, overflows nowhere in the crate.
-pub fn no_overflow(seed: u64) -> Outcome {
-    to_the_crate::<indices::Call>(seed, 16)?.show_overflow();
-    to_the_crate::<pulses::Call>(seed, 16)?.show_overflow();
+fn crate_alone<C: Frame>(seed: u64) -> Outcome {
+    let tally = to_the_crate::<C>(seed, 1).map_err(|e| format!("{}: {e}", C::NAME))?;
+    tally.show("the crate's");
     Ok(())
 }
 
-/// Puts a call to our side, and to the other behind document 01's table of refusals.
-fn equal<C: Frame>(
-    packet: &mut [u8],
-    reader: Reader,
-    call: &C,
-    (side, refusal): (Side<C>, u32),
-    tally: &mut Tally<C>,
-) -> Outcome {
-    let ours = call.ours(packet, reader);
-    let unchanged = (reader, call.held().clone());
-    // The crate panics where an index or, with overflow checks, a sum leaves its range.
-    let theirs = catch_unwind(AssertUnwindSafe(|| {
-        domain::guarded(refusal, unchanged, || (0, side(call, packet, reader)))
-    }))
-    .ok();
-    if theirs.as_ref() != Some(&ours) {
-        let place = packet.get(reader.offs as usize..).unwrap_or_default();
-        return Err(format!(
-            "DIFFER: {call:?}\n    {} bytes: {}\n    from the front's place: {}\n    on {reader:?}\n    ours:   {}\n    theirs: {}",
-            packet.len(),
-            report::hex(packet),
-            report::hex(place),
-            report::answer(Some(ours)),
-            report::answer(theirs)
-        ));
-    }
-    tally.count(packet, reader, call, &ours);
+fn to_the_crate<C: Frame>(seed: u64, share: u32) -> Result<Tally<C>, String> {
+    let (mut tally, mut rng) = (Tally::<C>::default(), Rng::new(seed));
+    let mut put = |bytes: &mut [u8], state, call: &C::Given| {
+        let refusal = C::refusal(call, bytes, &state);
+        tally.equal(bytes, state, call, (C::unopus, refusal))
+    };
+    plans::accepted::<C>(&mut rng, C::Given::all(), C::EACH / share, &mut put)?;
+    plans::refused::<C>(&mut rng, &mut put)?;
+    C::at_limits(&mut rng, share, &mut put)?;
+    tally.missing(C::REFUSALS)?;
+    Ok(tally)
+}
+
+/// The calls that document 01 accepts: libopus refuses nothing.
+#[cfg(libopus)]
+fn to_libopus<C: InLibopus>(seed: u64) -> Outcome {
+    let (mut tally, mut rng) = (Tally::<C>::default(), Rng::new(seed));
+    plans::accepted::<C>(
+        &mut rng,
+        C::Given::all(),
+        C::EACH / 4,
+        &mut |bytes, state, call| match C::refusal(call, bytes, &state) {
+            0 => tally.equal(bytes, state, call, (C::libopus, 0)),
+            _ => Ok(()),
+        },
+    )?;
+    tally.show("libopus's");
+    tally.missing(&[])
+}
+
+/// That a small share of all calls, built with overflow checks, overflows nowhere in the crate.
+pub fn no_overflow(seed: u64) -> Outcome {
+    to_the_crate::<indices::Read>(seed, 16)?.show_overflow();
+    to_the_crate::<pulses::Read>(seed, 16)?.show_overflow();
+    to_the_crate::<indices::Write>(seed, 16)?.show_overflow();
+    to_the_crate::<pulses::Write>(seed, 16)?.show_overflow();
     Ok(())
 }

@@ -1,24 +1,25 @@
 //! Which calls are compared.
 
-use super::Frame;
+use super::{Change, Frame, Given, Put, Size};
 use crate::bytes::{fill, Bytes, Fill, FILLS};
+use crate::coder::Coder;
+use crate::compare::Sides;
 use crate::domain::{LAST_TOTAL, LONGEST, SOUND_TOTALS};
 use crate::hold::Outcome;
 use crate::models::{self, Entries};
-use crate::ours;
-use crate::reader::{breaks, sound};
 use crate::rng::Rng;
-use crate::state::Reader;
+use crate::state::State;
 
-/// So many calls under each choice of numbers, on packets and readers of all kinds; those of a total
+/// So many calls under each of these choices of numbers, on bytes and states of all kinds; those of a total
 /// that is too high are refused.
 pub fn accepted<C: Frame>(
     rng: &mut Rng,
+    calls: Vec<C::Given>,
     each: u32,
-    put: &mut impl FnMut(&mut [u8], Reader, &C) -> Outcome,
+    put: &mut Put<C>,
 ) -> Outcome {
     let mut bytes: Bytes = [0; LONGEST + 1];
-    for mut call in C::all() {
+    for mut call in calls {
         let mut length = 0;
         for n in 0..each {
             if n % 8 == 0 {
@@ -30,60 +31,95 @@ pub fn accepted<C: Frame>(
                 };
                 fill(rng, &mut bytes[..length], kind);
             }
-            let packet = &mut bytes[..length];
-            let reader = any_reader(rng, packet);
-            call.refill(rng);
-            put(packet, reader, &call)?;
+            let bytes = &mut bytes[..length];
+            let state = any_state::<C::Coder>(rng, bytes);
+            C::refill(&mut call, rng);
+            put(bytes, state, &call)?;
         }
     }
     Ok(())
 }
 
-/// A fresh reader, one after some symbols, or any sound one.
-fn any_reader(rng: &mut Rng, packet: &[u8]) -> Reader {
+/// A fresh state, one after some symbols, or any sound one.
+pub fn any_state<K: Coder>(rng: &mut Rng, bytes: &mut [u8]) -> K::State {
     let symbols = match rng.between(0, 2) {
         0 => 0,
         1 => rng.between(1, 40),
-        _ => return sound(rng, packet.len()),
+        _ => return K::sound(rng, bytes.len()),
     };
     let mut entries: Entries = [0; 257];
-    let mut answer = ours::dec_open(packet);
+    let mut answer = K::unopus(bytes, State::default(), K::open());
     for _ in 0..symbols {
         let model = models::any(rng, &mut entries, answer.value);
-        answer = ours::dec(packet, answer.state, model);
+        let symbol = K::any(rng, model);
+        answer = K::unopus(bytes, answer.state, symbol);
     }
     answer.state
 }
 
-/// A packet too long, each rule of a sound reader broken, totals at the limit and above it; each with
-/// numbers in their ranges and with each of them outside, since the first check decides.
-pub fn refused<C: Frame>(
-    rng: &mut Rng,
-    put: &mut impl FnMut(&mut [u8], Reader, &C) -> Outcome,
-) -> Outcome {
+/// States that refuse every call; each with numbers in their ranges and with each of them outside,
+/// since the first check decides.
+pub fn refused<C: Frame>(rng: &mut Rng, put: &mut Put<C>) -> Outcome {
     let mut bytes: Bytes = [0; LONGEST + 1];
     rng.fill(&mut bytes);
-    for call in C::all() {
-        for change in [(|_| {}) as fn(&mut C)].iter().chain(C::outside()) {
+    for call in C::Given::all() {
+        for change in changes::<C::Given>() {
             let mut call = call.clone();
-            call.refill(rng);
+            C::refill(&mut call, rng);
             change(&mut call);
-            put(&mut bytes, sound(rng, LONGEST + 1), &call)?;
-            let length = rng.or_end(0, LONGEST as u32) as usize;
-            let packet = &mut bytes[..length];
-            for break_rule in breaks() {
-                let mut reader = sound(rng, length);
-                break_rule(&mut reader);
-                put(packet, reader, &call)?;
-            }
-            for nbits_total in [LAST_TOTAL, LAST_TOTAL + 1, *SOUND_TOTALS.end()] {
-                let reader = Reader {
-                    nbits_total,
-                    ..sound(rng, length)
-                };
-                put(packet, reader, &call)?;
-            }
+            on_refusing_states::<C>(rng, &mut bytes, &call, put)?;
         }
     }
     Ok(())
+}
+
+/// Too many bytes, each rule of a sound state broken, totals at the limit and above it.
+fn on_refusing_states<C: Frame>(
+    rng: &mut Rng,
+    bytes: &mut Bytes,
+    call: &C::Given,
+    put: &mut Put<C>,
+) -> Outcome {
+    put(bytes, C::Coder::sound(rng, LONGEST + 1), call)?;
+    let length = rng.or_end(0, LONGEST as u32) as usize;
+    let bytes = &mut bytes[..length];
+    for break_rule in C::Coder::breaks() {
+        let mut state = C::Coder::sound(rng, length);
+        break_rule(&mut state);
+        put(bytes, state, call)?;
+    }
+    for nbits_total in [LAST_TOTAL, LAST_TOTAL + 1, *SOUND_TOTALS.end()] {
+        let state = State {
+            nbits_total,
+            ..C::Coder::sound(rng, length)
+        };
+        put(bytes, state, call)?;
+    }
+    Ok(())
+}
+
+/// The same in short, for a recorded list: under the last choice of numbers, and each number and length
+/// outside on one state.
+pub fn refused_in_short<C: Frame>(rng: &mut Rng, put: &mut Put<C>) -> Outcome {
+    let mut bytes: Bytes = [0; LONGEST + 1];
+    rng.fill(&mut bytes);
+    let mut call = C::Given::all().pop().unwrap();
+    C::refill(&mut call, rng);
+    on_refusing_states::<C>(rng, &mut bytes, &call, put)?;
+    let packet = &mut bytes[..8];
+    let fresh = C::Coder::unopus(packet, State::default(), C::Coder::open()).state;
+    for change in changes::<C::Given>() {
+        let mut call = call.clone();
+        change(&mut call);
+        put(packet, fresh, &call)?;
+    }
+    Ok(())
+}
+
+/// None, and each that takes a number or length out of its range.
+fn changes<G: Given>() -> impl Iterator<Item = Change<G>> {
+    let none: Change<G> = Box::new(|_| {});
+    let size = |change: fn(&mut Size)| -> Change<G> { Box::new(move |call| change(call.size())) };
+    let sizes = Size::OUTSIDE.into_iter().map(size);
+    [none].into_iter().chain(sizes).chain(G::outside())
 }

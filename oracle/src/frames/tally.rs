@@ -1,15 +1,17 @@
 //! What the calls of a comparison were: a counter that stays 0 says that its way was never compared.
 
-use super::Frame;
-use crate::compare::Answer;
+use super::{Frame, Left, Side, StateOf};
+use crate::compare::{Answer, Copies};
+use crate::domain;
 use crate::hold::Outcome;
-use crate::state::Reader;
+use crate::report;
 use std::marker::PhantomData;
 
 pub struct Tally<C> {
     /// By document 01's numbers, and 0 for accepted calls.
     answers: [u64; 10],
     ways: Vec<u64>,
+    copies: Copies,
     call: PhantomData<C>,
 }
 
@@ -17,30 +19,57 @@ impl<C: Frame> Default for Tally<C> {
     fn default() -> Self {
         Tally {
             answers: [0; 10],
-            ways: vec![0; C::WAYS.len()],
+            ways: vec![0; C::WAYS.concat().len()],
+            copies: Copies::default(),
             call: PhantomData,
         }
     }
 }
 
 impl<C: Frame> Tally<C> {
+    /// Puts a call to our side, and to the other behind document 01's table of refusals.
+    pub fn equal(
+        &mut self,
+        bytes: &mut [u8],
+        state: StateOf<C>,
+        call: &C::Given,
+        (side, refusal): (Side<C>, u32),
+    ) -> Outcome {
+        let answer = self.copies.put::<C::Coder, _>(
+            bytes,
+            (state, call),
+            |bytes| C::ours(call, bytes, state),
+            |bytes| {
+                let unchanged = (state, C::held(call));
+                domain::guarded(refusal, unchanged, || (0, side(call, bytes, state)))
+            },
+        )?;
+        self.count(bytes, state, call, &answer);
+        Ok(())
+    }
+
     pub fn count(
         &mut self,
-        packet: &mut [u8],
-        before: Reader,
-        call: &C,
-        answer: &Answer<(Reader, C::Held)>,
+        bytes: &mut [u8],
+        before: StateOf<C>,
+        call: &C::Given,
+        answer: &Answer<Left<C>>,
     ) {
         self.answers[answer.refusal as usize] += 1;
         if answer.refusal == 0 {
             let ways = &mut self.ways;
-            call.took(packet, before, &answer.state.1, |way, taken| {
+            C::took(call, bytes, before, &answer.state, |way, taken| {
                 ways[way] += u64::from(taken)
             });
         }
     }
 
-    fn all(&self) -> u64 {
+    /// The ways, each with how often it was taken.
+    fn ways(&self) -> impl Iterator<Item = (&'static str, u64)> + '_ {
+        C::WAYS.concat().into_iter().zip(self.ways.iter().copied())
+    }
+
+    pub fn all(&self) -> u64 {
         self.answers.iter().sum()
     }
 
@@ -50,8 +79,7 @@ impl<C: Frame> Tally<C> {
         let refused = refused.map(|r| format!(", refused with {r}: {}", self.answers[r]));
         let refused = refused.collect::<String>();
         println!("{}:   accepted {}{refused}", C::NAME, self.answers[0]);
-        let ways = C::WAYS.iter().zip(&self.ways);
-        let ways = ways.map(|(way, n)| format!("{way} {n}"));
+        let ways = self.ways().map(|(way, n)| format!("{way} {n}"));
         println!("{}:   {}", C::NAME, ways.collect::<Vec<_>>().join(", "));
     }
 
@@ -67,15 +95,7 @@ impl<C: Frame> Tally<C> {
     pub fn missing(&self, refusals: &[usize]) -> Outcome {
         let refusals = refusals.iter().filter(|&&r| self.answers[r] == 0);
         let refusals = refusals.map(|r| format!("refused with {r}"));
-        let ways = C::WAYS.iter().zip(&self.ways).filter(|(_, &n)| n == 0);
-        let missing: Vec<String> = ways
-            .map(|(way, _)| way.to_string())
-            .chain(refusals)
-            .collect();
-        if missing.is_empty() {
-            Ok(())
-        } else {
-            Err(format!("NEVER COMPARED: {}", missing.join(", ")))
-        }
+        let ways = self.ways().filter(|(_, n)| *n == 0);
+        report::complete(ways.map(|(way, _)| way.to_string()).chain(refusals))
     }
 }

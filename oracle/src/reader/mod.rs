@@ -74,13 +74,9 @@ impl Kind for Reading {
         before: &Reader,
         ask: Ask,
         answer: &Answer<Reader>,
-        mut mark: impl FnMut(usize),
+        mut mark: impl FnMut(usize, bool),
     ) {
-        let mut mark = |way: Way, taken: bool| {
-            if taken {
-                mark(way as usize)
-            }
-        };
+        let mut mark = |way: Way, taken| mark(way as usize, taken);
         match ask {
             // The first byte and three turns.
             Ask::Open => mark(Way::PastFront, length < 4),

@@ -3,13 +3,11 @@
 use super::{plans, Ask, Spectra, Vector};
 use crate::compare::Sink;
 use crate::hold::Outcome;
-use crate::record::Recorded;
+use crate::record::{Recorded, Words};
 use crate::rng::Rng;
 
 impl Recorded for Spectra {
-    const FOLDER: &'static str = "spectra_cases";
-
-    fn list(sink: &mut impl Sink<Spectra>, rng: &mut Rng) -> Outcome {
+    fn list(sink: &mut dyn Sink<Spectra>, rng: &mut Rng) -> Outcome {
         plans::stabilised(sink, rng, 320)?;
         plans::lengths(sink, rng, [1, 2, 16, 17])?;
         plans::gap_rule(sink, rng, [2, 5])?;
@@ -18,7 +16,7 @@ impl Recorded for Spectra {
     }
 
     /// The count of the values, then two values a word.
-    fn words(vector: &Vector) -> [u32; 11] {
+    fn words(vector: &Vector) -> Words {
         let mut words = [0; 11];
         words[0] = vector.n as u32;
         for (i, &value) in vector.room.iter().enumerate() {

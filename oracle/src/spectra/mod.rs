@@ -85,11 +85,15 @@ impl Kind for Spectra {
 
     fn symbol(_: Ask, _: &Answer<Vector>, _: impl FnOnce(Model, u32)) {}
 
-    fn took(_: usize, before: &Vector, ask: Ask, _: &Answer<Vector>, mut mark: impl FnMut(usize)) {
+    fn took(
+        _: usize,
+        before: &Vector,
+        ask: Ask,
+        _: &Answer<Vector>,
+        mut mark: impl FnMut(usize, bool),
+    ) {
         text::call(before.values(), ask, &mut |way: Way, taken| {
-            if taken {
-                mark(way as usize)
-            }
+            mark(way as usize, taken)
         });
     }
 

@@ -4,48 +4,45 @@ use super::vectors::{gaps, indices, parts, vector};
 use super::{Ask, Spectra, Vector, ROOM};
 use crate::compare::Sink;
 use crate::domain::order;
-use crate::hold::{Outcome, Plans};
+use crate::hold::{Outcome, Plan, Plans};
 use crate::rng::Rng;
 
 const RATES: [u32; 3] = [8, 12, 16];
 
 impl Plans for Spectra {
-    fn run(
-        sink: &mut impl Sink<Spectra>,
-        rng: &mut Rng,
-        share: u32,
-        mut said: impl FnMut(u64, &str),
-    ) -> Outcome {
-        stabilised(sink, rng, 1_200_000 / share)?;
-        let plan = "of the stabiliser on vectors and gap sets of all kinds";
-        said(sink.counters().all(), plan);
-
-        for _ in 0..(32 / share).max(1) {
-            lengths(sink, rng, 0..=ROOM)?;
-            gap_rule(sink, rng, 2..=16)?;
-        }
-        let plan = "of the stabiliser at the limits of lengths and gap sets";
-        said(sink.counters().all(), plan);
-
-        // As many for libopus, whose books are its own.
-        decoded(sink, rng, 4_000 / share.div_ceil(4))?;
-        let plan = "decoding every first index at every rate";
-        said(sink.counters().all(), plan);
-
-        for _ in 0..(32 / share).max(1) {
-            numbers(sink, rng, &RATES)?;
-        }
-        let plan = "decoding at the limits of rates, indices and lengths";
-        said(sink.counters().all(), plan);
-        Ok(())
-    }
+    const PLANS: &'static [Plan<Spectra>] = &[
+        (
+            "of the stabiliser on vectors and gap sets of all kinds",
+            |sink, rng, share| stabilised(sink, rng, 1_200_000 / share),
+        ),
+        (
+            "of the stabiliser at the limits of lengths and gap sets",
+            |sink, rng, share| {
+                (0..(32 / share).max(1)).try_for_each(|_| {
+                    lengths(sink, rng, 0..=ROOM)?;
+                    gap_rule(sink, rng, 2..=16)
+                })
+            },
+        ),
+        (
+            "decoding every first index at every rate",
+            // As many for libopus, whose books are its own.
+            |sink, rng, share| decoded(sink, rng, 4_000 / share.div_ceil(4)),
+        ),
+        (
+            "decoding at the limits of rates, indices and lengths",
+            |sink, rng, share| {
+                (0..(32 / share).max(1)).try_for_each(|_| numbers(sink, rng, &RATES))
+            },
+        ),
+    ];
 }
 
-fn stabilise(sink: &mut impl Sink<Spectra>, vector: Vector, gaps: &[i16]) -> Outcome {
+fn stabilise(sink: &mut dyn Sink<Spectra>, vector: Vector, gaps: &[i16]) -> Outcome {
     sink.put(&mut [], vector, Ask::Stabilise(gaps)).map(|_| ())
 }
 
-fn decode(sink: &mut impl Sink<Spectra>, n: usize, indices: [i8; 17], khz: u32) -> Outcome {
+fn decode(sink: &mut dyn Sink<Spectra>, n: usize, indices: [i8; 17], khz: u32) -> Outcome {
     // What the vector held does not matter, and is not 0 where a refusal should leave it.
     let vector = Vector::of(&[-7; ROOM][..n]);
     sink.put(&mut [], vector, Ask::Decode(indices, khz))
@@ -53,7 +50,7 @@ fn decode(sink: &mut impl Sink<Spectra>, n: usize, indices: [i8; 17], khz: u32) 
 }
 
 /// Accepted calls of the stabiliser.
-pub fn stabilised(sink: &mut impl Sink<Spectra>, rng: &mut Rng, calls: u32) -> Outcome {
+pub fn stabilised(sink: &mut dyn Sink<Spectra>, rng: &mut Rng, calls: u32) -> Outcome {
     let mut set = Vec::new();
     for call in 0..calls {
         if call % 8 == 0 {
@@ -69,7 +66,7 @@ pub fn stabilised(sink: &mut impl Sink<Spectra>, rng: &mut Rng, calls: u32) -> O
 /// These lengths of the vector beside every length of the gaps, whose rule is kept, or broken: 6 comes
 /// before 7.
 pub fn lengths(
-    sink: &mut impl Sink<Spectra>,
+    sink: &mut dyn Sink<Spectra>,
     rng: &mut Rng,
     lengths: impl IntoIterator<Item = usize>,
 ) -> Outcome {
@@ -91,7 +88,7 @@ pub fn lengths(
 
 /// Gap sets that just keep their rule, and that break it by one or by much, at every place.
 pub fn gap_rule(
-    sink: &mut impl Sink<Spectra>,
+    sink: &mut dyn Sink<Spectra>,
     rng: &mut Rng,
     lengths: impl IntoIterator<Item = usize>,
 ) -> Outcome {
@@ -118,7 +115,7 @@ pub fn gap_rule(
 }
 
 /// So many sets of indices for each first index at each rate.
-pub fn decoded(sink: &mut impl Sink<Spectra>, rng: &mut Rng, sets: u32) -> Outcome {
+pub fn decoded(sink: &mut dyn Sink<Spectra>, rng: &mut Rng, sets: u32) -> Outcome {
     for (khz, first) in RATES
         .iter()
         .flat_map(|&khz| (0..32).map(move |first| (khz, first)))
@@ -132,7 +129,7 @@ pub fn decoded(sink: &mut impl Sink<Spectra>, rng: &mut Rng, sets: u32) -> Outco
 
 /// Rates, indices and lengths at their limits and past them, one at a time, and with a length that is
 /// wrong too: 4 comes before 6.
-pub fn numbers(sink: &mut impl Sink<Spectra>, rng: &mut Rng, rates: &[u32]) -> Outcome {
+pub fn numbers(sink: &mut dyn Sink<Spectra>, rng: &mut Rng, rates: &[u32]) -> Outcome {
     for khz in [0, 7, 9, 10, 11, 13, 15, 17, 24, 48, 264, u32::MAX] {
         for n in [10, 16, 1] {
             decode(sink, n, indices(rng, 3, 16), khz)?;

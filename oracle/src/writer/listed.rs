@@ -1,37 +1,25 @@
 //! The list that crates/writer_cases replays.
 
 use super::{plans, Ask, Writing};
-use crate::bytes::Fill;
+use crate::coder::{along, in_short, speech};
 use crate::compare::Sink;
-use crate::domain::{LONGEST, TOTALS};
 use crate::hold::Outcome;
-use crate::models::{self, Model, FEW};
-use crate::record::Recorded;
+use crate::models::Model;
+use crate::record::{Recorded, Words};
 use crate::rng::Rng;
 use crate::state::Writer;
 
 impl Recorded for Writing {
-    const FOLDER: &'static str = "writer_cases";
-
-    fn list(sink: &mut impl Sink<Writing>, rng: &mut Rng) -> Outcome {
-        let tables = models::limit_tables();
-        let limits = models::at_limits(&tables);
-        let random = &[Fill::Random][..];
+    fn list(sink: &mut dyn Sink<Writing>, rng: &mut Rng) -> Outcome {
         plans::listed(sink)?;
-        let lengths = [0, 1, 2, 3, 5, 8, 13, 21, 34];
-        plans::along(sink, rng, lengths.into_iter(), 80)?;
-        plans::speech(sink, rng, 1)?;
+        along(sink, rng, [0, 1, 2, 3, 5, 8, 13, 21, 34], 80)?;
+        speech(sink, rng, 1)?;
         plans::runs(sink, &[3])?;
         plans::finishes(sink, rng, 300)?;
-        plans::at_limits(sink, rng, (&[7], random), &[33], &limits)?;
-        let (two, ends) = ([2, LONGEST + 1], [0, 1, LONGEST - 1, LONGEST]);
-        plans::at_limits(sink, rng, (&two, random), &TOTALS, &FEW)?;
-        plans::at_limits(sink, rng, (&ends, random), &[1000], &[Model::Bits(25)])?;
-        plans::on_unsound(sink, rng, &[3], &[Model::Bits(26)])?;
-        plans::on_sound(sink, rng, 300)
+        in_short(sink, rng, &[Model::Bits(25)], &[Model::Bits(26)])
     }
 
-    fn words(writer: &Writer) -> [u32; 11] {
+    fn words(writer: &Writer) -> Words {
         writer.words()
     }
 

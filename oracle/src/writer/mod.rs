@@ -66,13 +66,9 @@ impl Kind for Writing {
         before: &Writer,
         ask: Ask,
         answer: &Answer<Writer>,
-        mut mark: impl FnMut(usize),
+        mut mark: impl FnMut(usize, bool),
     ) {
-        let mut mark = |way: Way, taken: bool| {
-            if taken {
-                mark(way as usize)
-            }
-        };
+        let mut mark = |way: Way, taken| mark(way as usize, taken);
         match ask {
             Ask::Open | Ask::Account => {}
             Ask::Write(model, value) => {

@@ -1,76 +1,139 @@
-//! Which calls are compared. A plan puts its calls to a sink, which compares or records them.
+//! Which calls are compared, besides those that the reader's plans have too.
 
 use super::states::{at_digit, breaks, sound};
 use super::{Ask, Writing};
-use crate::bytes::{fill, Bytes, Fill, FILLS, LENGTHS};
+use crate::bytes::{Bytes, FILLS, LENGTHS};
+use crate::coder::{along, at_limits, on_sound, on_unsound, speech, Coder};
 use crate::compare::{Answer, Sink};
 use crate::domain::{LAST_TOTAL, LONGEST, LONGEST_RUN, TOTALS};
-use crate::hold::{Outcome, Plans};
+use crate::hold::{Outcome, Plan, Plans};
 use crate::models::{self, Entries, Model};
 use crate::rng::Rng;
 use crate::state::Writer;
-use crate::unopus;
+use crate::states::Break;
 
 impl Plans for Writing {
-    fn run(
-        sink: &mut impl Sink<Writing>,
-        rng: &mut Rng,
-        share: u32,
-        mut said: impl FnMut(u64, &str),
-    ) -> Outcome {
-        along_buffers(sink, rng, share, &mut said)?;
+    const PLANS: &'static [Plan<Writing>] = &[
+        (
+            "along buffers of every length from their opening past their finish",
+            |sink, rng, share| {
+                listed(sink)?;
+                along(sink, rng, (0..=LONGEST + 1).step_by(share as usize), 300)
+            },
+        ),
+        (
+            "along buffers by the tables of speech",
+            |sink, rng, share| speech(sink, rng, 3_000 / share),
+        ),
+        ("along buffers while the run of 255s grows", |sink, _, _| {
+            long_runs(sink, &[3, LONGEST])
+        }),
+        (
+            "along a buffer until its total refuses more",
+            |sink, rng, _| to_the_end(sink, rng),
+        ),
+        (
+            "where a run is stored and where a finish all but fits",
+            |sink, rng, share| {
+                runs(sink, &[0, 3, LONGEST])?;
+                finishes(sink, rng, 1_000_000 / share)
+            },
+        ),
+        ("on arbitrary sound states", |sink, rng, share| {
+            on_sound(sink, rng, 4_000_000 / share)
+        }),
+        ("on states that break one rule", |sink, rng, _| {
+            on_unsound(sink, rng, &LENGTHS, models::at_limits())
+        }),
+        (
+            "at the limits of buffers, totals, numbers, tables and values",
+            |sink, rng, share| {
+                let (buffers, models) = ((&LENGTHS[..], &FILLS[..]), models::at_limits());
+                (0..(4 / share).max(1))
+                    .try_for_each(|_| at_limits(sink, rng, buffers, &TOTALS, models))
+            },
+        ),
+    ];
+}
 
-        runs(sink, &[0, 3, LONGEST])?;
-        finishes(sink, rng, 1_000_000 / share)?;
-        let plan = "where a run is stored and where a finish all but fits";
-        said(sink.counters().all(), plan);
+impl Coder for Writing {
+    type Word = i32;
 
-        on_sound(sink, rng, 4_000_000 / share)?;
-        said(sink.counters().all(), "on arbitrary sound states");
+    fn open() -> Ask<'static> {
+        Ask::Open
+    }
 
-        let tables = models::limit_tables();
-        let limits = models::at_limits(&tables);
-        on_unsound(sink, rng, &LENGTHS, &limits)?;
-        said(sink.counters().all(), "on states that break one rule");
+    fn any<'a>(rng: &mut Rng, model: Model<'a>) -> Ask<'a> {
+        Ask::Write(model, model.any_value(rng))
+    }
 
-        for _ in 0..(4 / share).max(1) {
-            at_limits(sink, rng, (&LENGTHS, &FILLS), &TOTALS, &limits)?;
+    fn all<'a>(models: &'a [Model<'a>]) -> Vec<Ask<'a>> {
+        let values = |&model: &Model<'a>| model.limit_values().into_iter().map(move |v| (model, v));
+        let writes = models.iter().flat_map(values);
+        let writes = writes.map(|(model, value)| Ask::Write(model, value));
+        writes.chain(Self::ends()).collect()
+    }
+
+    fn ends() -> Vec<Ask<'static>> {
+        vec![Ask::Account, Ask::Done { again: false }]
+    }
+
+    fn any_end(rng: &mut Rng) -> Option<Ask<'static>> {
+        match rng.between(0, 15) {
+            0 => Some(Ask::Account),
+            1..=4 => Some(Ask::Done { again: false }),
+            _ => None,
         }
-        let plan = "at the limits of buffers, totals, numbers, tables and values";
-        said(sink.counters().all(), plan);
+    }
+
+    fn sound(rng: &mut Rng, length: usize) -> Writer {
+        sound(rng, length)
+    }
+
+    fn breaks() -> impl Iterator<Item = Break<i32>> {
+        breaks()
+    }
+
+    fn to_border(rng: &mut Rng, writer: &mut Writer, ask: Ask) {
+        if let Ask::Write(model, value) = ask {
+            at_digit(rng, writer, model, value);
+        }
+    }
+
+    fn at_limit(_: &mut Rng, _: &mut Writer, _: Ask) {}
+
+    /// Until the buffer is all but full, full, or past that; then it is finished, finished again,
+    /// written to and finished.
+    fn go_on(
+        sink: &mut dyn Sink<Writing>,
+        rng: &mut Rng,
+        buffer: &mut [u8],
+        fresh: Answer<Writer>,
+        bits_more: u32,
+    ) -> Outcome {
+        let mut answer = fresh;
+        let full = 8 * buffer.len() as u32 + 33;
+        let used = match rng.between(0, 2) {
+            0 => rng.between(33, full),
+            1 => rng.between(full - 24, full + 16),
+            _ => rng.between(full, full + bits_more),
+        };
+        let limits = models::at_limits();
+        while answer.refusal != 1 && answer.state.nbits_total < used {
+            answer = write_any(sink, rng, buffer, answer.state, limits)?;
+        }
+        answer = sink.put(buffer, answer.state, Ask::Done { again: false })?;
+        answer = sink.put(buffer, answer.state, Ask::Done { again: true })?;
+        for _ in 0..3 {
+            answer = write_any(sink, rng, buffer, answer.state, limits)?;
+        }
+        sink.put(buffer, answer.state, Ask::Done { again: false })?;
         Ok(())
     }
 }
 
-/// The plans that write from an opening on.
-fn along_buffers(
-    sink: &mut impl Sink<Writing>,
-    rng: &mut Rng,
-    share: u32,
-    said: &mut impl FnMut(u64, &str),
-) -> Outcome {
-    listed(sink)?;
-    let lengths = (0..=LONGEST + 1).step_by(share as usize);
-    along(sink, rng, lengths, 300)?;
-    let plan = "along buffers of every length from their opening past their finish";
-    said(sink.counters().all(), plan);
-
-    speech(sink, rng, 3_000 / share)?;
-    let plan = "along buffers by the tables of speech";
-    said(sink.counters().all(), plan);
-
-    long_runs(sink, &[3, LONGEST])?;
-    let plan = "along buffers while the run of 255s grows";
-    said(sink.counters().all(), plan);
-
-    to_the_end(sink, rng)?;
-    let plan = "along a buffer until its total refuses more";
-    said(sink.counters().all(), plan);
-    Ok(())
-}
-
 /// The cases of document 01 that are run.
-pub fn listed(sink: &mut impl Sink<Writing>) -> Outcome {
+pub fn listed(sink: &mut dyn Sink<Writing>) -> Outcome {
     let mut four = [0xA5; 4];
     let mut state = sink.put(&mut four, Writer::default(), Ask::Open)?.state;
     let symbols = [
@@ -96,45 +159,9 @@ pub fn listed(sink: &mut impl Sink<Writing>) -> Outcome {
     ))
 }
 
-/// Buffers of these lengths, written to from their opening until they are all but full, full, or
-/// past that by so many bits; then finished, finished again, written to and finished.
-pub fn along(
-    sink: &mut impl Sink<Writing>,
-    rng: &mut Rng,
-    lengths: impl Iterator<Item = usize>,
-    bits_more: u32,
-) -> Outcome {
-    let tables = models::limit_tables();
-    let limits = models::at_limits(&tables);
-    let mut buffer: Bytes = [0; LONGEST + 1];
-    for length in lengths {
-        let buffer = &mut buffer[..length];
-        for kind in FILLS {
-            fill(rng, buffer, kind);
-            let mut answer = sink.put(buffer, Writer::default(), Ask::Open)?;
-            let full = 8 * length as u32 + 33;
-            let used = match rng.between(0, 2) {
-                0 => rng.between(33, full),
-                1 => rng.between(full - 24, full + 16),
-                _ => rng.between(full, full + bits_more),
-            };
-            while answer.refusal != 1 && answer.state.nbits_total < used {
-                answer = write_any(sink, rng, buffer, answer.state, &limits)?;
-            }
-            answer = sink.put(buffer, answer.state, Ask::Done { again: false })?;
-            answer = sink.put(buffer, answer.state, Ask::Done { again: true })?;
-            for _ in 0..3 {
-                answer = write_any(sink, rng, buffer, answer.state, &limits)?;
-            }
-            sink.put(buffer, answer.state, Ask::Done { again: false })?;
-        }
-    }
-    Ok(())
-}
-
 /// A symbol at random, at times one at a limit, and at times the account after it.
 fn write_any(
-    sink: &mut impl Sink<Writing>,
+    sink: &mut dyn Sink<Writing>,
     rng: &mut Rng,
     buffer: &mut [u8],
     writer: Writer,
@@ -156,29 +183,9 @@ fn write_any(
     Ok(answer)
 }
 
-/// Buffers that are written to with the tables of speech, each in turn, and finished.
-pub fn speech(sink: &mut impl Sink<Writing>, rng: &mut Rng, buffers: u32) -> Outcome {
-    let tables = unopus::inverse_rows();
-    let mut buffer: Bytes = [0; LONGEST + 1];
-    for _ in 0..buffers {
-        let length = rng.between(20, 120) as usize;
-        let buffer = &mut buffer[..length];
-        rng.fill(buffer);
-        let mut answer = sink.put(buffer, Writer::default(), Ask::Open)?;
-        for table in &tables {
-            let model = Model::Table(table, 8);
-            let symbol = Ask::Write(model, model.any_value(rng));
-            answer = sink.put(buffer, answer.state, symbol)?;
-        }
-        sink.put(buffer, answer.state, Ask::Account)?;
-        sink.put(buffer, answer.state, Ask::Done { again: false })?;
-    }
-    Ok(())
-}
-
 /// Buffers of these lengths, where each symbol leaves open whether a carry comes, until one more is
 /// all that the total allows: one that carries, one that does not, or the finish.
-pub fn long_runs(sink: &mut impl Sink<Writing>, lengths: &[usize]) -> Outcome {
+pub fn long_runs(sink: &mut dyn Sink<Writing>, lengths: &[usize]) -> Outcome {
     let mut buffer: Bytes = [0xA5; LONGEST + 1];
     for (&length, last) in lengths
         .iter()
@@ -217,7 +224,7 @@ fn across_the_carry(writer: &Writer) -> (Model<'static>, u32) {
 }
 
 /// One buffer, written to from its opening until its bit total refuses the next call.
-pub fn to_the_end(sink: &mut impl Sink<Writing>, rng: &mut Rng) -> Outcome {
+pub fn to_the_end(sink: &mut dyn Sink<Writing>, rng: &mut Rng) -> Outcome {
     let mut buffer: Bytes = [0; LONGEST + 1];
     let buffer = &mut buffer[..LONGEST];
     rng.fill(buffer);
@@ -235,7 +242,7 @@ pub fn to_the_end(sink: &mut impl Sink<Writing>, rng: &mut Rng) -> Outcome {
 }
 
 /// Runs, short and as long as sound ones can be, that the next digit stores or makes longer.
-pub fn runs(sink: &mut impl Sink<Writing>, lengths: &[usize]) -> Outcome {
+pub fn runs(sink: &mut dyn Sink<Writing>, lengths: &[usize]) -> Outcome {
     let mut buffer: Bytes = [0xA5; LONGEST + 1];
     let asks = [Ask::Write(Model::Bit(1), 0), Ask::Done { again: false }];
     for (&length, ext) in lengths
@@ -266,7 +273,7 @@ pub fn runs(sink: &mut impl Sink<Writing>, lengths: &[usize]) -> Outcome {
 
 /// Writers without error over a few bytes, whose finish just fits or just does not; of some, all that
 /// was written is raw bits.
-pub fn finishes(sink: &mut impl Sink<Writing>, rng: &mut Rng, calls: u32) -> Outcome {
+pub fn finishes(sink: &mut dyn Sink<Writing>, rng: &mut Rng, calls: u32) -> Outcome {
     let mut buffer: Bytes = [0; LONGEST + 1];
     for _ in 0..calls {
         let length = rng.between(0, 7) as usize;
@@ -282,96 +289,6 @@ pub fn finishes(sink: &mut impl Sink<Writing>, rng: &mut Rng, calls: u32) -> Out
             (writer.offs, writer.end_offs) = (0, rng.between(0, length as u32));
         }
         sink.put(buffer, writer, Ask::Done { again: false })?;
-    }
-    Ok(())
-}
-
-/// Arbitrary sound writers, half of them with the value where a digit ends.
-pub fn on_sound(sink: &mut impl Sink<Writing>, rng: &mut Rng, calls: u32) -> Outcome {
-    let (mut buffer, mut entries): (Bytes, Entries) = ([0; LONGEST + 1], [0; 257]);
-    let mut length = 0;
-    for call in 0..calls {
-        if call % 16 == 0 {
-            let most = rng.pick(&[4, 40, LONGEST]);
-            length = rng.or_end(0, most as u32) as usize;
-            let kind = rng.pick(&FILLS);
-            fill(rng, &mut buffer[..length], kind);
-        }
-        let mut writer = sound(rng, length);
-        let seen = rng.any_width();
-        let model = models::any(rng, &mut entries, seen);
-        let value = model.any_value(rng);
-        if rng.one_in(2) {
-            at_digit(rng, &mut writer, model, value);
-        }
-        let ask = match rng.between(0, 15) {
-            0 => Ask::Account,
-            1..=4 => Ask::Done { again: false },
-            _ => Ask::Write(model, value),
-        };
-        sink.put(&mut buffer[..length], writer, ask)?;
-    }
-    Ok(())
-}
-
-/// Sound writers with each rule broken in turn, put to each call: 2 comes before 4, 5 and 8.
-pub fn on_unsound(
-    sink: &mut impl Sink<Writing>,
-    rng: &mut Rng,
-    lengths: &[usize],
-    models: &[Model],
-) -> Outcome {
-    let mut buffer: Bytes = [0; LONGEST + 1];
-    for &length in lengths {
-        let buffer = &mut buffer[..length];
-        rng.fill(buffer);
-        for (number, break_rule) in breaks().enumerate() {
-            for ask in asks(models) {
-                let mut writer = sound(rng, length);
-                break_rule(&mut writer);
-                let answer = sink.put(buffer, writer, ask)?;
-                if answer.refusal != if length > LONGEST { 1 } else { 2 } {
-                    return Err(format!("break {number} of {length} bytes: {answer:?}"));
-                }
-            }
-        }
-    }
-    Ok(())
-}
-
-/// These models with the values at their limits, the account and the finish.
-fn asks<'a>(models: &'a [Model]) -> impl Iterator<Item = Ask<'a>> {
-    let values = |&model: &Model<'a>| model.limit_values().into_iter().map(move |v| (model, v));
-    let writes = models.iter().flat_map(values);
-    let writes = writes.map(|(model, value)| Ask::Write(model, value));
-    writes.chain([Ask::Account, Ask::Done { again: false }])
-}
-
-/// Buffers of these lengths, filled in these ways; writers of these totals, sound but for that; and
-/// these models with the values at their limits.
-pub fn at_limits(
-    sink: &mut impl Sink<Writing>,
-    rng: &mut Rng,
-    buffers: (&[usize], &[Fill]),
-    totals: &[u32],
-    models: &[Model],
-) -> Outcome {
-    let (lengths, fills) = buffers;
-    let mut buffer: Bytes = [0; LONGEST + 1];
-    for (&length, &kind) in lengths
-        .iter()
-        .flat_map(|n| fills.iter().map(move |kind| (n, kind)))
-    {
-        let buffer = &mut buffer[..length];
-        fill(rng, buffer, kind);
-        sink.put(buffer, Writer::default(), Ask::Open)?;
-        for &total in totals {
-            for ask in asks(models) {
-                let mut writer = sound(rng, length);
-                writer.nbits_total = total;
-                sink.put(buffer, writer, ask)?;
-            }
-        }
     }
     Ok(())
 }

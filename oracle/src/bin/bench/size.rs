@@ -1,6 +1,7 @@
 //! The sizes of frames.
 
-use oracle::frames::indices::{Call, Held};
+use oracle::frames;
+use oracle::frames::indices::{Call, Kept, Record};
 
 #[derive(Clone, Copy)]
 pub struct Size {
@@ -31,11 +32,14 @@ impl Size {
     /// The call by which the crate's decoder and libopus's are set up.
     pub fn call(self) -> Call {
         Call {
-            khz: self.khz,
-            subframes: self.subframes,
+            size: frames::Size {
+                khz: self.khz,
+                subframes: self.subframes,
+            },
             active: 0,
             mode: 0,
-            held: Held::default(),
+            record: Record::default(),
+            kept: Kept::default(),
         }
     }
 }

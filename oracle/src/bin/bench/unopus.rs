@@ -7,7 +7,7 @@ use oracle::celt::entdec::{ec_dec_bit_logp, ec_dec_bits, ec_dec_icdf, ec_dec_ini
 use oracle::celt::entenc::{
     ec_enc_bit_logp, ec_enc_bits, ec_enc_done, ec_enc_icdf, ec_enc_init, ec_enc_uint,
 };
-use oracle::frames::indices::Record;
+use oracle::frames::indices::{set, Record};
 use oracle::models::Model;
 use oracle::silk::decode_indices::silk_decode_indices;
 use oracle::silk::decode_pulses::silk_decode_pulses;
@@ -90,7 +90,7 @@ impl Side for Unopus {
     fn decoder(size: Size) -> Self::Decoder {
         let mut decoder = Box::new(MaybeUninit::uninit());
         // SAFETY: the memory is the box's own.
-        unsafe { size.call().set(decoder.as_mut_ptr()) };
+        unsafe { set(decoder.as_mut_ptr(), &size.call()) };
         decoder
     }
 

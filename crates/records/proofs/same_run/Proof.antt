@@ -1,16 +1,15 @@
--- The loop's invariant: the place stands in the slice of values, which keeps its length. Its measure: what is left of that slice.
+-- The loop's invariant: the place stands in the slice of values. Its measure: what is left of that slice.
 use Prim.Native.Nat.{_-_, _≤_}
-use mathlib.Core.Path.{_≡_}
 use borrow.Author.Needs.{needs}
 use lib.ListN.{length}
-use Rattle.spectra_cases.proofs.fill.Statement.{statement}
-use Rattle.spectra_cases.proofs.fill.Tie as tie
+use Rattle.records.proofs.same_run.Statement.{statement}
+use Rattle.records.proofs.same_run.Tie as tie
 
 abbrev Inv-loop : tie.InvT-loop
-Inv-loop values₀ bytes i₀ values i = (i ≤ length values₀) × (length values ≡ length values₀)
+Inv-loop values bytes ok₀ i₀ ok i = i ≤ length values
 
 abbrev μ-loop : tie.MeasureT-loop
-μ-loop values₀ bytes i₀ values i = length values₀ - i
+μ-loop values bytes ok₀ i₀ ok i = length values - i
 
 loop-holds : tie.Need-loop-holds Inv-loop μ-loop
 loop-holds c = search needs
@@ -33,11 +32,11 @@ shared-slice-read-value-2 c = search needs
 value-requires : tie.Need-value-requires Inv-loop μ-loop
 value-requires c κs = search needs
 
-mul-x : tie.Need-mul-x Inv-loop μ-loop
-mul-x c = search needs
+mul-ok : tie.Need-mul-ok Inv-loop μ-loop
+mul-ok c = search needs
 
-slice-set-from-x : tie.Need-slice-set-from-x Inv-loop μ-loop
-slice-set-from-x c = search needs
+shared-slice-copy-out-ok : tie.Need-shared-slice-copy-out-ok Inv-loop μ-loop
+shared-slice-copy-out-ok c = search needs
 
 add-i : tie.Need-add-i Inv-loop μ-loop
 add-i c = search needs
@@ -48,14 +47,11 @@ loop-less c = search needs
 loop-again : tie.Need-loop-again Inv-loop μ-loop
 loop-again c = search needs
 
-same-length : tie.Need-same-length Inv-loop μ-loop
-same-length c = search needs
-
 returns : tie.Need-returns Inv-loop μ-loop
 returns c = search needs
 
-pub fill-spec : {M : Type 1} → statement M
-fill-spec =
+pub same-run-spec : {M : Type 1} → statement M
+same-run-spec =
     tie.close
     (tie.spec
     Inv-loop
@@ -67,10 +63,9 @@ fill-spec =
     add-value
     shared-slice-read-value-2
     value-requires
-    mul-x
-    slice-set-from-x
+    mul-ok
+    shared-slice-copy-out-ok
     add-i
     loop-less
     loop-again
-    same-length
     returns)

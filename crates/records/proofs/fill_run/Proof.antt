@@ -1,15 +1,16 @@
--- The loop's invariant: the place stands in the slice of values. Its measure: what is left of that slice.
+-- The loop's invariant: the place stands in the slice of values, which keeps its length. Its measure: what is left of that slice.
 use Prim.Native.Nat.{_-_, _≤_}
+use mathlib.Core.Path.{_≡_}
 use borrow.Author.Needs.{needs}
 use lib.ListN.{length}
-use Rattle.spectra_cases.proofs.same.Statement.{statement}
-use Rattle.spectra_cases.proofs.same.Tie as tie
+use Rattle.records.proofs.fill_run.Statement.{statement}
+use Rattle.records.proofs.fill_run.Tie as tie
 
 abbrev Inv-loop : tie.InvT-loop
-Inv-loop values bytes ok₀ i₀ ok i = i ≤ length values
+Inv-loop values₀ bytes i₀ values i = (i ≤ length values₀) × (length values ≡ length values₀)
 
 abbrev μ-loop : tie.MeasureT-loop
-μ-loop values bytes ok₀ i₀ ok i = length values - i
+μ-loop values₀ bytes i₀ values i = length values₀ - i
 
 loop-holds : tie.Need-loop-holds Inv-loop μ-loop
 loop-holds c = search needs
@@ -32,11 +33,11 @@ shared-slice-read-value-2 c = search needs
 value-requires : tie.Need-value-requires Inv-loop μ-loop
 value-requires c κs = search needs
 
-mul-ok : tie.Need-mul-ok Inv-loop μ-loop
-mul-ok c = search needs
+mul-x : tie.Need-mul-x Inv-loop μ-loop
+mul-x c = search needs
 
-shared-slice-copy-out-ok : tie.Need-shared-slice-copy-out-ok Inv-loop μ-loop
-shared-slice-copy-out-ok c = search needs
+slice-set-from-x : tie.Need-slice-set-from-x Inv-loop μ-loop
+slice-set-from-x c = search needs
 
 add-i : tie.Need-add-i Inv-loop μ-loop
 add-i c = search needs
@@ -47,11 +48,14 @@ loop-less c = search needs
 loop-again : tie.Need-loop-again Inv-loop μ-loop
 loop-again c = search needs
 
+same-length : tie.Need-same-length Inv-loop μ-loop
+same-length c = search needs
+
 returns : tie.Need-returns Inv-loop μ-loop
 returns c = search needs
 
-pub same-spec : {M : Type 1} → statement M
-same-spec =
+pub fill-run-spec : {M : Type 1} → statement M
+fill-run-spec =
     tie.close
     (tie.spec
     Inv-loop
@@ -63,9 +67,10 @@ same-spec =
     add-value
     shared-slice-read-value-2
     value-requires
-    mul-ok
-    shared-slice-copy-out-ok
+    mul-x
+    slice-set-from-x
     add-i
     loop-less
     loop-again
+    same-length
     returns)

@@ -2,8 +2,8 @@
 use Prim.Native.Nat.{_-_, _≤_}
 use borrow.Author.Needs.{needs}
 use lib.ListN.{length}
-use Rattle.writer_cases.proofs.begins.Statement.{statement}
-use Rattle.writer_cases.proofs.begins.Tie as tie
+use Rattle.records.proofs.begins.Statement.{statement}
+use Rattle.records.proofs.begins.Tie as tie
 
 abbrev Inv-loop : tie.InvT-loop
 Inv-loop a b i₀ i = i ≤ length a

@@ -3,8 +3,8 @@ use Prim.Native.Nat.{_-_, _≤_}
 use mathlib.Core.Path.{_≡_}
 use borrow.Author.Needs.{needs}
 use lib.ListN.{length}
-use Rattle.writer_cases.proofs.copy.Statement.{statement}
-use Rattle.writer_cases.proofs.copy.Tie as tie
+use Rattle.records.proofs.copy_run.Statement.{statement}
+use Rattle.records.proofs.copy_run.Tie as tie
 
 abbrev Inv-loop : tie.InvT-loop
 Inv-loop from to₀ i₀ to i = (i ≤ length from) × (length to ≡ length to₀)
@@ -36,8 +36,8 @@ same-length c = search needs
 returns : tie.Need-returns Inv-loop μ-loop
 returns c = search needs
 
-pub copy-spec : {M : Type 1} → statement M
-copy-spec =
+pub copy-run-spec : {M : Type 1} → statement M
+copy-run-spec =
     tie.close
     (tie.spec
     Inv-loop

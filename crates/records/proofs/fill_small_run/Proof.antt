@@ -1,0 +1,56 @@
+-- The loop's invariant: the place stands in the slice of values, which keeps its length. Its measure: what is left of that slice.
+use Prim.Native.Nat.{_-_, _≤_}
+use mathlib.Core.Path.{_≡_}
+use borrow.Author.Needs.{needs}
+use lib.ListN.{length}
+use Rattle.records.proofs.fill_small_run.Statement.{statement}
+use Rattle.records.proofs.fill_small_run.Tie as tie
+
+abbrev Inv-loop : tie.InvT-loop
+Inv-loop values₀ bytes i₀ values i = (i ≤ length values₀) × (length values ≡ length values₀)
+
+abbrev μ-loop : tie.MeasureT-loop
+μ-loop values₀ bytes i₀ values i = length values₀ - i
+
+loop-holds : tie.Need-loop-holds Inv-loop μ-loop
+loop-holds c = search needs
+
+shared-slice-read-small : tie.Need-shared-slice-read-small Inv-loop μ-loop
+shared-slice-read-small c = search needs
+
+small-requires : tie.Need-small-requires Inv-loop μ-loop
+small-requires c κs = search needs
+
+slice-set-from-x : tie.Need-slice-set-from-x Inv-loop μ-loop
+slice-set-from-x c = search needs
+
+add-i : tie.Need-add-i Inv-loop μ-loop
+add-i c = search needs
+
+loop-less : tie.Need-loop-less Inv-loop μ-loop
+loop-less c = search needs
+
+loop-again : tie.Need-loop-again Inv-loop μ-loop
+loop-again c = search needs
+
+same-length : tie.Need-same-length Inv-loop μ-loop
+same-length c = search needs
+
+returns : tie.Need-returns Inv-loop μ-loop
+returns c = search needs
+
+pub fill-small-run-spec : {M : Type 1} → statement M
+fill-small-run-spec =
+    tie.close
+    (tie.spec
+    Inv-loop
+    μ-loop
+    loop-holds
+    shared-slice-read-small
+    small-requires
+    slice-set-from-x
+    add-i
+    loop-less
+    loop-again
+    same-length
+    returns)
