@@ -34,7 +34,7 @@ FRAMES = [
     ("the writer's sign symbol 0 is plus", "sign-meant", "PulseSyntax.antt", "(λ z. cond (ltZ z (pos 0)) 0 1)", "(λ z. cond (ltZ z (pos 0)) 1 0)"),
     ("the writer says the lowest low bit each time", "low-bits-meant", "PulseSyntax.antt", "(λ y. y / 2 ^ n % 2)", "(λ y. y % 2)"),
     ("the writer counts the right half", "split-meant", "PulseSyntax.antt", "(λ y. total (take (2 ^ k) y))", "(λ y. total (drop (2 ^ k) y))"),
-    ("a block that no shift suits is written", "pulses-took", "PulseWriting.antt", "every (λ p. leb (smallest rate signal offset p) 10) ps",
+    ("a block that no shift suits is written", "rule-least", "PulseWriting.antt", "every (λ p. leb (smallest rate signal offset p) 10) ps",
      "every (λ p. leb (smallest rate signal offset p) 11) ps"),
     ("a record that means another is written", "meant-is", "IndexWriting.antt", "&& sameIndices (meant x (indices s x)) x\n", "&& true\n"),
     ("the writer hands on an unvoiced frame's lag", "steps-read", "IndexWriting.antt", "prevlag = nextLag (s .prevlag) x }", "prevlag = x .lag }"),
