@@ -162,7 +162,9 @@ fn table(text: &str, book: &str, word: &str) -> Vec<u32> {
 
 /// The file on the C compiler's own search path; a bare name where it is not there.
 fn beside_the_c_library(file: &str) -> PathBuf {
-    Command::new("cc")
+    // The compiler that links for the target.
+    let compiler = env::var_os("RUSTC_LINKER").unwrap_or_else(|| "cc".into());
+    Command::new(compiler)
         .arg(format!("-print-file-name={file}"))
         .output()
         .map(|answer| String::from_utf8(answer.stdout).unwrap().trim().into())
