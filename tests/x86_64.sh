@@ -1,3 +1,4 @@
+# shellcheck shell=bash
 # To be sourced. Our static libraries are x86-64 code, so what links them is built for x86-64: on another
 # processor by Debian's cross compiler and by a Rust that has that target's library, and run under qemu.
 # Sets CC and run, the word before a program; cargo reads the exported variables.
