@@ -1,20 +1,131 @@
--- Two halves of a slice, lent one after the other: the second is as long as the first, and what comes back is both. Assumes nothing.
-use Prim.Native.Nat.{ℕ, _+_}
-use mathlib.Core.Path.{_≡_, ap}
-use mathlib.Core.List.{List, _++_, append-nil}
+-- The halves of a slice, read one after the other: what was read stands in front, the rest behind it is as it was. Assumes nothing.
+use Prim.Native.Nat.{ℕ, zero, suc, _+_, _-_, _*_, _<_, _≤_}
+use mathlib.Core.Path.{_≡_, refl, sym, ap, subst, _∙_}
+use mathlib.Core.Bool.{Bool, true, false, cond}
+use mathlib.Core.List.{List, [], _++_, append-assoc, append-nil}
 use native.Mathlib.Omega.{arith}
+use lib.Dec.{eqb}
 use lib.IntN.{ℤ}
-use lib.ListN.{length, take, drop, length-drop, drop-of-length-le}
-use lib.Seq.{take-at, drop-at, length-take-le}
+use lib.ListN.{length, take, drop, length-append, length-drop, take-append-drop, drop-of-length-le}
+use lib.Seq.{drop-drop, length-take-le}
+use Rattle.lists.specs.Parts.{replaced}
+use Rattle.entcode.specs.declared.Dec.{Dec}
+use Rattle.entcode.specs.ReaderLaws.{Core}
+use Rattle.tree.specs.Ran.{Ran}
+use Rattle.silk.specs.PulseSyntax.{split, shell}
+use Rattle.silk.specs.PulseSteps.{Placed, halves}
 
-module _ (h : ℕ) (s y z : List ℤ) (size : length s ≡ h + h) (left : length y ≡ h) where
-  behind : drop h (y ++ drop h s) ≡ drop h s
-  behind = drop-at y (drop h s) h left
+-- how many of p pulses lie in half h, where `left` lie in the first
+abbrev pub halfCount : ℕ → ℕ → ℕ → ℕ
+halfCount left p h = cond (eqb h 0) left (p - left)
 
-  pub second-half : length (take h (drop h (y ++ drop h s))) ≡ h
-  second-half = rw behind (length-take-le h (drop h s) (omega (arith, length-drop h s)))
+pub half-within : (left p h : ℕ) → left ≤ p → halfCount left p h ≤ p
+half-within left p h l = go (eqb h 0)
+  where
+    go : (t : Bool) → cond t left (p - left) ≤ p
+    go true = l
+    go false = omega arith
 
-  pub both-halves : take h (y ++ drop h s) ++ (z ++ drop h (drop h (y ++ drop h s))) ≡ y ++ z
-  both-halves =
-      rw (behind, take-at y (drop h s) h left, drop-of-length-le (drop h s) {i = h} (omega (arith, length-drop h s)))
-      (ap (λ (l : List ℤ). y ++ l) (append-nil z))
+-- 2 x w places, each half of 2^k, with `left` of p pulses in the first; a half has at most n bits
+module _ (b : List ℕ) (k w n left p : ℕ) (d₀ : Dec) (s₀ : List ℤ) where
+  record Both (s : List ℤ) (q : Dec) : Type 0 where
+    pub one : List ℤ
+    pub two : List ℤ
+    pub between : Dec
+    pub is : s ≡ one ++ two
+    pub first : Placed b d₀ (shell k left) n one between
+    pub second : Placed b between (shell k (p - left)) n two q
+
+  -- what h halves leave
+  unfoldable Read : ℕ → List ℤ → Dec → Type 0
+  Read zero s q = (s ≡ []) × (q ≡ d₀)
+  Read (suc zero) s q = Placed b d₀ (shell k left) n s q
+  Read (suc (suc h)) s q = Both s q
+
+  pub record Halving (s : List ℤ) (q : Dec) (h : ℕ) : Type 0 where
+    front : List ℤ
+    is : s ≡ front ++ drop (h * w) s₀
+    size : length front ≡ h * w
+    read : Read h front q
+    pub to : h ≤ 2
+    pub core : Core b q
+    pub most : q .total ≤ d₀ .total + h * n
+
+  pub halving-start : Core b d₀ → Halving s₀ d₀ 0
+  unfolding Read
+  halving-start c =
+      let e : 0 * w ≡ 0 = omega arith in
+      record { front = []; is = ap (λ (i : ℕ). drop i s₀) (sym e); size = sym e; read = (refl, refl); to = omega arith; core = c; most = omega arith }
+
+  within : (h : ℕ) → h ≤ 2 → h * w ≤ w + w
+  within zero l = omega arith
+  within (suc zero) l = omega arith
+  within (suc (suc zero)) l = omega arith
+  within (suc (suc (suc h))) l = absurd (omega arith)
+
+  one-more : (x h : ℕ) → h < 2 → h * x + x ≡ (h + 1) * x
+  one-more x zero l = omega arith
+  one-more x (suc zero) l = omega arith
+  one-more x (suc (suc h)) l = absurd (omega arith)
+
+  module _ (wide : length s₀ ≡ w + w) (s : List ℤ) (q : Dec) (h : ℕ) (g : Halving s q h) where
+    sized : length s ≡ h * w + (w + w - h * w)
+    sized = ap length (g .is) ∙ length-append (g .front) (drop (h * w) s₀) ∙ rw (g .size, length-drop (h * w) s₀, wide)
+
+    pub halving-size : length s ≡ w + w
+    halving-size = omega (arith, sized, within h (g .to))
+
+    module _ (l : h < 2) where
+      pub halving-fits : h * w + w ≤ length s
+      halving-fits = omega (arith, halving-size, one-more w h l, within (h + 1) (omega arith))
+
+      -- the half at hand
+      pub halving-part : length (take (h * w + w - h * w) (drop (h * w) s)) ≡ w
+      halving-part =
+          length-take-le (h * w + w - h * w) (drop (h * w) s) (omega (arith, length-drop (h * w) s, halving-fits)) ∙ omega arith
+
+      ahead : w ≤ length (drop (h * w) s₀)
+      ahead = omega (arith, length-drop (h * w) s₀, wide, one-more w h l, within (h + 1) (omega arith))
+
+      stored : (y : List ℤ) → take (h * w) s ++ (y ++ drop (h * w + w - h * w) (drop (h * w) s)) ≡ (g .front ++ y) ++ drop ((h + 1) * w) s₀
+      stored y =
+          let m = take w (drop (h * w) s₀) in
+          let r = drop w (drop (h * w) s₀) in
+          replaced (h * w) (h * w + w) s (g .front) m r
+          (g .is ∙ ap (λ (t : List ℤ). g .front ++ t) (sym (take-append-drop w (drop (h * w) s₀))))
+          (g .size) (omega (arith, length-take-le w (drop (h * w) s₀) ahead)) y
+          ∙ sym (append-assoc (g .front) y r)
+          ∙ ap (λ (t : List ℤ). (g .front ++ y) ++ t) (drop-drop w (h * w) s₀ ∙ ap (λ (i : ℕ). drop i s₀) (one-more w h l))
+
+  next-read : (h : ℕ) (f y : List ℤ) (q z : Dec) → h < 2 → Read h f q → Placed b q (shell k (halfCount left p h)) n y z → Read (h + 1) (f ++ y) z
+  unfolding Read
+  next-read zero f y q z l e r = rw (e .0) (subst (λ (d : Dec). Placed b d (shell k left) n y z) (e .1) r)
+  next-read (suc zero) f y q z l e r = record { one = f; two = y; between = q; is = refl; first = e; second = r }
+  next-read (suc (suc h)) f y q z l e r = absurd (omega arith)
+
+  -- it is read
+  pub halving-next : length s₀ ≡ w + w → (s : List ℤ) (q : Dec) (h : ℕ) → Halving s q h → h < 2 → (y : List ℤ) (z : Dec) → length y ≡ w
+      → Placed b q (shell k (halfCount left p h)) n y z → Halving (take (h * w) s ++ (y ++ drop (h * w + w - h * w) (drop (h * w) s))) z (h + 1)
+  halving-next wide s q h g l y z e r =
+      record {
+        front = g .front ++ y;
+        is = stored wide s q h g l y;
+        size = length-append (g .front) y ∙ omega (arith, g .size, one-more w h l);
+        read = next-read h (g .front) y q z l (g .read) r;
+        to = omega arith;
+        core = r .ran .core;
+        most = omega (arith, r .ran .most, g .most, one-more n h l);
+      }
+
+  -- both are read, behind their split
+  pub halving-end : length s₀ ≡ w + w → (s : List ℤ) (q : Dec) (h : ℕ) → Halving s q h → 2 ≤ h → (d : Dec) → Ran b d (split k p) 16 left d₀
+      → Placed b d (shell (suc k) p) (16 + (n + (n + 0))) s q
+  unfolding Read
+  halving-end wide s q zero g l d r = absurd (omega arith)
+  halving-end wide s q (suc zero) g l d r = absurd (omega arith)
+  halving-end wide s q (suc (suc zero)) g l d r =
+      let t = g .read in
+      let e : s ≡ t .one ++ t .two =
+      g .is ∙ rw (drop-of-length-le s₀ {i = 2 * w} (omega (arith, wide))) (append-nil (g .front) ∙ t .is) in
+      rw e (halves k p r (t .first) (t .second))
+  halving-end wide s q (suc (suc (suc h))) g l d r = absurd (omega (arith, g .to))

@@ -1,8 +1,10 @@
 // The splits of a block's pulses (RFC 6716, section 4.2.7.8.3): 16 to 8 to 4 to 2 to 1 places, left half first, depth first. Names as in the
 // crate's shell_coder.rs. The pulses' rows are lent whole.
 ghost use mathlib.Core.Path.{_≡_};
+ghost use mathlib.Core.Bool.{cond};
 ghost use mathlib.Core.List.{flatten};
-ghost use Prim.Native.Nat.{_+_, _*_, _^_, _<_, _≤_};
+ghost use Prim.Native.Nat.{_+_, _-_, _*_, _^_, _<_, _≤_};
+ghost use lib.Dec.{eqb};
 ghost use lib.IntN.{pos};
 ghost use lib.ListN.{length, replicate};
 ghost use Rattle.sheet.specs.Rows.{pulseRows};
@@ -61,6 +63,15 @@ fn shell_2(packet: &[u8], d: Dec, rows: &[u8], places: &mut [i16], p: u32) -> De
     a.state
 }
 
+// How many of p pulses lie in half h, where `left` lie in the first. Halves are read by a loop, so that the code of a half stands once, where its
+// reader stays in registers.
+fn half_count(h: usize, left: u32, p: u32) -> u32
+    requires { ⌜ left ≤ p ⌝ }
+    ensures { λ c. ⌜ c ≡ cond (eqb h 0) left (p - left) ⌝ }
+{
+    if h == 0 { left } else { p - left }
+}
+
 // The p pulses of 4 places.
 fn shell_4(packet: &[u8], d: Dec, rows: &[u8], places: &mut [i16], p: u32) -> Dec
     requires { ⌜ Core (now packet) d ⌝ }
@@ -71,8 +82,16 @@ fn shell_4(packet: &[u8], d: Dec, rows: &[u8], places: &mut [i16], p: u32) -> De
 {
     let a = decode_split(packet, d, rows, 1, p);
     let left = a.value;
-    let q = shell_2(packet, a.state, rows, &mut places[0..2], left);
-    shell_2(packet, q, rows, &mut places[2..4], p - left)
+    let mut q = a.state;
+    let mut h: usize = 0;
+    while h < 2 {
+        let at = h * 2;
+        let end = at + 2;
+        let c = half_count(h, left, p);
+        q = shell_2(packet, q, rows, &mut places[at..end], c);
+        h += 1;
+    }
+    q
 }
 
 // The p pulses of 8 places.
@@ -85,8 +104,16 @@ fn shell_8(packet: &[u8], d: Dec, rows: &[u8], places: &mut [i16], p: u32) -> De
 {
     let a = decode_split(packet, d, rows, 2, p);
     let left = a.value;
-    let q = shell_4(packet, a.state, rows, &mut places[0..4], left);
-    shell_4(packet, q, rows, &mut places[4..8], p - left)
+    let mut q = a.state;
+    let mut h: usize = 0;
+    while h < 2 {
+        let at = h * 4;
+        let end = at + 4;
+        let c = half_count(h, left, p);
+        q = shell_4(packet, q, rows, &mut places[at..end], c);
+        h += 1;
+    }
+    q
 }
 
 // No place has a pulse.
@@ -112,6 +139,14 @@ pub fn silk_shell_decoder_run(packet: &[u8], d: Dec, rows: &[u8], places: &mut [
     }
     let a = decode_split(packet, d, rows, 3, p);
     let left = a.value;
-    let q = shell_8(packet, a.state, rows, &mut places[0..8], left);
-    shell_8(packet, q, rows, &mut places[8..16], p - left)
+    let mut q = a.state;
+    let mut h: usize = 0;
+    while h < 2 {
+        let at = h * 8;
+        let end = at + 8;
+        let c = half_count(h, left, p);
+        q = shell_8(packet, q, rows, &mut places[at..end], c);
+        h += 1;
+    }
+    q
 }
