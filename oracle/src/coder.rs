@@ -3,7 +3,7 @@
 
 use crate::bytes::{fill, Bytes, Fill, FILLS};
 use crate::compare::{Answer, Sides, Sink};
-use crate::domain::{LONGEST, TOTALS};
+use crate::domain::{self, LONGEST, TOTALS};
 use crate::hold::Outcome;
 use crate::models::{self, Entries, Model, FEW};
 use crate::rng::Rng;
@@ -42,6 +42,20 @@ pub trait Coder: Sides<State = State<<Self as Coder>::Word>> {
         fresh: Answer<Self::State>,
         bits_more: u32,
     ) -> Outcome;
+}
+
+/// A call of the crate or of libopus behind document 01's table. "Opening hands back the all-zero state."
+pub fn guarded<K: Coder>(
+    bytes: &mut [u8],
+    (state, ask): (K::State, K::Ask<'_>),
+    call: impl FnOnce(&mut [u8]) -> (u32, K::State),
+) -> Answer<K::State> {
+    let unchanged = match K::call(ask) == K::call(K::open()) {
+        true => State::default(),
+        false => state,
+    };
+    let refusal = K::refusal(bytes, &state, ask);
+    domain::guarded(refusal, unchanged, || call(bytes))
 }
 
 /// Packets or buffers of these lengths from their opening on.
@@ -83,16 +97,57 @@ pub fn speech<K: Coder>(sink: &mut dyn Sink<K>, rng: &mut Rng, count: u32) -> Ou
     Ok(())
 }
 
-/// Arbitrary sound states, half of them with the value where the answer to the symbol changes.
-pub fn on_sound<K: Coder>(sink: &mut dyn Sink<K>, rng: &mut Rng, calls: u32) -> Outcome {
+/// So many times each call in turn, on bytes of any length and arbitrary sound states, half of those with
+/// the value where the answer to the symbol changes.
+pub fn each_in_turn<K: Coder>(sink: &mut dyn Sink<K>, rng: &mut Rng, cases: u64) -> Outcome {
+    let (mut bytes, mut entries): (Bytes, Entries) = ([0; LONGEST + 1], [0; 257]);
+    let mut length = 0;
+    for case in 0..cases {
+        if case % 4 == 0 {
+            length = any_bytes(rng, &mut bytes);
+        }
+        let bytes = &mut bytes[..length];
+        sink.put(bytes, State::default(), K::open())?;
+        for choices in models::CHOICES {
+            let (choice, seen) = (rng.pick(choices), rng.any_width());
+            let model = models::chosen(rng, &mut entries, seen, choice);
+            let symbol = K::any(rng, model);
+            let state = any_sound::<K>(rng, length, symbol);
+            sink.put(bytes, state, symbol)?;
+        }
+        for end in K::ends() {
+            let symbol = K::any(rng, Model::Bit(1));
+            let state = any_sound::<K>(rng, length, symbol);
+            sink.put(bytes, state, end)?;
+        }
+    }
+    Ok(())
+}
+
+/// Fills bytes in one of the ways, and answers how many.
+fn any_bytes(rng: &mut Rng, bytes: &mut Bytes) -> usize {
+    let most = rng.pick(&[4, 40, LONGEST]);
+    let length = rng.or_end(0, most as u32) as usize;
+    let kind = rng.pick(&FILLS);
+    fill(rng, &mut bytes[..length], kind);
+    length
+}
+
+fn any_sound<K: Coder>(rng: &mut Rng, length: usize, symbol: K::Ask<'_>) -> K::State {
+    let mut state = K::sound(rng, length);
+    if rng.one_in(2) {
+        K::to_border(rng, &mut state, symbol);
+    }
+    state
+}
+
+/// The same for a recorded list: so many calls, each any of them.
+fn on_sound<K: Coder>(sink: &mut dyn Sink<K>, rng: &mut Rng, calls: u32) -> Outcome {
     let (mut bytes, mut entries): (Bytes, Entries) = ([0; LONGEST + 1], [0; 257]);
     let mut length = 0;
     for call in 0..calls {
         if call % 16 == 0 {
-            let most = rng.pick(&[4, 40, LONGEST]);
-            length = rng.or_end(0, most as u32) as usize;
-            let kind = rng.pick(&FILLS);
-            fill(rng, &mut bytes[..length], kind);
+            length = any_bytes(rng, &mut bytes);
         }
         let mut state = K::sound(rng, length);
         let seen = rng.any_width();

@@ -1,5 +1,6 @@
 //! The one comparing step: a call is put to two sides, and all that they answer and leave is equal.
 
+use crate::board::Score;
 use crate::bytes::Bytes;
 use crate::counters::Counters;
 use crate::domain::LONGEST;
@@ -25,6 +26,8 @@ pub trait Kind: Sized {
     const NAME: &'static str;
     /// Each call with the refusals that it can answer.
     const CALLS: &'static [(&'static str, &'static [usize])];
+    /// The calls of include/tignarops.h, in the order of `CALLS`.
+    const EXPORTS: &'static [&'static str];
     /// The place of the account in `CALLS`.
     const ACCOUNT: usize = 1;
     /// Ways that the symbols of accepted calls can take.
@@ -65,7 +68,8 @@ pub trait Sides: Kind {
 
 /// Where the calls of a plan go: to a comparison or into a record.
 pub trait Sink<K: Kind> {
-    /// The answer, with what it leaves in the bytes; or a difference, which ends the plan.
+    /// The answer to go on with, and with what it leaves in the bytes: the other side's, where two differ.
+    /// An error ends the plan.
     fn put(
         &mut self,
         bytes: &mut [u8],
@@ -92,31 +96,37 @@ impl Default for Copies {
 }
 
 impl Copies {
-    /// What both sides answer to the call, with what it leaves in the bytes; or the difference.
+    /// What the other side answers to the call, with what it leaves in the bytes, and whether ours is the
+    /// same; an error where the other side panics and leaves nothing to go on with.
     pub fn put<K: Kind, S: PartialEq + Debug>(
         &mut self,
+        score: &mut Score,
         bytes: &mut [u8],
         (state, ask): (K::State, &dyn Debug),
         ours: impl FnOnce(&mut [u8]) -> Answer<S>,
         theirs: impl FnOnce(&mut [u8]) -> Answer<S>,
-    ) -> Result<Answer<S>, String> {
+    ) -> Result<(Answer<S>, bool), String> {
         let our_bytes = &mut self.ours[..bytes.len()];
         let their_bytes = &mut self.theirs[..bytes.len()];
         our_bytes.copy_from_slice(bytes);
         their_bytes.copy_from_slice(bytes);
-        let answer = ours(our_bytes);
+        let ours = ours(our_bytes);
         // The crate panics where an index or, with overflow checks, a sum leaves its range.
         let theirs = catch_unwind(AssertUnwindSafe(|| theirs(their_bytes))).ok();
-        if theirs.as_ref() != Some(&answer) || our_bytes != their_bytes {
-            let (ours, theirs) = ((Some(answer), &*our_bytes), (theirs, &*their_bytes));
-            return Err(report::difference::<K, S>(bytes, state, ask, ours, theirs));
-        }
-        bytes.copy_from_slice(our_bytes);
-        Ok(answer)
+        let same = theirs.as_ref() == Some(&ours) && our_bytes == their_bytes;
+        let refusal = theirs.as_ref().map_or(0, |answer| answer.refusal);
+        score.count(refusal, same, || {
+            let (ours, theirs) = ((Some(&ours), &*our_bytes), (theirs.as_ref(), &*their_bytes));
+            report::difference::<K, S>(bytes, state, ask, ours, theirs)
+        });
+        bytes.copy_from_slice(their_bytes);
+        let answer =
+            theirs.ok_or_else(|| format!("ENDED, since the other side panics: {ask:?}"))?;
+        Ok((answer, same))
     }
 }
 
-/// Two sides, and what was counted of the calls on which they agree.
+/// Two sides, and what was counted of their calls.
 pub struct Pair<K: Kind> {
     ours: Side<K>,
     theirs: Side<K>,
@@ -143,13 +153,16 @@ impl<K: Kind> Sink<K> for Pair<K> {
         ask: K::Ask<'_>,
     ) -> Result<Answer<K::State>, String> {
         let (ours, theirs) = (self.ours, self.theirs);
-        let answer = self.copies.put::<K, _>(
+        let (answer, same) = self.copies.put::<K, _>(
+            self.counters.score(ask),
             bytes,
             (state, &ask),
             |bytes| ours(bytes, state, ask),
             |bytes| theirs(bytes, state, ask),
         )?;
-        self.counters.count(bytes.len(), &state, ask, &answer);
+        if same {
+            self.counters.mark(bytes.len(), &state, ask, &answer);
+        }
         Ok(answer)
     }
 

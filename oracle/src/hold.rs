@@ -1,81 +1,82 @@
-//! Holds our reader and our writer to the crate's and to libopus's.
+//! Holds our reader, our writer and our line spectra to the crate's and to libopus's.
 
+#[cfg(libopus)]
+use crate::board::LIBOPUS;
+use crate::board::{Board, CRATE};
 #[cfg(libopus)]
 use crate::compare::Accepted;
 use crate::compare::{Pair, Sides, Sink};
+use crate::report;
 use crate::rng::Rng;
+use std::ops::Range;
 
-/// What a plan comes to: an error is a difference, or an answer that the plan rules out.
+/// What a plan comes to: an error is an answer that the plan rules out.
 pub type Outcome = Result<(), String>;
 
-/// What the calls of a plan are, and a share of them, 1 for all, put to a sink.
-pub type Plan<K> = (&'static str, fn(&mut dyn Sink<K>, &mut Rng, u32) -> Outcome);
+/// How much is compared.
+#[derive(Clone, Copy)]
+pub struct Extent {
+    /// Of each exported call at random.
+    pub cases: u64,
+    /// A share, 1 for all, of the cases that are there whatever that number is.
+    pub share: u32,
+    pub seed: u64,
+}
+
+impl Extent {
+    /// A share of so many rounds.
+    pub fn rounds(&self, all: u32) -> Range<u32> {
+        0..(all / self.share).max(1)
+    }
+}
+
+/// What the calls of a plan are, and putting them to a sink.
+pub type Plan<K> = (
+    &'static str,
+    fn(&mut dyn Sink<K>, &mut Rng, &Extent) -> Outcome,
+);
 
 /// A kind of coder with the calls that are compared.
 pub trait Plans: Sides + 'static {
     const PLANS: &'static [Plan<Self>];
 }
 
-pub fn to_the_crate<K: Plans>(seed: u64) -> Outcome {
+pub fn to_the_crate<K: Plans>(extent: &Extent, board: &mut Board) {
     let mut pair = Pair::<K>::new(K::ours, K::unopus);
-    run(&mut pair, seed, 1, |calls, plan| {
-        println!("{}: {calls} calls {plan} equal the crate's", K::NAME);
-    })?;
-    show(&pair);
-    pair.counters().missing(|_, _| true)
+    board.check(K::NAME, run(&mut pair, extent));
+    settle(&pair, CRATE, board, |_, _| true);
 }
 
 /// The calls that document 01 accepts and libopus has a function for.
 #[cfg(libopus)]
-pub fn to_libopus<K: Plans>(seed: u64) -> Outcome {
+pub fn to_libopus<K: Plans>(extent: &Extent, board: &mut Board) {
     let mut accepted = Accepted::<K>::default();
-    run(&mut accepted, seed, 4, |calls, plan| {
-        println!("{}: {calls} accepted calls {plan} equal libopus's", K::NAME);
-    })?;
-    show(&accepted);
+    board.check(K::NAME, run(&mut accepted, extent));
     let has = |call, refusal| refusal == 0 && call != K::ACCOUNT;
-    accepted.counters().missing(has)
+    settle(&accepted, LIBOPUS, board, has);
 }
 
-#[cfg(not(libopus))]
-pub fn to_libopus<K: Plans>(_: u64) -> Outcome {
-    println!(
-        "{}: no libopus.a; comparison with libopus left out",
-        K::NAME
-    );
+fn run<K: Plans>(sink: &mut dyn Sink<K>, extent: &Extent) -> Outcome {
+    let mut rng = Rng::new(extent.seed);
+    for (what, plan) in K::PLANS {
+        plan(sink, &mut rng, extent).map_err(|e| format!("{what}: {e}"))?;
+    }
     Ok(())
 }
 
-/// How many calls a small share of all was, and that they are the crate's.
-pub fn in_short<K: Plans>(seed: u64) -> Result<u64, String> {
-    let mut pair = Pair::<K>::new(K::ours, K::unopus);
-    run(&mut pair, seed, 16, |_, _| {})?;
-    pair.counters().missing(|_, _| true)?;
-    Ok(pair.counters().all())
-}
-
-/// Says, after each plan, how many calls it put and what it is.
-fn run<K: Plans>(
-    sink: &mut dyn Sink<K>,
-    seed: u64,
-    share: u32,
-    say: impl Fn(u64, &str),
-) -> Outcome {
-    let mut rng = Rng::new(seed);
-    for (what, plan) in K::PLANS {
-        let before = sink.counters().all();
-        plan(sink, &mut rng, share)?;
-        let calls = sink.counters().all() - before;
-        if calls > 0 {
-            say(calls, what);
+fn settle<K: Plans>(
+    sink: &dyn Sink<K>,
+    with: &'static str,
+    board: &mut Board,
+    wanted: impl Fn(usize, usize) -> bool + 'static,
+) {
+    let what = format!("{}, {with}", K::NAME);
+    let counters = sink.counters();
+    board.note(format!("{what}: {}", report::counts(counters.ways())));
+    for (call, score) in K::EXPORTS.iter().zip(counters.scores()) {
+        if score.cases() > 0 {
+            board.row(call, with, score);
         }
     }
-    Ok(())
-}
-
-fn show<K: Plans>(sink: &dyn Sink<K>) {
-    println!("{}: {} calls in all", K::NAME, sink.counters().all());
-    for line in sink.counters().lines() {
-        println!("{}:   {line}", K::NAME);
-    }
+    board.covered(&what, counters.missing(wanted));
 }

@@ -4,6 +4,7 @@
 
 include!(concat!(env!("OUT_DIR"), "/unopus.rs"));
 
+pub mod board;
 pub mod bytes;
 pub mod coder;
 pub mod compare;

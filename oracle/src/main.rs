@@ -1,10 +1,16 @@
 //! Holds our calls and tables to the crate's and to libopus's, and what our writer writes to reading
-//! back: a line for each comparison that came out equal, or the first difference and status 1.
+//! back: what the cases were, then a table with a row for each exported call and for the crate and
+//! libopus, below it the first difference of each row, then the recorded answers. A difference is
+//! counted and stops nothing; status 1 where there is one, or where a way was never compared.
 //!
-//! ORACLE_SEED picks the calls at random. `record` writes the recorded answers anew;
-//! `overflow`, built for debugging, holds that no accepted call overflows in the crate.
+//! CASES is how many cases at random each exported call has with the crate; with libopus it has as many
+//! less those that document 01 refuses. Cases at limits, along packets of every length and on broken
+//! states come besides, whatever it is.
+//! SEED picks the cases. ORACLE_CASES and ORACLE_SEED stand in for them. `record` writes the recorded
+//! answers anew; `overflow`, built for debugging, holds that no accepted call overflows in the crate.
 
-use oracle::hold::Plans;
+use oracle::board::Board;
+use oracle::hold::{Extent, Plans};
 use oracle::reader::Reading;
 use oracle::record::{self, Files};
 use oracle::spectra::Spectra;
@@ -14,13 +20,21 @@ use std::path::{Path, PathBuf};
 use std::process::ExitCode;
 use std::{env, fs};
 
+/// Cases of each call; with fewer, a way that is never compared is said and fails nothing.
+const CASES: u64 = 200_000;
+
+/// As many, built for debugging.
+const OVERFLOW_CASES: u64 = 30_000;
+
 fn main() -> ExitCode {
     let words: Vec<String> = env::args().skip(1).collect();
     let outcome = match words.iter().map(String::as_str).collect::<Vec<_>>()[..] {
-        [] => compare(),
         ["overflow"] => overflow(),
         ["record"] => write_records(),
-        _ => Err("usage: oracle [overflow | record]".to_string()),
+        [] => compare(None, None),
+        [cases] => compare(Some(cases), None),
+        [cases, seed] => compare(Some(cases), Some(seed)),
+        _ => Err("usage: oracle [CASES [SEED] | overflow | record]".to_string()),
     };
     match outcome {
         Ok(()) => ExitCode::SUCCESS,
@@ -31,48 +45,70 @@ fn main() -> ExitCode {
     }
 }
 
-fn compare() -> Result<(), String> {
-    let seed = seed()?;
-    tables::hold_all().map_err(|e| format!("tables: {e}"))?;
-    println!("calls: seed {seed}");
-    calls::<Reading>(seed)?;
-    calls::<Writing>(seed)?;
-    calls::<Spectra>(seed)?;
-    roundtrip::hold(seed).map_err(|e| format!("round trip: {e}"))?;
-    types::hold(seed).map_err(|e| format!("frame types: {e}"))?;
-    frames::hold(seed)?;
-    read_records()
+fn compare(cases: Option<&str>, seed: Option<&str>) -> Result<(), String> {
+    let extent = Extent {
+        cases: number(cases, "ORACLE_CASES", CASES)?,
+        share: 1,
+        seed: number(seed, "ORACLE_SEED", 1)?,
+    };
+    let mut board = Board::new(extent.cases >= CASES);
+    println!("{} cases of each call, seed {}", extent.cases, extent.seed);
+    if !cfg!(libopus) {
+        println!("no libopus.a; comparison with libopus left out");
+    }
+    tables::hold_all(&mut board);
+    to_both::<Reading>(&extent, &mut board);
+    to_both::<Writing>(&extent, &mut board);
+    to_both::<Spectra>(&extent, &mut board);
+    types::hold(&extent, &mut board);
+    frames::hold(&extent, &mut board);
+    roundtrip::hold(&extent, &mut board);
+    board.every_exported();
+    board.show();
+    let outcomes = [read_records(), board.verdict().map(|_| ())];
+    let faults: Vec<String> = outcomes.into_iter().filter_map(Result::err).collect();
+    match faults.is_empty() {
+        true => Ok(()),
+        false => Err(faults.join("\n")),
+    }
 }
 
-fn calls<K: Plans>(seed: u64) -> Result<(), String> {
-    hold::to_the_crate::<K>(seed).map_err(|e| format!("{}: {e}", K::NAME))?;
-    hold::to_libopus::<K>(seed).map_err(|e| format!("{}, libopus: {e}", K::NAME))
+fn to_both<K: Plans>(extent: &Extent, board: &mut Board) {
+    hold::to_the_crate::<K>(extent, board);
+    #[cfg(libopus)]
+    hold::to_libopus::<K>(
+        &Extent {
+            share: 4,
+            ..*extent
+        },
+        board,
+    );
 }
 
 fn overflow() -> Result<(), String> {
     if !cfg!(debug_assertions) {
         return Err("overflow: built without overflow checks".to_string());
     }
-    no_overflow::<Reading>()?;
-    no_overflow::<Writing>()?;
-    no_overflow::<Spectra>()?;
-    frames::no_overflow(seed()?).map_err(|e| format!("overflow: {e}"))
-}
-
-fn no_overflow<K: Plans>() -> Result<(), String> {
-    let calls = hold::in_short::<K>(seed()?).map_err(|e| format!("overflow: {e}"))?;
-    println!(
-        "overflow: of {calls} calls of the {}, built with overflow checks, none overflows in the crate",
-        K::NAME
-    );
+    let extent = Extent {
+        cases: OVERFLOW_CASES,
+        share: 16,
+        seed: number(None, "ORACLE_SEED", 1)?,
+    };
+    let mut board = Board::quiet();
+    hold::to_the_crate::<Reading>(&extent, &mut board);
+    hold::to_the_crate::<Writing>(&extent, &mut board);
+    hold::to_the_crate::<Spectra>(&extent, &mut board);
+    frames::calls_to_the_crate(&extent, &mut board);
+    let cases = board.verdict().inspect_err(|_| board.show())?;
+    println!("overflow: of {cases} cases, built with overflow checks, none overflows in the crate");
     Ok(())
 }
 
-fn seed() -> Result<u64, String> {
-    match env::var("ORACLE_SEED") {
-        Ok(seed) => seed.parse().map_err(|e| format!("ORACLE_SEED: {e}")),
-        Err(_) => Ok(1),
-    }
+/// The word, else what the variable says, else the default.
+fn number(word: Option<&str>, variable: &str, default: u64) -> Result<u64, String> {
+    let said = word.map(str::to_string).or_else(|| env::var(variable).ok());
+    let number = said.map_or(Ok(default), |said| said.parse());
+    number.map_err(|e| format!("{variable}: {e}"))
 }
 
 // ---- the recorded answers

@@ -150,7 +150,15 @@ pub type Entries = [u8; 257];
 
 /// An accepted model at random; some depend on the value read before.
 pub fn any<'a>(rng: &mut Rng, entries: &'a mut Entries, value: u32) -> Model<'a> {
-    match rng.between(0, 9) {
+    let choice = rng.between(0, 9);
+    chosen(rng, entries, value, choice)
+}
+
+/// The choices among accepted models that make one of each kind.
+pub const CHOICES: [&[u32]; 4] = [&[0, 1], &[2, 3, 4], &[5, 6], &[7]];
+
+pub fn chosen<'a>(rng: &mut Rng, entries: &'a mut Entries, value: u32, choice: u32) -> Model<'a> {
+    match choice {
         0 => Model::Bit(rng.between(1, 15)),
         1 => Model::Bit(1 + value % 15),
         2 => Model::Number(rng.between(2, 600)),

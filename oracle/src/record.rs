@@ -4,6 +4,7 @@
 use crate::compare::{Answer, Sides, Sink};
 use crate::counters::Counters;
 use crate::hold::Outcome;
+use crate::report;
 use crate::rng::Rng;
 
 /// A kind of coder with a list of its own.
@@ -43,9 +44,9 @@ pub fn files<K: Recorded>() -> Result<Files, String> {
         counters: Counters::new(),
     };
     K::list(&mut list, &mut Rng::new(0))?;
-    list.counters.missing(|_, _| true)?;
-    let calls = K::CALLS.iter().enumerate();
-    let calls = calls.map(|(call, (name, _))| (*name, list.counters.of_call(call)));
+    report::complete(list.counters.missing(|_, _| true))?;
+    let calls = K::CALLS.iter().zip(list.counters.scores());
+    let calls = calls.map(|((name, _), score)| (*name, score.cases()));
     Ok(Files::new(list.records, &calls.collect::<Vec<_>>()))
 }
 
@@ -64,7 +65,9 @@ impl<K: Recorded> Sink<K> for List<K> {
     ) -> Result<Answer<K::State>, String> {
         let before = bytes.to_vec();
         let answer = K::unopus(bytes, state, ask);
-        self.counters.count(bytes.len(), &state, ask, &answer);
+        let score = self.counters.score(ask);
+        score.count(answer.refusal, true, String::new);
+        self.counters.mark(bytes.len(), &state, ask, &answer);
         let (numbers, rest) = K::asked(ask);
         self.records.call(&Recording {
             call: K::call(ask) as u8 + 1,

@@ -8,7 +8,7 @@ use std::fmt::Debug;
 const SHOWN: usize = 32;
 
 /// What a side answered, nothing where it panicked, and the bytes that it left.
-pub type Left<'a, S> = (Option<Answer<S>>, &'a [u8]);
+pub type Left<'a, S> = (Option<&'a Answer<S>>, &'a [u8]);
 
 /// The call, its bytes and state, and both sides' answers.
 pub fn difference<K: Kind, S: Debug>(
@@ -40,7 +40,7 @@ pub fn difference<K: Kind, S: Debug>(
     lines.join("\n    ")
 }
 
-fn answer<S: Debug>(answer: Option<Answer<S>>) -> String {
+fn answer<S: Debug>(answer: Option<&Answer<S>>) -> String {
     answer.map_or("panics".to_string(), |answer| format!("{answer:?}"))
 }
 
@@ -57,4 +57,10 @@ pub fn complete(missing: impl Iterator<Item = String>) -> Outcome {
         return Ok(());
     }
     Err(format!("NEVER COMPARED: {}", missing.join(", ")))
+}
+
+/// Names, each with how often it was counted.
+pub fn counts(counts: impl Iterator<Item = (impl AsRef<str>, u64)>) -> String {
+    let counts = counts.map(|(name, n)| format!("{} {n}", name.as_ref()));
+    counts.collect::<Vec<_>>().join(", ")
 }

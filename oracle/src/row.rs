@@ -1,5 +1,6 @@
 //! Rows of numbers, and holding a table to them.
 
+use crate::board::Score;
 use crate::ours::END;
 
 /// A row's name, for messages, and its numbers.
@@ -162,25 +163,19 @@ impl Book {
 }
 
 /// Holds a table to rows laid one after another, and to ending where they end.
-pub fn compare(entry: impl Fn(usize) -> u32, rows: &[Row]) -> Result<(), String> {
-    let mut start = 0;
-    for (name, numbers) in rows {
-        for (i, &number) in numbers.iter().enumerate() {
-            let place = start + i;
-            let found = entry(place);
-            if found == END {
-                return Err(format!("ends at place {place}, {name} at {i} has {number}"));
-            }
-            if found != number {
-                return Err(format!(
-                    "place {place} has {found}, {name} at {i} has {number}"
-                ));
-            }
-        }
-        start += numbers.len();
-    }
-    match entry(start) {
-        END => Ok(()),
-        more => Err(format!("place {start} has {more}, where it should end")),
+pub fn compare(score: &mut Score, table: &str, entry: impl Fn(usize) -> u32, rows: &[Row]) {
+    let row = |(name, numbers): &'_ Row| -> Vec<(String, usize, u32)> {
+        let numbers = numbers.iter().enumerate();
+        numbers
+            .map(|(i, &number)| (name.clone(), i, number))
+            .collect()
+    };
+    let end = ("the end".to_string(), 0, END);
+    let expected = rows.iter().flat_map(row).chain([end]).enumerate();
+    for (place, (name, i, number)) in expected {
+        let found = entry(place);
+        score.count(0, found == number, || {
+            format!("DIFFER: {table}, place {place} has {found}, {name} at {i} has {number}")
+        });
     }
 }

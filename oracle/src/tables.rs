@@ -1,5 +1,8 @@
 //! Holds our tables to the crate's and to libopus's.
 
+#[cfg(libopus)]
+use crate::board::LIBOPUS;
+use crate::board::{Board, Score, CRATE};
 use crate::ours::{table_entry, END, TABLES};
 use crate::row::{compare, Row};
 use crate::unopus;
@@ -7,69 +10,61 @@ use crate::unopus;
 /// How many of the tables, the last ones, are no inverse rows.
 const BOOK_TABLES: usize = 10;
 
-pub fn hold_all() -> Result<(), String> {
-    let names = hold("the crate or nlsf-codebooks.txt", unopus::rows)?;
+const NAME: &str = "tg_table_entry";
+
+pub fn hold_all(board: &mut Board) {
+    let names = hold(CRATE, unopus::rows, board);
     let of_books = names.iter().filter(|name| name.starts_with(unopus::BOOKS));
     let of_books = of_books.count();
-    println!(
-        "tables: {} inverse rows equal the crate's",
-        names.len() - of_books
-    );
-    println!(
-        "tables: {} inverse rows and {BOOK_TABLES} tables of the spectrum books equal {}",
+    board.note(format!(
+        "{NAME}, {CRATE}: {} inverse rows; of {}: {} inverse rows and {BOOK_TABLES} tables",
+        names.len() - of_books,
+        unopus::BOOKS,
         of_books - BOOK_TABLES,
-        unopus::BOOKS
-    );
-    against_libopus()?;
-    probabilities()?;
-    ends()
+    ));
+    #[cfg(libopus)]
+    against_libopus(board);
+    board.check("probabilities", probabilities());
+    board.check("ends", ends());
 }
 
 /// What the oracle's side of the writers of frames leans on: else some symbol would have to be refused.
 fn probabilities() -> Result<(), String> {
     let rows = unopus::inverse_rows();
     let empty = |row: &&Vec<u8>| row.windows(2).any(|pair| pair[0] == pair[1]);
-    if let Some(row) = rows.iter().find(empty) {
-        return Err(format!("NO PROBABILITY for a symbol of {row:?}"));
+    match rows.iter().find(empty) {
+        Some(row) => Err(format!("NO PROBABILITY for a symbol of {row:?}")),
+        None => Ok(()),
     }
-    println!(
-        "tables: every symbol of the {} inverse rows has a probability",
-        rows.len()
-    );
-    Ok(())
 }
 
 #[cfg(libopus)]
-fn against_libopus() -> Result<(), String> {
+fn against_libopus(board: &mut Board) {
     use crate::libopus;
-    let names = hold("libopus", libopus::rows)?;
-    println!(
-        "tables: {} inverse rows and {BOOK_TABLES} tables of the spectrum books equal libopus's",
+    let names = hold(LIBOPUS, libopus::rows, board);
+    board.note(format!(
+        "{NAME}, {LIBOPUS}: {} inverse rows, {BOOK_TABLES} tables of books; the books' steps",
         names.len() - BOOK_TABLES
-    );
-    let steps = unopus::steps();
-    let step = |place| steps[0].1.get(place).copied().unwrap_or(END);
-    compare(step, &libopus::steps()).map_err(|at| format!("DIFFER from libopus: steps, {at}"))?;
-    println!("books: the steps that the crate's files are given equal libopus's");
-    Ok(())
-}
-
-#[cfg(not(libopus))]
-fn against_libopus() -> Result<(), String> {
-    println!("tables: no libopus.a; comparison with libopus left out");
-    Ok(())
+    ));
+    let steps = (unopus::steps(), libopus::steps());
+    let outcome = match steps.0[0].1 == steps.1[0].1 {
+        true => Ok(()),
+        false => Err(format!("DIFFER from libopus: {steps:?}")),
+    };
+    board.check("books", outcome);
 }
 
 /// Holds each table of ours to the rows of a source, and answers the names of those rows.
-fn hold(source: &str, rows: fn(u32) -> Vec<Row>) -> Result<Vec<String>, String> {
-    let mut names = Vec::new();
+fn hold(with: &'static str, rows: fn(u32) -> Vec<Row>, board: &mut Board) -> Vec<String> {
+    let (mut names, mut score) = (Vec::new(), Score::default());
     for table in 0..TABLES {
         let rows = rows(table);
-        compare(|place| table_entry(table, place), &rows)
-            .map_err(|at| format!("DIFFER from {source}: table {table}, {at}"))?;
+        let entry = |place| table_entry(table, place);
+        compare(&mut score, &format!("table {table}"), entry, &rows);
         names.extend(rows.into_iter().map(|(name, _)| name));
     }
-    Ok(names)
+    board.row(NAME, with, &score);
+    names
 }
 
 /// That the tables end where the rows do is a part of holding them; here it is the far places.
@@ -84,6 +79,5 @@ fn ends() -> Result<(), String> {
             ));
         }
     }
-    println!("tables: each of {TABLES} ends where it should, and table {TABLES} is unknown");
     Ok(())
 }

@@ -1,15 +1,15 @@
 //! The types of a packet's first frame: our call beside the crate's opening and its read of the type row.
 
+use crate::board::{Board, Score, CRATE};
 use crate::bytes::{self, Bytes, FILLS, LENGTHS};
 use crate::celt::entdec::{ec_dec_icdf, ec_dec_init};
 use crate::domain::LONGEST;
-use crate::hold::Outcome;
+use crate::hold::Extent;
 use crate::report;
 use crate::rng::Rng;
 use crate::silk::tables_other::{silk_type_offset_VAD_iCDF, silk_type_offset_no_VAD_iCDF};
 
-/// Packets at random, besides every packet of at most two bytes.
-const RANDOM: u32 = 400_000;
+const NAME: &str = "tg_frame_type";
 
 /// Active flags: both that are accepted, and two that are not.
 const ACTIVE: [u32; 4] = [0, 1, 2, u32::MAX];
@@ -52,66 +52,65 @@ fn theirs(packet: &mut [u8], active: u32) -> Types {
     }
 }
 
-/// How often each pair of types was read, and how often a call was refused with 1 and with 4.
 #[derive(Default)]
 struct Tally {
+    score: Score,
+    /// How often each pair was read.
     types: [u64; 6],
-    refused: [u64; 5],
 }
 
 impl Tally {
-    fn put(&mut self, packet: &mut [u8]) -> Outcome {
+    fn put(&mut self, packet: &mut [u8]) {
         for active in ACTIVE {
             let (ours, theirs) = (ours(packet, active), theirs(packet, active));
-            if ours != theirs {
-                return Err(format!(
+            self.score.count(theirs.refusal, ours == theirs, || {
+                format!(
                     "DIFFER: active {active}\n    {} bytes: {}\n    ours:   {ours:?}\n    theirs: {theirs:?}",
                     packet.len(),
                     report::hex(packet)
-                ));
-            }
-            match ours.refusal {
-                0 => self.types[(ours.signal_type * 2 + ours.offset_type) as usize] += 1,
-                refused => self.refused[refused as usize] += 1,
+                )
+            });
+            if theirs.refusal == 0 {
+                self.types[(theirs.signal_type * 2 + theirs.offset_type) as usize] += 1;
             }
         }
-        Ok(())
     }
 
-    fn show(&self) -> Outcome {
-        let [one, four] = [1, 4].map(|refusal| self.refused[refusal]);
-        let read = self.types.map(|n| n.to_string()).join(", ");
-        let all = self.types.iter().sum::<u64>() + one + four;
-        println!("frame types: {all} calls equal the crate's");
-        println!("    types 0 0 to 2 1: {read}, refused with 1: {one}, refused with 4: {four}");
-        match self.types.contains(&0) || one == 0 || four == 0 {
-            true => Err("NEVER COMPARED: a pair of types or a refusal".to_string()),
-            false => Ok(()),
-        }
+    fn settle(&self, board: &mut Board) {
+        board.note(format!("{NAME}: types 0 0 to 2 1: {:?}", self.types));
+        board.row(NAME, CRATE, &self.score);
+        let types = self.types.iter().enumerate().filter(|(_, &n)| n == 0);
+        let types = types.map(|(pair, _)| format!("pair {pair} of types"));
+        let refusals = [1, 4].into_iter();
+        let refusals = refusals.filter(|&refusal| self.score.answered(refusal) == 0);
+        let refusals = refusals.map(|refusal| format!("refused with {refusal}"));
+        board.covered(NAME, types.chain(refusals));
     }
 }
 
-pub fn hold(seed: u64) -> Outcome {
-    let (mut tally, mut rng) = (Tally::default(), Rng::new(seed));
-    tally.put(&mut [])?;
+/// Every packet of at most two bytes, the limits of lengths, and packets at random.
+pub fn hold(extent: &Extent, board: &mut Board) {
+    let (mut tally, mut rng) = (Tally::default(), Rng::new(extent.seed));
+    tally.put(&mut []);
     for pair in 0..=u16::MAX {
         let [first, second] = pair.to_be_bytes();
         if second == 0 {
-            tally.put(&mut [first])?;
+            tally.put(&mut [first]);
         }
-        tally.put(&mut [first, second])?;
+        tally.put(&mut [first, second]);
     }
     let mut room: Bytes = [0; LONGEST + 1];
-    for length in LENGTHS {
-        for fill in FILLS {
-            bytes::fill(&mut rng, &mut room[..length], fill);
-            tally.put(&mut room[..length])?;
-        }
+    for (length, kind) in LENGTHS
+        .into_iter()
+        .flat_map(|n| FILLS.map(|kind| (n, kind)))
+    {
+        bytes::fill(&mut rng, &mut room[..length], kind);
+        tally.put(&mut room[..length]);
     }
-    for _ in 0..RANDOM {
+    for _ in 0..extent.cases.div_ceil(ACTIVE.len() as u64) {
         let packet = &mut room[..rng.between(0, 12) as usize];
         rng.fill(packet);
-        tally.put(packet)?;
+        tally.put(packet);
     }
-    tally.show()
+    tally.settle(board);
 }

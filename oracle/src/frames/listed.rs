@@ -10,6 +10,7 @@ use crate::domain::{self, pulses_of, LONGEST};
 use crate::hold::Outcome;
 use crate::reader::Reading;
 use crate::record::{Files, Recording, Records};
+use crate::report;
 use crate::rng::Rng;
 use crate::state::{State, Writer};
 use crate::writer::{Ask, Writing};
@@ -40,7 +41,7 @@ trait Listed: Frame {
     /// Its number in the records.
     const CALL: u8;
     /// So many calls at random under each choice of numbers, of which every so manieth is taken.
-    const FEW: (u32, usize);
+    const FEW: (u64, usize);
 
     /// Calls of its own, besides those at random and those that are refused.
     fn own(rng: &mut Rng, put: &mut Put<Self>) -> Outcome;
@@ -62,7 +63,7 @@ fn list<C: Listed>(records: &mut Records, rng: &mut Rng) -> Result<u64, String> 
     plans::accepted::<C>(rng, choices.collect(), each, &mut put)?;
     C::own(rng, &mut put)?;
     plans::refused_in_short::<C>(rng, &mut put)?;
-    tally.missing(C::REFUSALS)?;
+    report::complete(tally.missing(C::REFUSALS))?;
     Ok(tally.all())
 }
 
@@ -94,7 +95,7 @@ fn record<C: Listed>(
 
 impl Listed for indices::Read {
     const CALL: u8 = 1;
-    const FEW: (u32, usize) = (2, 1);
+    const FEW: (u64, usize) = (2, 1);
 
     /// Every size; lags by steps at their ends and beside them, from the ends of 16 bits; residuals where
     /// they are extended.
@@ -129,7 +130,7 @@ impl Listed for indices::Read {
 
 impl Listed for indices::Write {
     const CALL: u8 = 3;
-    const FEW: (u32, usize) = (1, 1);
+    const FEW: (u64, usize) = (1, 1);
 
     /// Each field that a frame of each size reads, beside both ends of its range.
     fn own(rng: &mut Rng, put: &mut Put<Self>) -> Outcome {
@@ -209,7 +210,7 @@ fn kept_bytes(kept: &Kept) -> Vec<u8> {
 
 impl Listed for pulses::Read {
     const CALL: u8 = 2;
-    const FEW: (u32, usize) = (2, 1);
+    const FEW: (u64, usize) = (2, 1);
 
     /// Every rate level; in each frame a block of every shift, and some of low bits alone.
     fn own(rng: &mut Rng, put: &mut Put<Self>) -> Outcome {
@@ -237,7 +238,7 @@ impl Listed for pulses::Read {
 impl Listed for pulses::Write {
     const CALL: u8 = 4;
     // Every rate level with every choice of the other numbers would be 324.
-    const FEW: (u32, usize) = (1, 5);
+    const FEW: (u64, usize) = (1, 5);
 
     /// Blocks at the limits of every shift, at every place of the shortest frame.
     fn own(_: &mut Rng, put: &mut Put<Self>) -> Outcome {

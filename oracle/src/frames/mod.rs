@@ -7,16 +7,20 @@ mod listed;
 mod plans;
 pub mod pulses;
 mod tally;
-mod whole;
+pub mod whole;
 
+#[cfg(libopus)]
+use crate::board::LIBOPUS;
+use crate::board::{Board, CRATE};
 use crate::coder::Coder;
 use crate::compare::{Answer, Kind};
-use crate::hold::Outcome;
+use crate::hold::{Extent, Outcome};
 use crate::rng::Rng;
 use std::fmt::Debug;
 use tally::Tally;
 
 pub use listed::files;
+pub use tally::compared;
 
 /// The rate in kHz and the number of subframes.
 #[derive(Clone, Copy, Debug)]
@@ -68,13 +72,12 @@ pub trait Frame {
     /// What the call hands back besides the state.
     type Held: PartialEq + Debug;
 
+    /// As include/tignarops.h names it.
     const NAME: &'static str;
     /// Ways that an accepted call can take, in lists one after the other.
     const WAYS: &'static [&'static [&'static str]];
     /// The numbers of document 01's table that can refuse it.
     const REFUSALS: &'static [usize];
-    /// So many calls under each choice of numbers are compared with the crate's.
-    const EACH: u32;
 
     /// Gives something else besides the numbers, at random.
     fn refill(call: &mut Self::Given, rng: &mut Rng);
@@ -116,74 +119,58 @@ pub type StateOf<C> = <<C as Frame>::Coder as Kind>::State;
 pub type Left<C> = (StateOf<C>, <C as Frame>::Held);
 
 /// The crate's call or libopus's.
-type Side<C> = fn(&<C as Frame>::Given, &mut [u8], StateOf<C>) -> Left<C>;
+pub type Side<C> = fn(&<C as Frame>::Given, &mut [u8], StateOf<C>) -> Left<C>;
 
-pub fn hold(seed: u64) -> Outcome {
-    both::<indices::Read>(seed)?;
-    both::<pulses::Read>(seed)?;
-    crate_alone::<indices::Write>(seed)?;
-    both::<pulses::Write>(seed)?;
-    pulses::crate_writer::hold(seed)?;
-    whole::hold(seed).map_err(|e| format!("frames: {e}"))
+pub fn hold(extent: &Extent, board: &mut Board) {
+    to_both::<indices::Read>(extent, board);
+    to_both::<pulses::Read>(extent, board);
+    to_the_crate::<indices::Write>(extent, board);
+    to_both::<pulses::Write>(extent, board);
+    pulses::crate_writer::hold(extent, board);
+    whole::hold(extent, board);
 }
 
 #[cfg(libopus)]
-fn both<C: InLibopus>(seed: u64) -> Outcome {
-    crate_alone::<C>(seed)?;
-    to_libopus::<C>(seed).map_err(|e| format!("{}: {e}", C::NAME))
+fn to_both<C: InLibopus>(extent: &Extent, board: &mut Board) {
+    to_the_crate::<C>(extent, board);
+    to_libopus::<C>(extent, board);
 }
 
 #[cfg(not(libopus))]
-fn both<C: Frame>(seed: u64) -> Outcome {
-    crate_alone::<C>(seed)?;
-    println!(
-        "{}: no libopus.a; comparison with libopus left out",
-        C::NAME
-    );
-    Ok(())
+fn to_both<C: Frame>(extent: &Extent, board: &mut Board) {
+    to_the_crate::<C>(extent, board);
 }
 
-fn crate_alone<C: Frame>(seed: u64) -> Outcome {
-    let tally = to_the_crate::<C>(seed, 1).map_err(|e| format!("{}: {e}", C::NAME))?;
-    tally.show("the crate's");
-    Ok(())
-}
-
-fn to_the_crate<C: Frame>(seed: u64, share: u32) -> Result<Tally<C>, String> {
-    let (mut tally, mut rng) = (Tally::<C>::default(), Rng::new(seed));
+fn to_the_crate<C: Frame>(extent: &Extent, board: &mut Board) {
+    let (mut tally, mut rng) = (Tally::<C>::default(), Rng::new(extent.seed));
     let mut put = |bytes: &mut [u8], state, call: &C::Given| {
         let refusal = C::refusal(call, bytes, &state);
-        tally.equal(bytes, state, call, (C::unopus, refusal))
+        tally.compare(bytes, state, call, (C::unopus, refusal))
     };
-    plans::accepted::<C>(&mut rng, C::Given::all(), C::EACH / share, &mut put)?;
-    plans::refused::<C>(&mut rng, &mut put)?;
-    C::at_limits(&mut rng, share, &mut put)?;
-    tally.missing(C::REFUSALS)?;
-    Ok(tally)
+    let outcome = plans::at_random::<C>(&mut rng, extent.cases, &mut put)
+        .and_then(|()| plans::refused::<C>(&mut rng, &mut put))
+        .and_then(|()| C::at_limits(&mut rng, extent.share, &mut put));
+    board.check(C::NAME, outcome);
+    tally.settle(CRATE, C::REFUSALS, board);
 }
 
 /// The calls that document 01 accepts: libopus refuses nothing.
 #[cfg(libopus)]
-fn to_libopus<C: InLibopus>(seed: u64) -> Outcome {
-    let (mut tally, mut rng) = (Tally::<C>::default(), Rng::new(seed));
-    plans::accepted::<C>(
-        &mut rng,
-        C::Given::all(),
-        C::EACH / 4,
-        &mut |bytes, state, call| match C::refusal(call, bytes, &state) {
-            0 => tally.equal(bytes, state, call, (C::libopus, 0)),
-            _ => Ok(()),
-        },
-    )?;
-    tally.show("libopus's");
-    tally.missing(&[])
+fn to_libopus<C: InLibopus>(extent: &Extent, board: &mut Board) {
+    let (mut tally, mut rng) = (Tally::<C>::default(), Rng::new(extent.seed));
+    let mut put = |bytes: &mut [u8], state, call: &C::Given| match C::refusal(call, bytes, &state) {
+        0 => tally.compare(bytes, state, call, (C::libopus, 0)),
+        _ => Ok(()),
+    };
+    let outcome = plans::at_random::<C>(&mut rng, extent.cases, &mut put);
+    board.check(C::NAME, outcome);
+    tally.settle(LIBOPUS, &[], board);
 }
 
-/// That a small share of all calls, built with overflow checks, overflows nowhere in the crate.
-pub fn no_overflow(seed: u64) -> Outcome {
-    to_the_crate::<indices::Read>(seed, 16)?.show_overflow();
-    to_the_crate::<pulses::Read>(seed, 16)?.show_overflow();
-    to_the_crate::<indices::Write>(seed, 16)?.show_overflow();
-    to_the_crate::<pulses::Write>(seed, 16)?.show_overflow();
-    Ok(())
+/// The four calls, with the crate's alone.
+pub fn calls_to_the_crate(extent: &Extent, board: &mut Board) {
+    to_the_crate::<indices::Read>(extent, board);
+    to_the_crate::<pulses::Read>(extent, board);
+    to_the_crate::<indices::Write>(extent, board);
+    to_the_crate::<pulses::Write>(extent, board);
 }

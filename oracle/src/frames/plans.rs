@@ -10,12 +10,19 @@ use crate::models::{self, Entries};
 use crate::rng::Rng;
 use crate::state::State;
 
+/// At least so many calls, as many under each choice of numbers as under the others.
+pub fn at_random<C: Frame>(rng: &mut Rng, cases: u64, put: &mut Put<C>) -> Outcome {
+    let choices = C::Given::all();
+    let each = cases.div_ceil(choices.len() as u64);
+    accepted::<C>(rng, choices, each, put)
+}
+
 /// So many calls under each of these choices of numbers, on bytes and states of all kinds; those of a total
 /// that is too high are refused.
 pub fn accepted<C: Frame>(
     rng: &mut Rng,
     calls: Vec<C::Given>,
-    each: u32,
+    each: u64,
     put: &mut Put<C>,
 ) -> Outcome {
     let mut bytes: Bytes = [0; LONGEST + 1];

@@ -1,6 +1,7 @@
 //! What the calls of a comparison were: a counter that stays 0 says that its way was never compared.
 
 use super::{Frame, Left, Side, StateOf};
+use crate::board::{Board, Score};
 use crate::compare::{Answer, Copies};
 use crate::domain;
 use crate::hold::Outcome;
@@ -8,8 +9,7 @@ use crate::report;
 use std::marker::PhantomData;
 
 pub struct Tally<C> {
-    /// By document 01's numbers, and 0 for accepted calls.
-    answers: [u64; 10],
+    score: Score,
     ways: Vec<u64>,
     copies: Copies,
     call: PhantomData<C>,
@@ -18,7 +18,7 @@ pub struct Tally<C> {
 impl<C: Frame> Default for Tally<C> {
     fn default() -> Self {
         Tally {
-            answers: [0; 10],
+            score: Score::default(),
             ways: vec![0; C::WAYS.concat().len()],
             copies: Copies::default(),
             call: PhantomData,
@@ -26,28 +26,43 @@ impl<C: Frame> Default for Tally<C> {
     }
 }
 
+/// Puts a call to our side, and to the other behind document 01's table of refusals.
+pub fn compared<C: Frame>(
+    copies: &mut Copies,
+    score: &mut Score,
+    bytes: &mut [u8],
+    (state, call): (StateOf<C>, &C::Given),
+    (side, refusal): (Side<C>, u32),
+) -> Result<(Answer<Left<C>>, bool), String> {
+    copies.put::<C::Coder, _>(
+        score,
+        bytes,
+        (state, call),
+        |bytes| C::ours(call, bytes, state),
+        |bytes| {
+            let unchanged = (state, C::held(call));
+            domain::guarded(refusal, unchanged, || (0, side(call, bytes, state)))
+        },
+    )
+}
+
 impl<C: Frame> Tally<C> {
-    /// Puts a call to our side, and to the other behind document 01's table of refusals.
-    pub fn equal(
+    pub fn compare(
         &mut self,
         bytes: &mut [u8],
         state: StateOf<C>,
         call: &C::Given,
-        (side, refusal): (Side<C>, u32),
+        side: (Side<C>, u32),
     ) -> Outcome {
-        let answer = self.copies.put::<C::Coder, _>(
-            bytes,
-            (state, call),
-            |bytes| C::ours(call, bytes, state),
-            |bytes| {
-                let unchanged = (state, C::held(call));
-                domain::guarded(refusal, unchanged, || (0, side(call, bytes, state)))
-            },
-        )?;
-        self.count(bytes, state, call, &answer);
+        let (copies, score) = (&mut self.copies, &mut self.score);
+        let (answer, same) = compared::<C>(copies, score, bytes, (state, call), side)?;
+        if same {
+            self.mark(bytes, state, call, &answer);
+        }
         Ok(())
     }
 
+    /// Counts a call that was not compared.
     pub fn count(
         &mut self,
         bytes: &mut [u8],
@@ -55,7 +70,17 @@ impl<C: Frame> Tally<C> {
         call: &C::Given,
         answer: &Answer<Left<C>>,
     ) {
-        self.answers[answer.refusal as usize] += 1;
+        self.score.count(answer.refusal, true, String::new);
+        self.mark(bytes, before, call, answer);
+    }
+
+    fn mark(
+        &mut self,
+        bytes: &mut [u8],
+        before: StateOf<C>,
+        call: &C::Given,
+        answer: &Answer<Left<C>>,
+    ) {
         if answer.refusal == 0 {
             let ways = &mut self.ways;
             C::took(call, bytes, before, &answer.state, |way, taken| {
@@ -70,32 +95,21 @@ impl<C: Frame> Tally<C> {
     }
 
     pub fn all(&self) -> u64 {
-        self.answers.iter().sum()
+        self.score.cases()
     }
 
-    pub fn show(&self, theirs: &str) {
-        println!("{}: {} calls equal {theirs}", C::NAME, self.all());
-        let refused = (1..self.answers.len()).filter(|&r| self.answers[r] > 0);
-        let refused = refused.map(|r| format!(", refused with {r}: {}", self.answers[r]));
-        let refused = refused.collect::<String>();
-        println!("{}:   accepted {}{refused}", C::NAME, self.answers[0]);
-        let ways = self.ways().map(|(way, n)| format!("{way} {n}"));
-        println!("{}:   {}", C::NAME, ways.collect::<Vec<_>>().join(", "));
-    }
-
-    pub fn show_overflow(&self) {
-        println!(
-            "overflow: of {} calls of {}, built with overflow checks, none overflows in the crate",
-            self.all(),
-            C::NAME
-        );
+    pub fn settle(&self, with: &'static str, refusals: &[usize], board: &mut Board) {
+        let what = format!("{}, {with}", C::NAME);
+        board.note(format!("{what}: {}", report::counts(self.ways())));
+        board.row(C::NAME, with, &self.score);
+        board.covered(&what, self.missing(refusals));
     }
 
     /// The ways, and the wanted refusals, that never occurred.
-    pub fn missing(&self, refusals: &[usize]) -> Outcome {
-        let refusals = refusals.iter().filter(|&&r| self.answers[r] == 0);
+    pub fn missing<'a>(&'a self, refusals: &'a [usize]) -> impl Iterator<Item = String> + 'a {
+        let refusals = refusals.iter().filter(|&&r| self.score.answered(r) == 0);
         let refusals = refusals.map(|r| format!("refused with {r}"));
         let ways = self.ways().filter(|(_, n)| *n == 0);
-        report::complete(ways.map(|(way, _)| way.to_string()).chain(refusals))
+        ways.map(|(way, _)| way.to_string()).chain(refusals)
     }
 }

@@ -10,10 +10,11 @@ use super::pulses::{self, Levelled};
 #[cfg(libopus)]
 use super::InLibopus;
 use super::{Frame, Given, Left, Size};
+use crate::board::{Board, Score, CRATE};
 use crate::bytes::Bytes;
 use crate::compare::{self, Sides};
 use crate::domain::{pulses_of, LONGEST};
-use crate::hold::Outcome;
+use crate::hold::{Extent, Outcome};
 use crate::models::{Model, FEW};
 use crate::ours;
 use crate::reader::{self, Reading};
@@ -23,47 +24,60 @@ use crate::roundtrip::accepted;
 use crate::state::Reader;
 use std::collections::BTreeMap;
 
-const PACKETS: u32 = 40_000;
+const NAME: &str = "packets read back";
 
 /// What is written at once.
 #[derive(Debug)]
-enum Part {
+pub enum Part {
     Symbol(Model<'static>, u32),
     /// With what is kept of it for the next frame.
     Indices(indices::Call, Kept),
     Pulses(Levelled),
 }
 
-pub fn hold(seed: u64) -> Outcome {
-    let mut rng = Rng::new(seed);
-    let mut tally = Tally::default();
-    for _ in 0..PACKETS {
+/// An eighth of the cases: each is up to three frames, written twice and read by each side.
+pub fn hold(extent: &Extent, board: &mut Board) {
+    let mut rng = Rng::new(extent.seed);
+    let (mut tally, mut score) = (Tally::default(), Score::default());
+    for _ in 0..extent.cases.div_ceil(8) {
         let parts = parts(&mut rng);
-        let mut buffer: Bytes = [0; LONGEST + 1];
-        let (accounts, _) = write(&mut buffer[..LONGEST], &parts)?;
-        let account = accounts.last().copied().unwrap_or(1);
-        let length = match rng.between(0, 3) {
-            0 => rng.between(0, LONGEST as u32),
-            _ => (account / 8 + rng.between(0, 3)).saturating_sub(1),
-        };
-        let buffer = &mut buffer[..LONGEST.min(length as usize)];
-        rng.fill(buffer);
-        let (again, error) = write(buffer, &parts)?;
-        let by_account = account as usize <= 8 * buffer.len();
-        if again != accounts || (error != 0 && by_account) {
-            return Err(format!(
-                "WRITTEN over {length} bytes, error {error}: {parts:?}"
-            ));
-        }
-        if error == 0 {
-            for side in sides() {
-                let read = read_back(&side, buffer, &parts, &accounts, &mut rng);
-                read.map_err(|e| format!("READ by {}: {e}: {parts:?}", side.name))?;
-            }
-        }
-        tally.count(&parts, error == 0, by_account);
+        let round = round(&mut rng, &parts);
+        score.outcome(round.map(|(fits, by_account)| tally.count(&parts, fits, by_account)));
     }
-    tally.show()
+    tally.settle(board);
+    board.row(
+        NAME,
+        if cfg!(libopus) {
+            "crate, libopus"
+        } else {
+            CRATE
+        },
+        &score,
+    );
+}
+
+/// Whether the parts fit a buffer that most often they just fit, and whether their account says so.
+fn round(rng: &mut Rng, parts: &[Part]) -> Result<(bool, bool), String> {
+    let mut buffer: Bytes = [0; LONGEST + 1];
+    let (accounts, _) = write(&mut buffer[..LONGEST], parts)?;
+    let account = accounts.last().copied().unwrap_or(1);
+    let length = match rng.between(0, 3) {
+        0 => rng.between(0, LONGEST as u32),
+        _ => (account / 8 + rng.between(0, 3)).saturating_sub(1),
+    };
+    let buffer = &mut buffer[..LONGEST.min(length as usize)];
+    rng.fill(buffer);
+    let (again, error) = write(buffer, parts)?;
+    let by_account = account as usize <= 8 * buffer.len();
+    if again != accounts || (error != 0 && by_account) {
+        return Err(format!(
+            "WRITTEN over {length} bytes, error {error}: {parts:?}"
+        ));
+    }
+    if error == 0 {
+        read_by_all(buffer, parts, &accounts, rng)?;
+    }
+    Ok((error == 0, by_account))
 }
 
 // ---- what is written
@@ -187,6 +201,14 @@ fn sides() -> Vec<Side> {
     ]
 }
 
+/// That each reader gives back these parts, with these accounts after them.
+pub fn read_by_all(packet: &mut [u8], parts: &[Part], accounts: &[u32], rng: &mut Rng) -> Outcome {
+    sides().iter().try_for_each(|side| {
+        let read = read_back(side, packet, parts, accounts, rng);
+        read.map_err(|e| format!("READ by {}: {e}: {parts:?}", side.name))
+    })
+}
+
 fn read_back(
     side: &Side,
     packet: &mut [u8],
@@ -282,7 +304,7 @@ impl Tally {
         }
     }
 
-    fn show(&self) -> Outcome {
+    fn settle(&self, board: &mut Board) {
         let counts = [
             ("fit by their account", self.by_account),
             ("fit though it is above 8 x length", self.beyond),
@@ -292,11 +314,7 @@ impl Tally {
             ("frames with 17,407", self.largest),
             ("other symbols", self.symbols),
         ];
-        println!(
-            "frames: {PACKETS} packets of frames written; those that fit read back by all readers"
-        );
-        let shown = counts.map(|(name, n)| format!("{name} {n}"));
-        println!("frames:   {}", shown.join(", "));
+        board.note(format!("{NAME}: {}", report::counts(counts.into_iter())));
         let indices = indices::Call::all().into_iter().map(|call| call.numbers());
         let indices = indices.filter(|numbers| !self.indices.contains_key(numbers));
         let pulses = Levelled::all().into_iter().map(|given| given.numbers());
@@ -304,6 +322,7 @@ impl Tally {
         let settings = indices.map(|n| format!("side indices of {n:?}"));
         let settings = settings.chain(pulses.map(|n| format!("pulses of {n:?}")));
         let missing = counts.into_iter().filter(|(_, n)| *n == 0);
-        report::complete(missing.map(|(name, _)| name.to_string()).chain(settings))
+        let missing = missing.map(|(name, _)| name.to_string());
+        board.covered(NAME, missing.chain(settings));
     }
 }

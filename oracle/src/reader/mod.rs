@@ -50,6 +50,14 @@ impl Kind for Reading {
         ("number", &[1, 2, 3, 4]),
         ("bits", &[1, 2, 3, 4]),
     ];
+    const EXPORTS: &'static [&'static str] = &[
+        "tg_dec_open",
+        "tg_dec_account",
+        "tg_dec_bit",
+        "tg_dec_icdf",
+        "tg_dec_uint",
+        "tg_dec_bits",
+    ];
     const BRANCHES: &'static [&'static str] = WAYS;
 
     fn call(ask: Ask) -> usize {

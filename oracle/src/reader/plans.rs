@@ -3,7 +3,7 @@
 use super::states::{at_cut, breaks, sound};
 use super::{Ask, Reading};
 use crate::bytes::{Bytes, FILLS, LENGTHS};
-use crate::coder::{along, at_limits, on_sound, on_unsound, speech, Coder};
+use crate::coder::{along, at_limits, each_in_turn, on_unsound, speech, Coder};
 use crate::compare::{Answer, Sink};
 use crate::domain::{LONGEST, TOTALS};
 use crate::hold::{Outcome, Plan, Plans};
@@ -16,28 +16,30 @@ impl Plans for Reading {
     const PLANS: &'static [Plan<Reading>] = &[
         (
             "along packets of every length from their opening",
-            |sink, rng, share| along(sink, rng, (0..=LONGEST).step_by(share as usize), 400),
+            |sink, rng, extent| along(sink, rng, (0..=LONGEST).step_by(extent.share as usize), 400),
         ),
         (
             "along packets by the tables of speech",
-            |sink, rng, share| speech(sink, rng, 4_000 / share),
+            |sink, rng, extent| speech(sink, rng, 4_000 / extent.share),
         ),
         (
             "along a packet until its total refuses more",
             |sink, rng, _| to_the_end(sink, rng),
         ),
-        ("on arbitrary sound states", |sink, rng, share| {
-            on_sound(sink, rng, 8_000_000 / share)
+        ("each on arbitrary sound states", |sink, rng, extent| {
+            each_in_turn(sink, rng, extent.cases)
         }),
-        ("on states that break one rule", |sink, rng, share| {
-            (0..(8 / share).max(1))
+        ("on states that break one rule", |sink, rng, extent| {
+            extent
+                .rounds(8)
                 .try_for_each(|_| on_unsound(sink, rng, &LENGTHS, models::at_limits()))
         }),
         (
             "at the limits of packets, totals, numbers and tables",
-            |sink, rng, share| {
+            |sink, rng, extent| {
                 let (packets, models) = ((&LENGTHS[..], &FILLS[..]), models::at_limits());
-                (0..(16 / share).max(1))
+                extent
+                    .rounds(16)
                     .try_for_each(|_| at_limits(sink, rng, packets, &TOTALS, models))
             },
         ),

@@ -3,6 +3,7 @@
 use super::{Ask, Reading};
 use crate::celt::entcode::ec_tell;
 use crate::celt::entdec::{ec_dec_bit_logp, ec_dec_bits, ec_dec_icdf, ec_dec_init, ec_dec_uint};
+use crate::coder::guarded;
 use crate::compare::{Answer, Sides};
 use crate::domain;
 use crate::models::Model;
@@ -19,7 +20,7 @@ impl Sides for Reading {
     }
 
     fn unopus(packet: &mut [u8], reader: Reader, ask: Ask) -> Answer<Reader> {
-        guarded(packet, reader, ask, |packet| match ask {
+        guarded::<Self>(packet, (reader, ask), |packet| match ask {
             Ask::Open => (0, Reader::of_the_crate(&ec_dec_init(packet))),
             Ask::Account => (ec_tell(&reader.beside(packet)) as u32, reader),
             Ask::Read(model) => read(packet, reader, model),
@@ -28,7 +29,7 @@ impl Sides for Reading {
 
     #[cfg(libopus)]
     fn libopus(packet: &mut [u8], reader: Reader, ask: Ask) -> Answer<Reader> {
-        guarded(packet, reader, ask, |packet| {
+        guarded::<Self>(packet, (reader, ask), |packet| {
             super::libopus::read(packet, reader, ask)
         })
     }
@@ -48,19 +49,4 @@ pub fn read(packet: &mut [u8], reader: Reader, model: Model) -> (u32, Reader) {
         Model::Bits(bits) => ec_dec_bits(&mut ctx, bits),
     };
     (value, Reader::of_the_crate(&ctx))
-}
-
-/// "Opening hands back the all-zero state."
-fn guarded(
-    packet: &mut [u8],
-    reader: Reader,
-    ask: Ask,
-    call: impl FnOnce(&mut [u8]) -> (u32, Reader),
-) -> Answer<Reader> {
-    let unchanged = match ask {
-        Ask::Open => Reader::default(),
-        _ => reader,
-    };
-    let refusal = domain::reader_refusal(packet, &reader, ask);
-    domain::guarded(refusal, unchanged, || call(packet))
 }

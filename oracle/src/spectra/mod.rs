@@ -71,6 +71,7 @@ impl Kind for Spectra {
     const NAME: &'static str = "spectra";
     const CALLS: &'static [(&'static str, &'static [usize])] =
         &[("decode", &[4, 6]), ("stabilise", &[6, 7])];
+    const EXPORTS: &'static [&'static str] = &["tg_nlsf_decode", "tg_nlsf_stabilise"];
     // There is none.
     const ACCOUNT: usize = usize::MAX;
     const SYMBOLS: &'static [&'static str] = &[];

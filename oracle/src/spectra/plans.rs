@@ -13,12 +13,12 @@ impl Plans for Spectra {
     const PLANS: &'static [Plan<Spectra>] = &[
         (
             "of the stabiliser on vectors and gap sets of all kinds",
-            |sink, rng, share| stabilised(sink, rng, 1_200_000 / share),
+            |sink, rng, extent| stabilised(sink, rng, extent.cases),
         ),
         (
             "of the stabiliser at the limits of lengths and gap sets",
-            |sink, rng, share| {
-                (0..(32 / share).max(1)).try_for_each(|_| {
+            |sink, rng, extent| {
+                extent.rounds(32).try_for_each(|_| {
                     lengths(sink, rng, 0..=ROOM)?;
                     gap_rule(sink, rng, 2..=16)
                 })
@@ -26,13 +26,14 @@ impl Plans for Spectra {
         ),
         (
             "decoding every first index at every rate",
-            // As many for libopus, whose books are its own.
-            |sink, rng, share| decoded(sink, rng, 4_000 / share.div_ceil(4)),
+            |sink, rng, extent| decoded(sink, rng, extent.cases.div_ceil(96)),
         ),
         (
             "decoding at the limits of rates, indices and lengths",
-            |sink, rng, share| {
-                (0..(32 / share).max(1)).try_for_each(|_| numbers(sink, rng, &RATES))
+            |sink, rng, extent| {
+                extent
+                    .rounds(32)
+                    .try_for_each(|_| numbers(sink, rng, &RATES))
             },
         ),
     ];
@@ -50,7 +51,7 @@ fn decode(sink: &mut dyn Sink<Spectra>, n: usize, indices: [i8; 17], khz: u32) -
 }
 
 /// Accepted calls of the stabiliser.
-pub fn stabilised(sink: &mut dyn Sink<Spectra>, rng: &mut Rng, calls: u32) -> Outcome {
+pub fn stabilised(sink: &mut dyn Sink<Spectra>, rng: &mut Rng, calls: u64) -> Outcome {
     let mut set = Vec::new();
     for call in 0..calls {
         if call % 8 == 0 {
@@ -115,7 +116,7 @@ pub fn gap_rule(
 }
 
 /// So many sets of indices for each first index at each rate.
-pub fn decoded(sink: &mut dyn Sink<Spectra>, rng: &mut Rng, sets: u32) -> Outcome {
+pub fn decoded(sink: &mut dyn Sink<Spectra>, rng: &mut Rng, sets: u64) -> Outcome {
     for (khz, first) in RATES
         .iter()
         .flat_map(|&khz| (0..32).map(move |first| (khz, first)))

@@ -41,6 +41,15 @@ impl Kind for Writing {
         ("bits", &[1, 2, 3, 4, 8]),
         ("finish", &[1, 2, 3]),
     ];
+    const EXPORTS: &'static [&'static str] = &[
+        "tg_enc_open",
+        "tg_enc_account",
+        "tg_enc_bit",
+        "tg_enc_icdf",
+        "tg_enc_uint",
+        "tg_enc_bits",
+        "tg_enc_done",
+    ];
     const BRANCHES: &'static [&'static str] = WAYS;
 
     fn call(ask: Ask) -> usize {

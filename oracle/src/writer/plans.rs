@@ -3,7 +3,7 @@
 use super::states::{at_digit, breaks, sound};
 use super::{Ask, Writing};
 use crate::bytes::{Bytes, FILLS, LENGTHS};
-use crate::coder::{along, at_limits, on_sound, on_unsound, speech, Coder};
+use crate::coder::{along, at_limits, each_in_turn, on_unsound, speech, Coder};
 use crate::compare::{Answer, Sink};
 use crate::domain::{LAST_TOTAL, LONGEST, LONGEST_RUN, TOTALS};
 use crate::hold::{Outcome, Plan, Plans};
@@ -16,14 +16,15 @@ impl Plans for Writing {
     const PLANS: &'static [Plan<Writing>] = &[
         (
             "along buffers of every length from their opening past their finish",
-            |sink, rng, share| {
+            |sink, rng, extent| {
                 listed(sink)?;
-                along(sink, rng, (0..=LONGEST + 1).step_by(share as usize), 300)
+                let lengths = (0..=LONGEST + 1).step_by(extent.share as usize);
+                along(sink, rng, lengths, 300)
             },
         ),
         (
             "along buffers by the tables of speech",
-            |sink, rng, share| speech(sink, rng, 3_000 / share),
+            |sink, rng, extent| speech(sink, rng, 3_000 / extent.share),
         ),
         ("along buffers while the run of 255s grows", |sink, _, _| {
             long_runs(sink, &[3, LONGEST])
@@ -34,22 +35,23 @@ impl Plans for Writing {
         ),
         (
             "where a run is stored and where a finish all but fits",
-            |sink, rng, share| {
+            |sink, rng, extent| {
                 runs(sink, &[0, 3, LONGEST])?;
-                finishes(sink, rng, 1_000_000 / share)
+                finishes(sink, rng, extent.cases)
             },
         ),
-        ("on arbitrary sound states", |sink, rng, share| {
-            on_sound(sink, rng, 4_000_000 / share)
+        ("each on arbitrary sound states", |sink, rng, extent| {
+            each_in_turn(sink, rng, extent.cases)
         }),
         ("on states that break one rule", |sink, rng, _| {
             on_unsound(sink, rng, &LENGTHS, models::at_limits())
         }),
         (
             "at the limits of buffers, totals, numbers, tables and values",
-            |sink, rng, share| {
+            |sink, rng, extent| {
                 let (buffers, models) = ((&LENGTHS[..], &FILLS[..]), models::at_limits());
-                (0..(4 / share).max(1))
+                extent
+                    .rounds(4)
                     .try_for_each(|_| at_limits(sink, rng, buffers, &TOTALS, models))
             },
         ),
@@ -273,7 +275,7 @@ pub fn runs(sink: &mut dyn Sink<Writing>, lengths: &[usize]) -> Outcome {
 
 /// Writers without error over a few bytes, whose finish just fits or just does not; of some, all that
 /// was written is raw bits.
-pub fn finishes(sink: &mut dyn Sink<Writing>, rng: &mut Rng, calls: u32) -> Outcome {
+pub fn finishes(sink: &mut dyn Sink<Writing>, rng: &mut Rng, calls: u64) -> Outcome {
     let mut buffer: Bytes = [0; LONGEST + 1];
     for _ in 0..calls {
         let length = rng.between(0, 7) as usize;

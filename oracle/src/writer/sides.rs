@@ -5,6 +5,7 @@ use crate::celt::entcode::ec_tell;
 use crate::celt::entenc::{
     ec_enc_bit_logp, ec_enc_bits, ec_enc_done, ec_enc_icdf, ec_enc_init, ec_enc_uint,
 };
+use crate::coder::guarded;
 use crate::compare::{Answer, Sides};
 use crate::domain;
 use crate::models::Model;
@@ -22,7 +23,7 @@ impl Sides for Writing {
     }
 
     fn unopus(buffer: &mut [u8], writer: Writer, ask: Ask) -> Answer<Writer> {
-        guarded(buffer, writer, ask, |buffer| match ask {
+        guarded::<Self>(buffer, (writer, ask), |buffer| match ask {
             Ask::Open => (0, Writer::of_the_crate(&ec_enc_init(buffer))),
             Ask::Account => (ec_tell(&writer.beside(buffer)) as u32, writer),
             Ask::Write(model, value) => (0, write(buffer, writer, model, value)),
@@ -32,7 +33,7 @@ impl Sides for Writing {
 
     #[cfg(libopus)]
     fn libopus(buffer: &mut [u8], writer: Writer, ask: Ask) -> Answer<Writer> {
-        guarded(buffer, writer, ask, |buffer| {
+        guarded::<Self>(buffer, (writer, ask), |buffer| {
             (0, super::libopus::write(buffer, writer, ask))
         })
     }
@@ -58,19 +59,4 @@ fn done(buffer: &mut [u8], writer: Writer) -> Writer {
     let mut ctx = writer.beside(buffer);
     ec_enc_done(&mut ctx);
     Writer::of_the_crate(&ctx)
-}
-
-/// "Opening hands back the all-zero state."
-fn guarded(
-    buffer: &mut [u8],
-    writer: Writer,
-    ask: Ask,
-    call: impl FnOnce(&mut [u8]) -> (u32, Writer),
-) -> Answer<Writer> {
-    let unchanged = match ask {
-        Ask::Open => Writer::default(),
-        _ => writer,
-    };
-    let refusal = domain::writer_refusal(buffer, &writer, ask);
-    domain::guarded(refusal, unchanged, || call(buffer))
 }

@@ -146,13 +146,20 @@ impl Call {
 
     /// Sets every field that the frame reads to a value that can be written.
     pub fn fit(&mut self, rng: &mut Rng) {
+        self.set_each(|range| {
+            let past = rng.or_end(0, (range.end() - range.start()) as u32);
+            range.start() + past as i16
+        });
+    }
+
+    /// Sets every field that the frame reads to what is chosen by its range.
+    pub fn set_each(&mut self, mut choose: impl FnMut(RangeInclusive<i16>) -> i16) {
         // By these two the frame reads others.
         let first = [SIGNAL_TYPE, PERIOD];
         let others = (0..FIELDS).filter(|place| !first.contains(place));
         for place in first.into_iter().chain(others) {
             if let Some(range) = self.ranges()[place].clone() {
-                let past = rng.or_end(0, (range.end() - range.start()) as u32);
-                self.record = self.record.with(place, range.start() + past as i16);
+                self.record = self.record.with(place, choose(range));
             }
         }
     }

@@ -42,10 +42,9 @@ impl Frame for Read {
     type Given = Call;
     type Held = (Record, Kept);
 
-    const NAME: &'static str = "side indices";
+    const NAME: &'static str = "tg_decode_indices";
     const WAYS: &'static [&'static [&'static str]] = &[WAYS, OWN_WAYS];
     const REFUSALS: &'static [usize] = &[1, 2, 3, 4];
-    const EACH: u32 = 6_400;
 
     fn refill(call: &mut Call, rng: &mut Rng) {
         call.record = Record::any(rng);

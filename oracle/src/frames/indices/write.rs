@@ -39,10 +39,9 @@ impl Frame for Write {
     type Given = Call;
     type Held = Kept;
 
-    const NAME: &'static str = "side indices written";
+    const NAME: &'static str = "tg_encode_indices";
     const WAYS: &'static [&'static [&'static str]] = &[WAYS, OWN_WAYS];
     const REFUSALS: &'static [usize] = &[1, 2, 3, 4, 8];
-    const EACH: u32 = 4_000;
 
     fn refill(call: &mut Call, rng: &mut Rng) {
         call.record = Record::any(rng);

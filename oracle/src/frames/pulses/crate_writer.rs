@@ -4,43 +4,49 @@
 
 use super::blocks::{magnitude, shifts};
 use super::{Call, Levelled, Write};
+use crate::board::{Board, Score};
 use crate::bytes::Bytes;
 use crate::domain::{LAST_TOTAL, LONGEST};
 use crate::frames::{plans, Frame, Given};
-use crate::hold::Outcome;
-use crate::report;
+use crate::hold::Extent;
 use crate::rng::Rng;
 use crate::silk::encode_pulses::silk_encode_pulses;
 use crate::silk::tables_pulses_per_block::silk_max_pulses_table;
 use crate::state::Writer;
 use crate::writer::Writing;
 
-/// So many frames under each choice of numbers.
-const EACH: u32 = 1_200;
+/// With whom it is compared.
+const OWN_WRITER: &str = "crate's writer";
 
-pub fn hold(seed: u64) -> Outcome {
-    let (mut levels, mut shifted, mut rng) = ([0_u64; 9], 0_u64, Rng::new(seed));
+/// An eighth of the cases: each takes up to nine writings.
+pub fn hold(extent: &Extent, board: &mut Board) {
+    let (mut score, mut rng) = (Score::default(), Rng::new(extent.seed));
+    let (mut levels, mut shifted) = ([0_u64; 9], 0_u64);
     let mut bytes: Bytes = [0; LONGEST + 1];
-    for mut call in Call::all() {
-        for _ in 0..EACH {
+    let calls = Call::all();
+    let each = extent.cases.div_ceil(8 * calls.len() as u64);
+    for mut call in calls {
+        for _ in 0..each {
             refill(&mut call, &mut rng);
             let length = rng.between(0, 400) as usize;
             let bytes = &mut bytes[..length];
             let mut state = plans::any_state::<Writing>(&mut rng, bytes);
             state.nbits_total = state.nbits_total.min(LAST_TOTAL);
-            let level = level(&call, bytes, state)?;
-            levels[level] += 1;
+            let level = level(&call, bytes, state);
+            score.outcome(level.map(|level| levels[level] += 1));
             shifted += u64::from(call.pulses.iter().any(|&pulse| magnitude(pulse) > 16));
         }
     }
-    let all: u64 = levels.iter().sum();
-    println!(
-        "{}: {all} frames equal what the crate's own writer makes of them, {shifted} with low bits, \
-         by rate levels {levels:?}",
-        Write::NAME
-    );
+    let what = format!("{}, {OWN_WRITER}", Write::NAME);
+    board.note(format!(
+        "{what}: with low bits {shifted}, rate levels {levels:?}"
+    ));
+    board.row(Write::NAME, OWN_WRITER, &score);
     let missing = levels.iter().enumerate().filter(|(_, &n)| n == 0);
-    report::complete(missing.map(|(level, _)| format!("rate level {level}")))
+    board.covered(
+        &what,
+        missing.map(|(level, _)| format!("rate level {level}")),
+    );
 }
 
 /// The rate level under which ours leaves the crate's bytes and state.

@@ -29,10 +29,9 @@ impl Frame for Read {
     type Given = Call;
     type Held = Vec<i16>;
 
-    const NAME: &'static str = "pulses";
+    const NAME: &'static str = "tg_decode_pulses";
     const WAYS: &'static [&'static [&'static str]] = &[WAYS, OWN_WAYS];
     const REFUSALS: &'static [usize] = &[1, 2, 3, 4, 6];
-    const EACH: u32 = 12_000;
 
     fn refill(call: &mut Call, rng: &mut Rng) {
         call.pulses.fill_with(|| rng.word() as i16);

@@ -72,10 +72,9 @@ impl Frame for Write {
     type Given = Levelled;
     type Held = ();
 
-    const NAME: &'static str = "pulses written";
+    const NAME: &'static str = "tg_encode_pulses";
     const WAYS: &'static [&'static [&'static str]] = &[WAYS, SHIFTS, COUNTS, OWN_WAYS];
     const REFUSALS: &'static [usize] = &[1, 2, 3, 4, 6, 8];
-    const EACH: u32 = 1_000;
 
     fn refill(given: &mut Levelled, rng: &mut Rng) {
         for block in given.call.pulses.chunks_mut(16) {
