@@ -8,15 +8,16 @@ mod plans;
 pub mod pulses;
 mod tally;
 mod whole;
+pub mod written;
 
 use crate::coder::Coder;
 use crate::compare::{Answer, Kind};
 use crate::hold::Outcome;
 use crate::rng::Rng;
 use std::fmt::Debug;
-use tally::Tally;
 
 pub use listed::files;
+pub use tally::Tally;
 
 /// The rate in kHz and the number of subframes.
 #[derive(Clone, Copy, Debug)]
@@ -26,7 +27,7 @@ pub struct Size {
 }
 
 impl Size {
-    fn all() -> impl Iterator<Item = Size> {
+    pub fn all() -> impl Iterator<Item = Size> {
         let each = |khz| [2, 4].map(|subframes| Size { khz, subframes });
         [8, 12, 16].into_iter().flat_map(each)
     }
