@@ -14,7 +14,7 @@ export PKG_CONFIG_PATH=$place/lib/pkgconfig
 # shellcheck disable=SC2046 # flags are words
 $CC -std=c99 -Wall -Wextra -Werror examples/list_frame.c $(pkg-config --cflags --libs tignarops) -o "$place/list_frame"
 list_frame() { $run "$place/list_frame" "$@"; }
-list_frame 8 2 0 0 0 0 </dev/null | diff tests/empty_frame.txt -
+list_frame 8 2 0 0 0 0 </dev/null | diff crates/frame_lister/stdout -
 list_frame 9 2 0 0 0 0 </dev/null | diff <(echo 'refused 4') -
 head -c 1276 /dev/zero | list_frame 8 2 0 0 0 0 | diff <(echo 'refused 1') -
 echo 'surface: the C example lists what document 01 lists'

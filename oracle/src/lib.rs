@@ -16,6 +16,7 @@ pub mod hold;
 pub mod libopus;
 pub mod models;
 pub mod ours;
+pub mod programs;
 pub mod reader;
 pub mod record;
 pub mod report;

@@ -15,7 +15,7 @@ use oracle::reader::Reading;
 use oracle::record::{self, Files};
 use oracle::spectra::Spectra;
 use oracle::writer::Writing;
-use oracle::{frames, hold, roundtrip, tables, types};
+use oracle::{frames, hold, programs, roundtrip, tables, types};
 use std::path::{Path, PathBuf};
 use std::process::ExitCode;
 use std::{env, fs};
@@ -116,11 +116,12 @@ fn number(word: Option<&str>, variable: &str, default: u64) -> Result<u64, Strin
 /// A program that replays a list, by the name of its folder.
 type List = (&'static str, fn() -> Result<Files, String>);
 
-const LISTS: [List; 4] = [
+const LISTS: [List; 5] = [
     ("reader_cases", record::files::<Reading>),
     ("writer_cases", record::files::<Writing>),
     ("spectra_cases", record::files::<Spectra>),
     ("frames_cases", frames::files),
+    ("programs_cases", programs::files),
 ];
 
 fn folder(name: &str) -> PathBuf {

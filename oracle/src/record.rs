@@ -130,11 +130,37 @@ impl Records {
         self.handed_back = Some(handed_back);
     }
 
+    /// An input of a program, with the text that it prints. It is the bytes that stand, cut short, or
+    /// followed by one byte again and again.
+    pub fn printed(&mut self, call: u8, input: &[u8], text: &str) {
+        let made = self.given.as_deref().and_then(|given| filler(given, input));
+        let filler = made.unwrap_or_else(|| {
+            let filler = input.last().copied().unwrap_or(0);
+            let ends = input.iter().rposition(|&byte| byte != filler);
+            let given = &input[..ends.map_or(0, |last| last + 1)];
+            self.record(0, 0, given);
+            self.given = Some(given.to_vec());
+            filler
+        });
+        let length = little_endian(&[input.len() as u32]);
+        self.record(call, filler, &[&length, text.as_bytes()].concat());
+    }
+
     fn record(&mut self, call: u8, how: u8, rest: &[u8]) {
-        self.bytes.extend((rest.len() as u16).to_le_bytes());
+        let size = u16::try_from(rest.len()).unwrap();
+        self.bytes.extend(size.to_le_bytes());
         self.bytes.extend([call, how]);
         self.bytes.extend(rest);
     }
+}
+
+/// The byte that makes the input of the given bytes, if one does.
+fn filler(given: &[u8], input: &[u8]) -> Option<u8> {
+    let shared = given.len().min(input.len());
+    let (begins, behind) = input.split_at(shared);
+    let filler = behind.first().copied().unwrap_or(0);
+    let made = begins == &given[..shared] && behind.iter().all(|&byte| byte == filler);
+    made.then_some(filler)
 }
 
 fn little_endian(numbers: &[u32]) -> Vec<u8> {

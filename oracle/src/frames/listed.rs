@@ -3,16 +3,16 @@
 use super::indices::{self, Kept, Record};
 use super::pulses::{self, Levelled};
 use super::tally::Tally;
+use super::written::{any_frame, every_shift, packet, relative, RELATIVE};
 use super::{plans, Frame, Given, Put, Size, StateOf};
 use crate::coder::Coder;
 use crate::compare::Sides;
-use crate::domain::{self, pulses_of, LONGEST};
 use crate::hold::Outcome;
 use crate::reader::Reading;
 use crate::record::{Files, Recording, Records};
 use crate::report;
 use crate::rng::Rng;
-use crate::state::{State, Writer};
+use crate::state::State;
 use crate::writer::{Ask, Writing};
 
 /// The list, the same every time.
@@ -76,10 +76,7 @@ fn record<C: Listed>(
     call: &C::Given,
 ) {
     let before = bytes.to_vec();
-    let unchanged = (state, C::held(call));
-    let refusal = C::refusal(call, bytes, &state);
-    let answer = domain::guarded(refusal, unchanged, || (0, C::unopus(call, bytes, state)));
-    tally.count(bytes, state, call, &answer);
+    let answer = tally.of_the_crate(bytes, state, call);
     let (after, held) = &answer.state;
     records.call(&Recording {
         call: C::CALL,
@@ -101,7 +98,7 @@ impl Listed for indices::Read {
     /// they are extended.
     fn own(rng: &mut Rng, put: &mut Put<Self>) -> Outcome {
         for size in Size::all() {
-            for (step, residual) in [(-9, -4), (-8, -10), (-1, -9), (0, 4), (11, 9), (12, 10)] {
+            for (step, residual) in RELATIVE {
                 let written = relative(rng, size, step, residual);
                 let mut packet = packet(|buffer, writer| {
                     indices::by_the_crate(&written, written.kept.prev_lag, buffer, writer).0
@@ -161,33 +158,6 @@ impl Listed for indices::Write {
 
 /// For each size.
 const MODES_AND_TYPES: [(u32, i8); 6] = [(1, 2), (0, 0), (2, 1), (2, 2), (0, 2), (1, 1)];
-
-/// A frame of this type after a voiced one, whose record can be written.
-fn any_frame(rng: &mut Rng, size: Size, mode: u32, signal_type: i8) -> indices::Call {
-    let mut call = indices::Call {
-        size,
-        active: u32::from(signal_type > 0),
-        mode,
-        record: Record::any(rng),
-        kept: Kept {
-            prev_type: 2,
-            prev_lag: 50,
-        },
-    };
-    call.fit(rng);
-    while call.record.signal_type != signal_type {
-        call.fit(rng);
-    }
-    call
-}
-
-/// A voiced frame whose lag lies by this step from the one before.
-fn relative(rng: &mut Rng, size: Size, step: i16, residual: i8) -> indices::Call {
-    let mut call = any_frame(rng, size, 2, 2);
-    call.record.nlsf[1..].fill(residual);
-    call.record.lag = call.kept.prev_lag + step;
-    call
-}
 
 fn record_bytes(record: &Record) -> Vec<u8> {
     let fields = record.fields().into_iter().enumerate();
@@ -263,51 +233,9 @@ impl Listed for pulses::Write {
     }
 }
 
-/// 15 blocks with their shifts: 0 to 10 at a count of 16, and four at a count of 0.
-fn every_shift(rate_level: u32) -> (Levelled, Vec<usize>) {
-    let size = Size {
-        khz: 12,
-        subframes: 4,
-    };
-    let mut pulses = vec![0; pulses_of(size)];
-    let shifts: Vec<usize> = (0..=10).chain([1, 4, 9, 10]).collect();
-    for (number, (block, shift)) in pulses.chunks_mut(16).zip(&shifts).enumerate() {
-        let lows = (1 << shift) - 1;
-        block[number] = match number {
-            0..=10 => -(4 << shift) - lows,
-            _ => lows,
-        };
-        if number <= 10 {
-            block[number + 1] = 12 << shift;
-        }
-    }
-    let given = Levelled {
-        call: pulses::Call {
-            size,
-            signal_type: rate_level % 3,
-            offset_type: rate_level % 2,
-            pulses,
-        },
-        rate_level,
-    };
-    (given, shifts)
-}
-
 fn pulse_bytes(pulses: &[i16]) -> Vec<u8> {
     pulses
         .iter()
         .flat_map(|pulse| pulse.to_le_bytes())
         .collect()
-}
-
-// ---- packets that the crate writes
-
-/// What the crate's finish leaves of a fresh writer's work.
-fn packet(write: impl FnOnce(&mut [u8], Writer) -> Writer) -> Vec<u8> {
-    let mut buffer = vec![0; LONGEST];
-    let fresh = Writing::unopus(&mut buffer, State::default(), Ask::Open).state;
-    let writer = write(&mut buffer, fresh);
-    let done = Writing::unopus(&mut buffer, writer, Ask::Done { again: false });
-    buffer.truncate(done.state.offs as usize);
-    buffer
 }

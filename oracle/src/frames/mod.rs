@@ -8,6 +8,7 @@ mod plans;
 pub mod pulses;
 mod tally;
 pub mod whole;
+pub mod written;
 
 #[cfg(libopus)]
 use crate::board::LIBOPUS;
@@ -17,10 +18,9 @@ use crate::compare::{Answer, Kind};
 use crate::hold::{Extent, Outcome};
 use crate::rng::Rng;
 use std::fmt::Debug;
-use tally::Tally;
 
 pub use listed::files;
-pub use tally::compared;
+pub use tally::{compared, Tally};
 
 /// The rate in kHz and the number of subframes.
 #[derive(Clone, Copy, Debug)]
@@ -30,7 +30,7 @@ pub struct Size {
 }
 
 impl Size {
-    fn all() -> impl Iterator<Item = Size> {
+    pub fn all() -> impl Iterator<Item = Size> {
         let each = |khz| [2, 4].map(|subframes| Size { khz, subframes });
         [8, 12, 16].into_iter().flat_map(each)
     }

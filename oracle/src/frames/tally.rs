@@ -62,6 +62,20 @@ impl<C: Frame> Tally<C> {
         Ok(())
     }
 
+    /// What the crate answers behind document 01's table of refusals.
+    pub fn of_the_crate(
+        &mut self,
+        bytes: &mut [u8],
+        state: StateOf<C>,
+        call: &C::Given,
+    ) -> Answer<Left<C>> {
+        let refusal = C::refusal(call, bytes, &state);
+        let unchanged = (state, C::held(call));
+        let answer = domain::guarded(refusal, unchanged, || (0, C::unopus(call, bytes, state)));
+        self.count(bytes, state, call, &answer);
+        answer
+    }
+
     /// Counts a call that was not compared.
     pub fn count(
         &mut self,

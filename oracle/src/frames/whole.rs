@@ -13,7 +13,7 @@ use super::{Frame, Given, Left, Size};
 use crate::board::{Board, Score, CRATE};
 use crate::bytes::Bytes;
 use crate::compare::{self, Sides};
-use crate::domain::{pulses_of, LONGEST};
+use crate::domain::LONGEST;
 use crate::hold::{Extent, Outcome};
 use crate::models::{Model, FEW};
 use crate::ours;
@@ -122,12 +122,7 @@ fn after(call: &indices::Call) -> Kept {
 
 fn any_pulses(rng: &mut Rng, size: Size, record: &Record) -> Levelled {
     let mut given = Levelled {
-        call: pulses::Call {
-            size,
-            signal_type: record.signal_type as u32,
-            offset_type: record.offset_type as u32,
-            pulses: vec![0; pulses_of(size)],
-        },
+        call: pulses::Call::behind(size, record),
         rate_level: rng.between(0, 8),
     };
     pulses::Write::refill(&mut given, rng);

@@ -13,6 +13,8 @@ use crate::models::Model;
 use std::fmt;
 use text::{Way, WAYS};
 
+pub use vectors::{gaps, vector};
+
 /// Room for the values of a vector, one more than document 01 allows.
 const ROOM: usize = 17;
 

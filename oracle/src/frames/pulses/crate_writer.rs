@@ -52,11 +52,7 @@ pub fn hold(extent: &Extent, board: &mut Board) {
 /// The rate level under which ours leaves the crate's bytes and state.
 fn level(call: &Call, bytes: &[u8], state: Writer) -> Result<usize, String> {
     let mut their_bytes = bytes.to_vec();
-    let mut ctx = state.beside(&mut their_bytes);
-    let (signal, offset) = (call.signal_type as i32, call.offset_type as i32);
-    let mut small: Vec<i8> = call.pulses.iter().map(|&pulse| pulse as i8).collect();
-    silk_encode_pulses(&mut ctx, signal, offset, &mut small, call.size.length());
-    let theirs = Writer::of_the_crate(&ctx);
+    let theirs = by_itself(call, &mut their_bytes, state);
     let same = |&rate_level: &u32| {
         let mut our_bytes = bytes.to_vec();
         let given = Levelled {
@@ -70,8 +66,17 @@ fn level(call: &Call, bytes: &[u8], state: Writer) -> Result<usize, String> {
     found.ok_or_else(|| format!("DIFFER at every rate level: {call:?}\n    on {state:?}"))
 }
 
+/// The crate's own call, on pulses of 8 bits.
+pub fn by_itself(call: &Call, buffer: &mut [u8], writer: Writer) -> Writer {
+    let mut ctx = writer.beside(buffer);
+    let (signal, offset) = (call.signal_type as i32, call.offset_type as i32);
+    let mut small: Vec<i8> = call.pulses.iter().map(|&pulse| pulse as i8).collect();
+    silk_encode_pulses(&mut ctx, signal, offset, &mut small, call.size.length());
+    Writer::of_the_crate(&ctx)
+}
+
 /// Pulses of 8 bits for which the crate picks document 01's shifts, none past the frame's length.
-fn refill(call: &mut Call, rng: &mut Rng) {
+pub fn refill(call: &mut Call, rng: &mut Rng) {
     let length = call.size.length() as usize;
     for place in (0..call.pulses.len()).step_by(16) {
         let block = &mut call.pulses[place..place + 16];

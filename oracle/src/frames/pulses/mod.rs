@@ -6,6 +6,7 @@ mod pulse_ways;
 mod read;
 mod write;
 
+use super::indices::Record;
 use super::{Change, Given, Size};
 use crate::domain::pulses_of;
 
@@ -27,6 +28,18 @@ pub struct Call {
 pub struct Levelled {
     pub call: Call,
     pub rate_level: u32,
+}
+
+impl Call {
+    /// Behind these side indices, all pulses 0.
+    pub fn behind(size: Size, record: &Record) -> Self {
+        Call {
+            size,
+            signal_type: record.signal_type as u32,
+            offset_type: record.offset_type as u32,
+            pulses: vec![0; pulses_of(size)],
+        }
+    }
 }
 
 impl Given for Call {
