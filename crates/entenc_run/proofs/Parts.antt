@@ -16,6 +16,7 @@ use Rattle.entcode.specs.Models.{bit, num, tab, rawBits, Allowed}
 use Rattle.entcode.specs.Cuts.{upper, lower}
 use Rattle.entcode.specs.ModelLaws.{proper, num-small, bit-upper, bit-lower, bit-whole, tab-upper, tab-lower}
 use Rattle.entcode.specs.CutLaws.{CutOk, cut-ok}
+use Rattle.entcode.specs.ReadLaws.{topOf}
 use Rattle.entcode.specs.Flat.{Out}
 use Rattle.entcode.specs.FlatLaws.{tab-first, tab-later, num-is}
 use Rattle.entcode.specs.WriterFacts.{Stepped}
@@ -45,46 +46,28 @@ entry-most R scale x h =
     let m : R / 2 ^ scale * x ≤ R / 2 ^ scale * 2 ^ scale = mul-le-mul-left (R / 2 ^ scale) l in
     omega (arith, div-mul-le-self R (2 ^ scale))
 
-pub first-cut : (R scale k : ℕ) (t : List ℕ) → 2 ^ 23 < R → k ≡ 0 → Allowed (tab scale t) k → CutOk R R (R / 2 ^ scale * getD t k 0)
-first-cut R scale zero t h z a =
+-- its upper end, as the code computes it
+pub later-top : (R unit k : ℕ) (t : List ℕ) → (k ≡ 0 → ⊥) → unit * getD t (k - 1) 0 ≡ topOf R unit t k
+later-top R unit zero t z = absurd (z refl)
+later-top R unit (suc j) t z = let e : suc j - 1 ≡ j = omega arith in ap (λ (x : ℕ). unit * getD t x 0) e
+
+pub symbol-cut : (R scale k : ℕ) (t : List ℕ) → 2 ^ 23 < R → Allowed (tab scale t) k → CutOk R (topOf R (R / 2 ^ scale) t k) (R / 2 ^ scale * getD t k 0)
+symbol-cut R scale zero t h a =
     rw (tab-lower R scale (getD t 0 0) (entry-below scale t (a .readable) 0)) at (cut-ok R 0 (2 ^ scale - getD t 0 0) (2 ^ scale) h (proper (tab scale t) 0 a))
-first-cut R scale (suc k) t h z a = absurd (omega arith)
+symbol-cut R scale (suc j) t h a =
+    rw (tab-lower R scale (getD t (suc j) 0) (entry-below scale t (a .readable) (suc j)), tab-upper R scale (getD t j 0) (entry-below scale t (a .readable) j))
+    at (cut-ok R (2 ^ scale - getD t j 0) (2 ^ scale - getD t (suc j) 0) (2 ^ scale) h (proper (tab scale t) (suc j) a))
 
-pub later-cut : (R scale k : ℕ) (t : List ℕ) → 2 ^ 23 < R → (k ≡ 0 → ⊥) → Allowed (tab scale t) k
-    → CutOk R (R / 2 ^ scale * getD t (k - 1) 0) (R / 2 ^ scale * getD t k 0)
-later-cut R scale zero t h z a = absurd (z refl)
-later-cut R scale (suc j) t h z a =
-    let e : suc j - 1 ≡ j = omega arith in
-    rw e
-    (rw (tab-lower R scale (getD t (suc j) 0) (entry-below scale t (a .readable) (suc j)), tab-upper R scale (getD t j 0) (entry-below scale t (a .readable) j))
-    at (cut-ok R (2 ^ scale - getD t j 0) (2 ^ scale - getD t (suc j) 0) (2 ^ scale) h (proper (tab scale t) (suc j) a)))
-
-pub first-is : (o : Out) (scale k : ℕ) (t : List ℕ) → k ≡ 0 → Icdf scale t → o .state .wbits ≤ 32
-    → cut o (o .state .rng) (o .state .rng / 2 ^ scale * getD t k 0) ≡ written o (record { model = tab scale t; value = k })
-first-is o scale zero t z i u = sym (tab-first o scale t (entry-below scale t i 0) u)
-first-is o scale (suc k) t z i u = absurd (omega arith)
-
-pub later-is : (o : Out) (scale k : ℕ) (t : List ℕ) → (k ≡ 0 → ⊥) → Icdf scale t → o .state .wbits ≤ 32
-    → cut o (o .state .rng / 2 ^ scale * getD t (k - 1) 0) (o .state .rng / 2 ^ scale * getD t k 0) ≡ written o (record { model = tab scale t; value = k })
-later-is o scale zero t z i u = absurd (z refl)
-later-is o scale (suc j) t z i u =
-    let e : suc j - 1 ≡ j = omega arith in
-    ap (λ (x : ℕ). cut o (o .state .rng / 2 ^ scale * getD t x 0) (o .state .rng / 2 ^ scale * getD t (suc j) 0)) e
-    ∙ sym (tab-later o scale t j (entry-below scale t i j) (entry-below scale t i (suc j)) u)
+pub symbol-is : (o : Out) (scale k : ℕ) (t : List ℕ) → Icdf scale t → o .state .wbits ≤ 32
+    → cut o (topOf (o .state .rng) (o .state .rng / 2 ^ scale) t k) (o .state .rng / 2 ^ scale * getD t k 0) ≡ written o (record { model = tab scale t; value = k })
+symbol-is o scale zero t i u = sym (tab-first o scale t (entry-below scale t i 0) u)
+symbol-is o scale (suc j) t i u = sym (tab-later o scale t j (entry-below scale t i j) (entry-below scale t i (suc j)) u)
 
 -- ---- one of ft equal parts
 
 -- its ends, as the code computes them
-pub part-lower : (R c ft : ℕ) → R / ft * (ft - c - 1) ≡ lower R (suc c) ft
-part-lower R c ft = let e : ft - c - 1 ≡ ft - suc c = omega arith in ap (λ (x : ℕ). R / ft * x) e
-
-pub first-upper : (R c ft : ℕ) → c ≡ 0 → R ≡ upper R c ft
-first-upper R zero ft z = refl
-first-upper R (suc c) ft z = absurd (omega arith)
-
-pub later-upper : (R c ft : ℕ) → (c ≡ 0 → ⊥) → R / ft * (ft - c) ≡ upper R c ft
-later-upper R zero ft z = absurd (z refl)
-later-upper R (suc c) ft z = refl
+pub part-lower : (R c ft : ℕ) → R / ft * (ft - (c + 1)) ≡ lower R (suc c) ft
+part-lower R c ft = let e : ft - (c + 1) ≡ ft - suc c = omega arith in ap (λ (x : ℕ). R / ft * x) e
 
 pub part-cut : (R c ft : ℕ) → 2 ^ 23 < R → c < ft → ft ≤ 256 → CutOk R (upper R c ft) (lower R (suc c) ft)
 part-cut R c ft h l m = cut-ok R c (suc c) ft h (record { below = omega arith; within = l; small = omega arith })

@@ -2,10 +2,12 @@
 // with and test nothing again; each hands on what the next one asks. The calls that test are in the room `entenc`. Names as in the crate's entenc.rs;
 // its ec_write_byte is `put_byte`, its ec_write_byte_at_end `put_back`, its ec_enc_carry_out `carry_out`, its ec_enc_normalize `normalize`.
 ghost use mathlib.Core.Path.{_≡_};
-ghost use Prim.Native.Nat.{suc, _^_, _<_, _≤_};
+ghost use Prim.Native.Nat.{ℕ, suc, _*_, _^_, _<_, _≤_};
+ghost use lib.ListN.{length, getD};
 ghost use Rattle.icdf.specs.Rule.{Icdf, Writable};
 ghost use Rattle.entcode.specs.Models.{bit, raw, num, tab};
 ghost use Rattle.entcode.specs.Cuts.{upper, lower};
+ghost use Rattle.entcode.specs.ReadLaws.{topOf};
 ghost use Rattle.entcode.specs.Flat.{out};
 ghost use Rattle.entcode.specs.WriterFacts.{Core, Stepped, Wrote};
 ghost use Rattle.entcode.specs.WriterSteps.{cut};
@@ -39,7 +41,21 @@ pub fn ec_enc_bit_logp_run(buf: &mut [u8], w: Enc, v: u32, lp: u32) -> Enc
     }
 }
 
-// Symbol k of an inverse table.
+// The upper end of symbol k's part.
+fn symbol_top(table: &[u8], k: u32, unit: u32, rng: u32) -> u32
+    requires { ⌜ k < length (now table) ⌝ }
+    requires { ⌜ ((i : ℕ) → unit * getD (now table) i 0 ≤ 2 ^ 31) ⌝ }
+    ensures { λ t. ⌜ t ≡ topOf rng unit (now (table .entry)) k ⌝ }
+{
+    if k == 0 {
+        rng
+    } else {
+        let j = (k - 1) as usize;
+        unit * (table[j] as u32)
+    }
+}
+
+// Symbol k of an inverse table. The first and the others share one `keep`: with two of them this is too large to be inlined, and twice as slow.
 pub fn ec_enc_icdf_run(buf: &mut [u8], w: Enc, k: u32, table: &[u8], scale: u32) -> Enc
     requires { ⌜ Core (out (now buf) w) ⌝ }
     requires { ⌜ w .total ≤ 2 ^ 30 ⌝ }
@@ -49,13 +65,8 @@ pub fn ec_enc_icdf_run(buf: &mut [u8], w: Enc, k: u32, table: &[u8], scale: u32)
     let unit = w.rng >> scale;
     let i = k as usize;
     let low = unit * (table[i] as u32);
-    if k == 0 {
-        keep(buf, w, w.rng, low)
-    } else {
-        let j = i - 1;
-        let top = unit * (table[j] as u32);
-        keep(buf, w, top, low)
-    }
+    let top = symbol_top(table, k, unit, w.rng);
+    keep(buf, w, top, low)
 }
 
 // n raw bits.
@@ -68,6 +79,14 @@ pub fn ec_enc_bits_run(buf: &mut [u8], w: Enc, v: u32, n: u32) -> Enc
     append(buf, w, v, n)
 }
 
+// The upper end of part c of ft equal parts.
+fn part_top(rng: u32, c: u32, ft: u32) -> u32
+    requires { ⌜ c < ft ⌝ }
+    ensures { λ t. ⌜ t ≡ upper rng c ft ⌝ }
+{
+    if c == 0 { rng } else { rng / ft * (ft - c) }
+}
+
 // Part c of ft equal parts of the range, counted from its bottom.
 fn keep_part(buf: &mut [u8], w: Enc, c: u32, ft: u32) -> Enc
     requires { ⌜ Core (out (now buf) w) ⌝ }
@@ -75,14 +94,9 @@ fn keep_part(buf: &mut [u8], w: Enc, c: u32, ft: u32) -> Enc
     requires { ⌜ (c < ft) × (ft ≤ 256) ⌝ }
     ensures { λ r. ⌜ Stepped 16 (out (now (buf .entry)) w) (cut (out (now (buf .entry)) w) (upper (w .rng) c ft) (lower (w .rng) (suc c) ft)) (out (now (buf .exit)) r) ⌝ }
 {
-    let unit = w.rng / ft;
-    let rest = ft - c;
-    let low = unit * (rest - 1);
-    if c == 0 {
-        keep(buf, w, w.rng, low)
-    } else {
-        keep(buf, w, unit * rest, low)
-    }
+    let low = w.rng / ft * (ft - (c + 1));
+    let top = part_top(w.rng, c, ft);
+    keep(buf, w, top, low)
 }
 
 // A number below ft: one of at most 256 equal parts, and the bits below the first eight raw.

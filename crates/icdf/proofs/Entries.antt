@@ -6,7 +6,7 @@ use mathlib.Core.List.{List, [], _∷_}
 use native.Mathlib.Omega.{arith}
 use native.Mathlib.Nat.{one-mul, not-suc-le-zero}
 use lib.Dec.{leb, eqb, lit<}
-use lib.ListN.{length, getD}
+use lib.ListN.{length, getD, drop}
 use lib.Pow.{shl-exact}
 use Rattle.icdf.specs.Rule.{before}
 use Rattle.icdf.specs.Test.{fallsOk, icdfOk}
@@ -15,6 +15,10 @@ use Rattle.icdf.specs.Test.{fallsOk, icdfOk}
 abbrev pub left : ℕ → List ℕ → Bool
 left m [] = eqb m 0
 left m (x ∷ t) = leb x m && left x t
+
+pub left-first : (m : ℕ) (t : List ℕ) → 1 ≤ length t → leb (getD t 0 0) m && left (getD t 0 0) (drop 1 t) ≡ left m t
+left-first m [] h = absurd (not-suc-le-zero h)
+left-first m (x ∷ t) h = refl
 
 pub left-some : (m : ℕ) (t : List ℕ) → 1 ≤ length t → left m t ≡ fallsOk m t
 left-some m [] h = absurd (not-suc-le-zero h)

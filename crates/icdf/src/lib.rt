@@ -4,21 +4,21 @@ ghost use Prim.Native.Nat.{_≤_};
 ghost use lib.ListN.{length};
 ghost use Rattle.icdf.specs.Test.{fallsOk, scaleOk, icdfOk, symbolOk, icdfRule, symbolRule};
 
-// Whether the first entry is at most top, none is above the one before it, and the last is 0.
+// Whether the first entry is at most top, none is above the one before it, and the last is 0. Neighbours are compared in place: with the entry before
+// carried along, the loop is not vectorised.
 fn falls(table: &[u8], top: u32) -> bool
     requires { ⌜ 1 ≤ length (now table) ⌝ }
     ensures { λ b. ⌜ b ≡ fallsOk top (now (table .entry)) ⌝ }
 {
-    let mut ok = true;
-    let mut above = top;
-    let mut k: usize = 0;
+    let mut ok = (table[0] as u32) <= top;
+    let mut k: usize = 1;
     while k < table.len() {
-        let entry = table[k] as u32;
-        ok = ok & (entry <= above);
-        above = entry;
+        let j = k - 1;
+        ok = ok & (table[k] <= table[j]);
         k += 1;
     }
-    ok & (above == 0)
+    let last = table.len() - 1;
+    ok & (table[last] == 0)
 }
 
 fn scale_ok(scale: u32) -> bool
