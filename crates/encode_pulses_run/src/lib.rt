@@ -27,9 +27,6 @@ fn block_splits(buf: &mut [u8], w: Enc, rows: &[u8], part: &[i16], c: u32, j: u3
     requires { ⌜ (length (now part) ≡ 16) × (c ≤ 16) × (j ≤ 10) × (total (shiftedBy j (now part)) ≡ c) ⌝ }
     ensures { λ r. ⌜ Told (out (now (buf .entry)) w) (shiftedBy j (now (part .entry))) (shell 4 c) 240 (out (now (buf .exit)) r) ⌝ }
 {
-    if c == 0 {
-        return w;
-    }
     let mut places = [0u8; 16];
     pulse_shifts::shrink_run(&mut places, part, j);
     shell_coder::encode::silk_shell_encoder_run(buf, w, rows, &places, c)
@@ -50,7 +47,9 @@ fn splits(buf: &mut [u8], from: Enc, rows: &[u8], pulses: &[i16], x: Plan, n: us
         let end = at + 16;
         let c = x.counts[i];
         let j = x.lows[i];
-        w = block_splits(buf, w, rows, &pulses[at..end], c as u32, j as u32);
+        if c != 0 {
+            w = block_splits(buf, w, rows, &pulses[at..end], c as u32, j as u32);
+        }
         i += 1;
     }
     w

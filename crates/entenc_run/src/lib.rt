@@ -21,6 +21,7 @@ use crate::tail::append;
 use crate::tail::flush_all;
 use entcode::Enc;
 
+pub mod icdf8; // icdf8.rt: symbols of rows of scale 8
 mod room; // room.rt: bytes to the buffer's two ends
 mod front; // front.rt: cuts of the range, and digits
 mod tail; // tail.rt: raw bits

@@ -10,7 +10,7 @@ ghost use Rattle.silk.specs.IndexSyntax.{kindOf, kind, firstGain, moreGains, ga
 ghost use Rattle.silk.specs.IndexParts.{Upto, Kind, firstMost};
 ghost use Rattle.silk.specs.IndexSays.{WritesGains};
 use entcode::Enc;
-use entenc_run::ec_enc_icdf_run;
+use entenc_run::icdf8::ec_enc_icdf8_run;
 use silk::Indices;
 
 // Type and offset as one number.
@@ -24,7 +24,7 @@ pub fn kind_tell_run(buf: &mut [u8], w: Enc, rows: &[u8], x: Indices, active: u3
     let start = base as usize;
     let end = start + (2 + start);
     let kind = (x.signal as u32) * 2 + (x.offset as u32);
-    ec_enc_icdf_run(buf, w, kind - base, &rows[start..end], 8)
+    ec_enc_icdf8_run(buf, w, kind - base, &rows[start..end])
 }
 
 // The first gain.
@@ -35,12 +35,12 @@ fn first_gain_tell(buf: &mut [u8], w: Enc, rows: &[u8], x: Indices, mode: u32, s
 {
     let gain = x.gains[0] as u32;
     if mode == 2 {
-        return ec_enc_icdf_run(buf, w, gain, &rows[30..71], 8);
+        return ec_enc_icdf8_run(buf, w, gain, &rows[30..71]);
     }
     let start = 6 + (signal as usize) * 8;
     let end = start + 8;
-    let h = ec_enc_icdf_run(buf, w, gain / 8, &rows[start..end], 8);
-    ec_enc_icdf_run(buf, h, gain % 8, &rows[548..556], 8)
+    let h = ec_enc_icdf8_run(buf, w, gain / 8, &rows[start..end]);
+    ec_enc_icdf8_run(buf, h, gain % 8, &rows[548..556])
 }
 
 // The gains past the first.
@@ -52,7 +52,7 @@ fn more_gains_tell(buf: &mut [u8], w: Enc, rows: &[u8], x: Indices, n: usize) ->
     let mut q = w;
     let mut k: usize = 1;
     while k < n {
-        q = ec_enc_icdf_run(buf, q, x.gains[k] as u32, &rows[30..71], 8);
+        q = ec_enc_icdf8_run(buf, q, x.gains[k] as u32, &rows[30..71]);
         k += 1;
     }
     q
@@ -88,7 +88,7 @@ pub fn interpolation_tell_run(
     ensures { λ r. ⌜ Told (out (now (buf .entry)) w) x (interpolation subframes x) 16 (out (now (buf .exit)) r) ⌝ }
 {
     if subframes == 4 {
-        return ec_enc_icdf_run(buf, w, x.interp as u32, &rows[350..355], 8);
+        return ec_enc_icdf8_run(buf, w, x.interp as u32, &rows[350..355]);
     }
     w
 }
@@ -98,5 +98,5 @@ pub fn seed_tell_run(buf: &mut [u8], w: Enc, rows: &[u8], x: Indices) -> Enc
     requires { ⌜ Upto 3 (x .seed) ⌝ }
     ensures { λ r. ⌜ Told (out (now (buf .entry)) w) x (seed x) 16 (out (now (buf .exit)) r) ⌝ }
 {
-    ec_enc_icdf_run(buf, w, x.seed as u32, &rows[533..537], 8)
+    ec_enc_icdf8_run(buf, w, x.seed as u32, &rows[533..537])
 }

@@ -13,7 +13,7 @@ use crate::contour_size;
 use crate::contour_start;
 use crate::lag_low_start;
 use entcode::Enc;
-use entenc_run::ec_enc_icdf_run;
+use entenc_run::icdf8::ec_enc_icdf8_run;
 use silk::Indices;
 
 // ---- lag
@@ -28,8 +28,8 @@ fn absolute_lag_tell(buf: &mut [u8], w: Enc, rows: &[u8], x: Indices, khz: u32) 
     let start = lag_low_start(khz);
     let end = start + (half as usize);
     let value = x.lag as u32;
-    let h = ec_enc_icdf_run(buf, w, value / half, &rows[355..387], 8);
-    ec_enc_icdf_run(buf, h, value % half, &rows[start..end], 8)
+    let h = ec_enc_icdf8_run(buf, w, value / half, &rows[355..387]);
+    ec_enc_icdf8_run(buf, h, value % half, &rows[start..end])
 }
 
 // Always absolute: after delta symbol 0 where one is due.
@@ -39,7 +39,7 @@ fn lag_tell(buf: &mut [u8], w: Enc, rows: &[u8], x: Indices, relative: bool, khz
     ensures { λ r. ⌜ ((before : ℤ) → Told (out (now (buf .entry)) w) x (lag relative khz before x) 48 (out (now (buf .exit)) r)) ⌝ }
 {
     if relative {
-        let q = ec_enc_icdf_run(buf, w, 0, &rows[387..408], 8);
+        let q = ec_enc_icdf8_run(buf, w, 0, &rows[387..408]);
         return absolute_lag_tell(buf, q, rows, x, khz);
     }
     absolute_lag_tell(buf, w, rows, x, khz)
@@ -55,7 +55,7 @@ fn contour_tell(buf: &mut [u8], w: Enc, rows: &[u8], x: Indices, khz: u32, subfr
     let start = contour_start(khz, subframes);
     let size = contour_size(khz, subframes);
     let end = start + size;
-    ec_enc_icdf_run(buf, w, x.contour as u32, &rows[start..end], 8)
+    ec_enc_icdf8_run(buf, w, x.contour as u32, &rows[start..end])
 }
 
 // ---- filters
@@ -72,7 +72,7 @@ fn filters_tell(buf: &mut [u8], w: Enc, rows: &[u8], x: Indices, p: u32, n: usiz
     let mut q = w;
     let mut k: usize = 0;
     while k < n {
-        q = ec_enc_icdf_run(buf, q, x.ltp[k] as u32, &rows[start..end], 8);
+        q = ec_enc_icdf8_run(buf, q, x.ltp[k] as u32, &rows[start..end]);
         k += 1;
     }
     q
@@ -85,7 +85,7 @@ fn period_tell(buf: &mut [u8], w: Enc, rows: &[u8], x: Indices, subframes: u32) 
     ensures { λ r. ⌜ Told (out (now (buf .entry)) w) x (period subframes x) 80 (out (now (buf .exit)) r) ⌝ }
 {
     let p = x.period as u32;
-    let q = ec_enc_icdf_run(buf, w, p, &rows[468..471], 8);
+    let q = ec_enc_icdf8_run(buf, w, p, &rows[468..471]);
     filters_tell(buf, q, rows, x, p, subframes as usize)
 }
 
@@ -96,7 +96,7 @@ fn scale_tell(buf: &mut [u8], w: Enc, rows: &[u8], x: Indices, mode: u32) -> Enc
     ensures { λ r. ⌜ Told (out (now (buf .entry)) w) x (scale mode x) 16 (out (now (buf .exit)) r) ⌝ }
 {
     if mode == 0 {
-        return ec_enc_icdf_run(buf, w, x.scale as u32, &rows[527..530], 8);
+        return ec_enc_icdf8_run(buf, w, x.scale as u32, &rows[527..530]);
     }
     w
 }

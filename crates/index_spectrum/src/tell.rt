@@ -13,7 +13,7 @@ ghost use Rattle.silk.specs.IndexRows.{Writing, Rate};
 ghost use Rattle.silk.specs.IndexSyntax.{extensionSaid, residual, residuals, spectrum};
 ghost use Rattle.silk.specs.IndexSays.{WritesSpectrum};
 use entcode::Enc;
-use entenc_run::ec_enc_icdf_run;
+use entenc_run::icdf8::ec_enc_icdf8_run;
 use nlsf_unpack::narrow_selectors_run;
 use nlsf_unpack::residual_pick_run;
 use nlsf_unpack::wide_selectors_run;
@@ -50,14 +50,14 @@ fn residual_tell(buf: &mut [u8], w: Enc, rows: &[u8], z: i8, k: usize) -> Enc
     let start = 199 + k * 9;
     let end = start + 9;
     if z <= -4 {
-        let q = ec_enc_icdf_run(buf, w, 0, &rows[start..end], 8);
-        return ec_enc_icdf_run(buf, q, extension_said(z), &rows[343..350], 8);
+        let q = ec_enc_icdf8_run(buf, w, 0, &rows[start..end]);
+        return ec_enc_icdf8_run(buf, q, extension_said(z), &rows[343..350]);
     }
     if 4 <= z {
-        let q = ec_enc_icdf_run(buf, w, 8, &rows[start..end], 8);
-        return ec_enc_icdf_run(buf, q, extension_said(z), &rows[343..350], 8);
+        let q = ec_enc_icdf8_run(buf, w, 8, &rows[start..end]);
+        return ec_enc_icdf8_run(buf, q, extension_said(z), &rows[343..350]);
     }
-    ec_enc_icdf_run(buf, w, centred_said(z), &rows[start..end], 8)
+    ec_enc_icdf8_run(buf, w, centred_said(z), &rows[start..end])
 }
 
 // ---- all of them
@@ -104,7 +104,7 @@ pub fn spectrum_tell_run(
     let start = 71 + k * 32;
     let end = start + 32;
     let v = x.nlsf[0] as u32;
-    let q = ec_enc_icdf_run(buf, w, v, &rows[start..end], 8);
+    let q = ec_enc_icdf8_run(buf, w, v, &rows[start..end]);
     if khz == 16 {
         let s = wide_selectors_run(v);
         return residuals_tell(buf, q, rows, x, &s, khz, 16);

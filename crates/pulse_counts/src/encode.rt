@@ -6,7 +6,7 @@ ghost use Rattle.lists.specs.AtMost.{AtMost};
 ghost use Rattle.entcode.specs.Flat.{out};
 ghost use Rattle.entcode.specs.WriterFacts.{Core};
 ghost use Rattle.tree.specs.Told.{Told};
-ghost use Rattle.silk.specs.PulseSyntax.{countSaid, count, counts};
+ghost use Rattle.silk.specs.PulseSyntax.{countSaid, lowCounts, counts};
 ghost use Rattle.silk.specs.PulseSteps.{PulseRows, blocksFrom};
 use crate::later_at;
 use entcode::Enc;
@@ -18,18 +18,15 @@ fn count_said(j: u32, sum: u32, lows: u32) -> u32
     if j < lows { 17 } else { sum }
 }
 
-// A block's count at a rate level.
-fn count_tell(buf: &mut [u8], from: Enc, rows: &[u8], level: usize, sum: u32, lows: u32) -> Enc
+// What follows the first symbol of a block: one for each low bit.
+fn later_tell(buf: &mut [u8], from: Enc, rows: &[u8], sum: u32, lows: u32) -> Enc
     requires { ⌜ Core (out (now buf) from) ⌝ }
     requires { ⌜ from .total ≤ 2 ^ 29 ⌝ }
     requires { ⌜ PulseRows (now rows) ⌝ }
-    requires { ⌜ (level < 9) × (sum ≤ 16) × (lows ≤ 10) ⌝ }
-    ensures { λ r. ⌜ Told (out (now (buf .entry)) from) (record { count = sum; lows = lows }) (count level) 176 (out (now (buf .exit)) r) ⌝ }
+    requires { ⌜ (sum ≤ 16) × (lows ≤ 10) ⌝ }
+    ensures { λ r. ⌜ Told (out (now (buf .entry)) from) (record { count = sum; lows = lows }) (lowCounts 10 0 (countSaid 0 (record { count = sum; lows = lows }))) 160 (out (now (buf .exit)) r) ⌝ }
 {
-    let start = 18 + level * 18;
-    let end = start + 18;
-    let first = count_said(0, sum, lows);
-    let mut w = entenc_run::ec_enc_icdf_run(buf, from, first, &rows[start..end], 8);
+    let mut w = from;
     let mut j: u32 = 0;
     while j < lows {
         j += 1;
@@ -40,7 +37,7 @@ fn count_tell(buf: &mut [u8], from: Enc, rows: &[u8], level: usize, sum: u32, lo
     w
 }
 
-// The counts of n blocks.
+// The counts of n blocks at a rate level.
 pub fn counts_tell_run(
     buf: &mut [u8],
     from: Enc,
@@ -57,12 +54,18 @@ pub fn counts_tell_run(
     requires { ⌜ AtMost 16 sums × AtMost 10 lows ⌝ }
     ensures { λ r. ⌜ Told (out (now (buf .entry)) from) (blocksFrom sums lows 0 n) (counts level n) 3520 (out (now (buf .exit)) r) ⌝ }
 {
+    let start = 18 + level * 18;
+    let end = start + 18;
     let mut w = from;
     let mut i: usize = 0;
     while i < n {
         let sum = sums[i];
         let shift = lows[i];
-        w = count_tell(buf, w, rows, level, sum as u32, shift as u32);
+        let first = count_said(0, sum as u32, shift as u32);
+        w = entenc_run::ec_enc_icdf_run(buf, w, first, &rows[start..end], 8);
+        if shift != 0 {
+            w = later_tell(buf, w, rows, sum as u32, shift as u32);
+        }
         i += 1;
     }
     w

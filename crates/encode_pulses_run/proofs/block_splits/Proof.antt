@@ -7,12 +7,8 @@ use Rattle.entcode.specs.Flat.{out}
 use Rattle.tree.specs.Told.{Told}
 use Rattle.silk.specs.PulseSyntax.{total, shell}
 use Rattle.silk.specs.PulseWriting.{shiftedBy}
-use Rattle.encode_pulses_run.proofs.Empty.{splits-untold}
 use Rattle.encode_pulses_run.proofs.block_splits.Statement.{statement}
 use Rattle.encode_pulses_run.proofs.block_splits.Tie as tie
-
-returns : tie.Need-returns
-returns c = let b = c .before .before .before in splits-untold (b .args .c) (shiftedBy (b .args .j) (b .args .part .now)) (c .if1 .taken) (b .pre .0)
 
 slice-aggregate-shrink-run : tie.Need-slice-aggregate-shrink-run
 slice-aggregate-shrink-run c = search needs
@@ -25,16 +21,16 @@ slice-aggregate-silk-shell-encoder-run c = search needs
 
 silk-shell-encoder-run-requires : tie.Need-silk-shell-encoder-run-requires
 silk-shell-encoder-run-requires c κs =
-    let b = c .before .before .before .before .before .before .before .before in
+    let b = c .before .before .before .before .before .before .before in
     let s = c .before .before .before .shrink-run in
     (b .pre .0, (b .pre .1 .0, (b .pre .1 .1 .0, (b .pre .1 .1 .1 .1, s .kept .0, ap total (s .ensures) ∙ b .pre .1 .1 .1 .3))))
 
 same-length : tie.Need-same-length
 same-length c = search needs
 
-returns-2 : tie.Need-returns-2
-returns-2 c =
-    let b = c .before .before .before .before .before .before .before .before .before .before .before in
+returns : tie.Need-returns
+returns c =
+    let b = c .before .before .before .before .before .before .before .before .before .before in
     let s = c .before .before .before .before .before .before .shrink-run in
     let r = c .before .before .silk-shell-encoder-run in
     subst (λ (y : List ℕ). Told (out (b .args .buf .now) (b .args .w)) y (shell 4 (b .args .c)) 240 (out (r .last .0) (r .result))) (s .ensures) (r .ensures)
@@ -43,10 +39,9 @@ pub block-splits-spec : {M : Type 1} → statement M
 block-splits-spec =
     tie.close
     (tie.spec
-    returns
     slice-aggregate-shrink-run
     shrink-run-requires
     slice-aggregate-silk-shell-encoder-run
     silk-shell-encoder-run-requires
     same-length
-    returns-2)
+    returns)

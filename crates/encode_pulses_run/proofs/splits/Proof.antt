@@ -1,6 +1,7 @@
 -- `splits` meets its contract. The invariant: the splits of i blocks are written. Assumes nothing.
 use Prim.Native.Nat.{_-_}
 use mathlib.Core.Path.{_≡_, refl, sym, _∙_}
+use mathlib.Core.Logic.{⊎-elim}
 use lib.ListN.{length}
 use Rattle.silk.specs.PulsePlans.{suited-at}
 use Rattle.entcode.specs.Flat.{out}
@@ -8,6 +9,7 @@ use Rattle.silk.specs.PulseTelling.{SplitsTelling, telling-start, telling-next,
 use borrow.Author.Needs.{needs}
 use native.Mathlib.Omega.{arith}
 use Rattle.encode_pulses_run.proofs.Blocks.{block-size}
+use Rattle.encode_pulses_run.proofs.Empty.{splits-untold}
 use Rattle.encode_pulses_run.proofs.splits.Statement.{statement}
 use Rattle.encode_pulses_run.proofs.splits.Tie as tie
 
@@ -52,8 +54,8 @@ cast-block-splits-2 c = search needs
 
 block-splits-requires : tie.Need-block-splits-requires Inv-loop μ-loop
 block-splits-requires c κs =
-    let b = c .before .before .before .before .before .before .before .before in
-    let l = c .before .before .before .before .before .loop in
+    let b = c .before .before .before .before .before .before .before .before .before in
+    let l = c .before .before .before .before .before .before .loop in
     let g = l .inv .0 .midway in
     let s = b .pre .1 .1 .1 .2 in (
       g .core,
@@ -79,9 +81,15 @@ loop-less c = search needs
 
 loop-again : tie.Need-loop-again Inv-loop μ-loop
 loop-again c =
-    let l = c .before .before .before .before .before .before .before .before .loop in
-    let a = c .before .before .block-splits in
-    (telling-next _ _ _ _ _ _ _ _ _ _ _ _ (l .inv .0) (omega arith) (a .ensures), a .kept .0 ∙ l .inv .1)
+    let l = c .before .before .before .before .loop in
+    ⊎-elim
+    (λ w. rw (w .6, w .7) (telling-next _ _ _ _ _ _ _ _ _ _ _ _ (l .inv .0) (omega arith) (w .3 .ensures), w .3 .kept .0 ∙ l .inv .1))
+    (λ w.
+    rw (w .1, w .2) (
+      telling-next _ _ _ _ _ _ _ _ _ _ _ _ (l .inv .0) (omega arith) (splits-untold _ _ (w .0 .left) (l .inv .0 .midway .core)),
+      l .inv .1,
+    ))
+    (c .if1 .came)
 
 same-length : tie.Need-same-length Inv-loop μ-loop
 same-length c = search needs

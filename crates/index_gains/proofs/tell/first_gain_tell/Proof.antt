@@ -32,17 +32,17 @@ cast-gain c =
     let z = c .before .before .before in
     rw (gain-is z) (upto-fits (gain z) (omega arith) (gain-upto z))
 
-sub-ec-enc-icdf-run : tie.Need-sub-ec-enc-icdf-run
-sub-ec-enc-icdf-run c = search needs
+sub-ec-enc-icdf8-run : tie.Need-sub-ec-enc-icdf8-run
+sub-ec-enc-icdf8-run c = search needs
 
-part-ec-enc-icdf-run-start : tie.Need-part-ec-enc-icdf-run-start
-part-ec-enc-icdf-run-start c = search needs
+part-ec-enc-icdf8-run-start : tie.Need-part-ec-enc-icdf8-run-start
+part-ec-enc-icdf8-run-start c = search needs
 
-part-ec-enc-icdf-run-end : tie.Need-part-ec-enc-icdf-run-end
-part-ec-enc-icdf-run-end c = search needs
+part-ec-enc-icdf8-run-end : tie.Need-part-ec-enc-icdf8-run-end
+part-ec-enc-icdf8-run-end c = search needs
 
-ec-enc-icdf-run-requires : tie.Need-ec-enc-icdf-run-requires
-ec-enc-icdf-run-requires c κs =
+ec-enc-icdf8-run-requires : tie.Need-ec-enc-icdf8-run-requires
+ec-enc-icdf8-run-requires c κs =
     let z = c .before .before .before .before .before .before in
     let t = delta-gain-row (z .pre .0 .rows) in
     let l : natAbs (gain z) ≤ 40 = rw (eq-eqb _ _ (c .before .before .if1 .taken)) at (z .pre .1 .1 .most) in
@@ -55,7 +55,7 @@ returns : tie.Need-returns
 unfolding firstGain
 returns c =
     let z = c .before .before .before .before .before .before .before .before .before in
-    let a = c .before .before .ec-enc-icdf-run in
+    let a = c .before .before .ec-enc-icdf8-run in
     rw (eq-eqb _ _ (c .before .before .before .before .before .if1 .taken))
     (told-within {n = 16} {m = 32} (omega arith)
     (told-ask (delta-gain-row (z .pre .0 .rows) .is) (ap natAbs (gain-is z)) (a .ensures) (told-done (a .ensures .core))))
@@ -69,35 +69,35 @@ add-start c = search needs
 add-end : tie.Need-add-end
 add-end c = search needs
 
-sub-ec-enc-icdf-run-2 : tie.Need-sub-ec-enc-icdf-run-2
-sub-ec-enc-icdf-run-2 c = search needs
+sub-ec-enc-icdf8-run-2 : tie.Need-sub-ec-enc-icdf8-run-2
+sub-ec-enc-icdf8-run-2 c = search needs
 
-part-ec-enc-icdf-run-start-2 : tie.Need-part-ec-enc-icdf-run-start-2
-part-ec-enc-icdf-run-start-2 c = search needs
+part-ec-enc-icdf8-run-start-2 : tie.Need-part-ec-enc-icdf8-run-start-2
+part-ec-enc-icdf8-run-start-2 c = search needs
 
-part-ec-enc-icdf-run-end-2 : tie.Need-part-ec-enc-icdf-run-end-2
-part-ec-enc-icdf-run-end-2 c = search needs
+part-ec-enc-icdf8-run-end-2 : tie.Need-part-ec-enc-icdf8-run-end-2
+part-ec-enc-icdf8-run-end-2 c = search needs
 
-ec-enc-icdf-run-requires-2 : tie.Need-ec-enc-icdf-run-requires-2
-ec-enc-icdf-run-requires-2 c κs =
+ec-enc-icdf8-run-requires-2 : tie.Need-ec-enc-icdf8-run-requires-2
+ec-enc-icdf8-run-requires-2 c κs =
     let z = c .before .before .before .before .before .before in
     let t = gain-row (z .pre .0 .rows) (z .args .signal) (z .pre .1 .0) in
     let l : natAbs (gain z) ≤ 63 = rw (ne-eqb _ _ (c .before .before .if1 .left)) at (z .pre .1 .1 .most) in
     rw (gain-is z) (z .pre .0 .core, (omega (arith, z .pre .0 .few), (t .good, t .writable _ (omega arith))))
 
-sub-ec-enc-icdf-run-3 : tie.Need-sub-ec-enc-icdf-run-3
-sub-ec-enc-icdf-run-3 c = search needs
+sub-ec-enc-icdf8-run-3 : tie.Need-sub-ec-enc-icdf8-run-3
+sub-ec-enc-icdf8-run-3 c = search needs
 
-part-ec-enc-icdf-run-start-3 : tie.Need-part-ec-enc-icdf-run-start-3
-part-ec-enc-icdf-run-start-3 c = search needs
+part-ec-enc-icdf8-run-start-3 : tie.Need-part-ec-enc-icdf8-run-start-3
+part-ec-enc-icdf8-run-start-3 c = search needs
 
-part-ec-enc-icdf-run-end-3 : tie.Need-part-ec-enc-icdf-run-end-3
-part-ec-enc-icdf-run-end-3 c = search needs
+part-ec-enc-icdf8-run-end-3 : tie.Need-part-ec-enc-icdf8-run-end-3
+part-ec-enc-icdf8-run-end-3 c = search needs
 
-ec-enc-icdf-run-requires-3 : tie.Need-ec-enc-icdf-run-requires-3
-ec-enc-icdf-run-requires-3 c κs =
+ec-enc-icdf8-run-requires-3 : tie.Need-ec-enc-icdf8-run-requires-3
+ec-enc-icdf8-run-requires-3 c κs =
     let z = c .before .before .before .before .before .before .before .before .before .before .before in
-    let h = c .before .before .before .before .ec-enc-icdf-run2 in
+    let h = c .before .before .before .before .ec-enc-icdf8-run2 in
     let t = gain-low-row (z .pre .0 .rows) in
     (h .ensures .core, (omega (arith, z .pre .0 .few, h .ensures .most), (t .good, t .writable _ (omega arith))))
 
@@ -108,8 +108,8 @@ returns-2 : tie.Need-returns-2
 unfolding firstGain
 returns-2 c =
     let z = c .before .before .before .before .before .before .before .before .before .before .before .before .before .before in
-    let h = c .before .before .before .before .before .before .before .ec-enc-icdf-run2 in
-    let l = c .before .before .ec-enc-icdf-run3 in
+    let h = c .before .before .before .before .before .before .before .ec-enc-icdf8-run2 in
+    let l = c .before .before .ec-enc-icdf8-run3 in
     let e = ap natAbs (gain-is z) in
     rw (ne-eqb _ _ (c .before .before .before .before .before .before .before .before .before .before .if1 .left))
     (told-ask (gain-row (z .pre .0 .rows) (z .args .signal) (z .pre .1 .0) .is) (ap (λ (g : ℕ). g / 8) e) (h .ensures)
@@ -121,22 +121,22 @@ first-gain-tell-spec =
     (tie.spec
     element-copy-out-gain
     cast-gain
-    sub-ec-enc-icdf-run
-    part-ec-enc-icdf-run-start
-    part-ec-enc-icdf-run-end
-    ec-enc-icdf-run-requires
+    sub-ec-enc-icdf8-run
+    part-ec-enc-icdf8-run-start
+    part-ec-enc-icdf8-run-end
+    ec-enc-icdf8-run-requires
     same-length
     returns
     mul-start
     add-start
     add-end
-    sub-ec-enc-icdf-run-2
-    part-ec-enc-icdf-run-start-2
-    part-ec-enc-icdf-run-end-2
-    ec-enc-icdf-run-requires-2
-    sub-ec-enc-icdf-run-3
-    part-ec-enc-icdf-run-start-3
-    part-ec-enc-icdf-run-end-3
-    ec-enc-icdf-run-requires-3
+    sub-ec-enc-icdf8-run-2
+    part-ec-enc-icdf8-run-start-2
+    part-ec-enc-icdf8-run-end-2
+    ec-enc-icdf8-run-requires-2
+    sub-ec-enc-icdf8-run-3
+    part-ec-enc-icdf8-run-start-3
+    part-ec-enc-icdf8-run-end-3
+    ec-enc-icdf8-run-requires-3
     same-length-2
     returns-2)

@@ -51,22 +51,22 @@ add-kind c =
     let z = c .before .before .before .before .before .before in
     rw (signal-is z, offset-is z) (omega (arith, z .pre .1 .1 .0 .most, z .pre .1 .1 .1 .most))
 
-sub-ec-enc-icdf-run : tie.Need-sub-ec-enc-icdf-run
-sub-ec-enc-icdf-run c =
+sub-ec-enc-icdf8-run : tie.Need-sub-ec-enc-icdf8-run
+sub-ec-enc-icdf8-run c =
     let z = c .before .before .before .before .before .before .before in
     rw (signal-is z, offset-is z) (omega (arith, z .pre .1 .0 .1 .least))
 
-sub-ec-enc-icdf-run-2 : tie.Need-sub-ec-enc-icdf-run-2
-sub-ec-enc-icdf-run-2 c = search needs
+sub-ec-enc-icdf8-run-2 : tie.Need-sub-ec-enc-icdf8-run-2
+sub-ec-enc-icdf8-run-2 c = search needs
 
-part-ec-enc-icdf-run-start : tie.Need-part-ec-enc-icdf-run-start
-part-ec-enc-icdf-run-start c = search needs
+part-ec-enc-icdf8-run-start : tie.Need-part-ec-enc-icdf8-run-start
+part-ec-enc-icdf8-run-start c = search needs
 
-part-ec-enc-icdf-run-end : tie.Need-part-ec-enc-icdf-run-end
-part-ec-enc-icdf-run-end c = search needs
+part-ec-enc-icdf8-run-end : tie.Need-part-ec-enc-icdf8-run-end
+part-ec-enc-icdf8-run-end c = search needs
 
-ec-enc-icdf-run-requires : tie.Need-ec-enc-icdf-run-requires
-ec-enc-icdf-run-requires c κs =
+ec-enc-icdf8-run-requires : tie.Need-ec-enc-icdf8-run-requires
+ec-enc-icdf8-run-requires c κs =
     let z = c .before .before .before .before .before .before .before .before in
     let t = type-row (z .pre .0 .rows) (z .args .active) (z .pre .1 .0 .0) in
     let k = z .pre .1 .0 .1 in
@@ -79,7 +79,7 @@ returns : tie.Need-returns
 unfolding kind
 returns c =
     let z = c .before .before .before .before .before .before .before .before .before .before .before in
-    let a = c .before .before .ec-enc-icdf-run in
+    let a = c .before .before .ec-enc-icdf8-run in
     told-ask (type-row (z .pre .0 .rows) (z .args .active) (z .pre .1 .0 .0) .is)
     (ap₂ (λ (s o : ℤ). natAbs s * 2 + natAbs o - z .args .active * 2) (signal-is z) (offset-is z)) (a .ensures) (told-done (a .ensures .core))
 
@@ -95,10 +95,10 @@ kind-tell-run-spec =
     mul-kind
     cast-kind-2
     add-kind
-    sub-ec-enc-icdf-run
-    sub-ec-enc-icdf-run-2
-    part-ec-enc-icdf-run-start
-    part-ec-enc-icdf-run-end
-    ec-enc-icdf-run-requires
+    sub-ec-enc-icdf8-run
+    sub-ec-enc-icdf8-run-2
+    part-ec-enc-icdf8-run-start
+    part-ec-enc-icdf8-run-end
+    ec-enc-icdf8-run-requires
     same-length
     returns)

@@ -45,29 +45,29 @@ loop-holds c =
       kept = refl;
     }
 
-element-copy-out-ec-enc-icdf-run : tie.Need-element-copy-out-ec-enc-icdf-run Inv-loop μ-loop
-element-copy-out-ec-enc-icdf-run c =
+element-copy-out-ec-enc-icdf8-run : tie.Need-element-copy-out-ec-enc-icdf8-run Inv-loop μ-loop
+element-copy-out-ec-enc-icdf8-run c =
     let z = c .before .before .before .before .before in
     omega (arith, subframes-most (z .pre .1 .0))
 
-cast-ec-enc-icdf-run : tie.Need-cast-ec-enc-icdf-run Inv-loop μ-loop
-cast-ec-enc-icdf-run c =
+cast-ec-enc-icdf8-run : tie.Need-cast-ec-enc-icdf8-run Inv-loop μ-loop
+cast-ec-enc-icdf8-run c =
     let z = c .before .before .before .before .before .before in
     let l = c .before .before .before .loop in
     let u = z .pre .1 .1 (l .k) (l .inv .from) (c .before .before .loop-test .taken) in
     rw (gain-is u) (upto-fits (getD (z .args .t4 .gains) (l .k) (pos 0)) (omega arith) u)
 
-sub-ec-enc-icdf-run : tie.Need-sub-ec-enc-icdf-run Inv-loop μ-loop
-sub-ec-enc-icdf-run c = search needs
+sub-ec-enc-icdf8-run : tie.Need-sub-ec-enc-icdf8-run Inv-loop μ-loop
+sub-ec-enc-icdf8-run c = search needs
 
-part-ec-enc-icdf-run-start : tie.Need-part-ec-enc-icdf-run-start Inv-loop μ-loop
-part-ec-enc-icdf-run-start c = search needs
+part-ec-enc-icdf8-run-start : tie.Need-part-ec-enc-icdf8-run-start Inv-loop μ-loop
+part-ec-enc-icdf8-run-start c = search needs
 
-part-ec-enc-icdf-run-end : tie.Need-part-ec-enc-icdf-run-end Inv-loop μ-loop
-part-ec-enc-icdf-run-end c = search needs
+part-ec-enc-icdf8-run-end : tie.Need-part-ec-enc-icdf8-run-end Inv-loop μ-loop
+part-ec-enc-icdf8-run-end c = search needs
 
-ec-enc-icdf-run-requires : tie.Need-ec-enc-icdf-run-requires Inv-loop μ-loop
-ec-enc-icdf-run-requires c κs =
+ec-enc-icdf8-run-requires : tie.Need-ec-enc-icdf8-run-requires Inv-loop μ-loop
+ec-enc-icdf8-run-requires c κs =
     let z = c .before .before .before .before .before .before .before in
     let l = c .before .before .before .before .loop in
     let u = z .pre .1 .1 (l .k) (l .inv .from) (c .before .before .before .loop-test .taken) in
@@ -85,7 +85,7 @@ loop-again : tie.Need-loop-again Inv-loop μ-loop
 loop-again c =
     let z = c .before .before .before .before .before .before .before .before .before .before in
     let l = c .before .before .before .before .before .before .before .loop in
-    let a = c .before .before .ec-enc-icdf-run in
+    let a = c .before .before .ec-enc-icdf8-run in
     let i = c .before .before .before .before .before .before .loop-test .taken in
     let u = z .pre .1 .1 (l .k) (l .inv .from) i in
     let s = gains-told-next (z .args .n) (l .k) (z .args .t4) 40 i (omega (arith, subframes-most (z .pre .1 .0), l .inv .size)) u in
@@ -114,12 +114,12 @@ more-gains-tell-spec =
     Inv-loop
     μ-loop
     loop-holds
-    element-copy-out-ec-enc-icdf-run
-    cast-ec-enc-icdf-run
-    sub-ec-enc-icdf-run
-    part-ec-enc-icdf-run-start
-    part-ec-enc-icdf-run-end
-    ec-enc-icdf-run-requires
+    element-copy-out-ec-enc-icdf8-run
+    cast-ec-enc-icdf8-run
+    sub-ec-enc-icdf8-run
+    part-ec-enc-icdf8-run-start
+    part-ec-enc-icdf8-run-end
+    ec-enc-icdf8-run-requires
     add-k
     loop-less
     loop-again

@@ -33,48 +33,48 @@ cast-value c =
     let z = c .before .before .before .before .before in
     rw (lag-is z) (upto-fits (z .args .x .lag) (omega (arith, rate-most (z .pre .1 .0))) (z .pre .1 .1))
 
-div-ec-enc-icdf-run : tie.Need-div-ec-enc-icdf-run
-div-ec-enc-icdf-run c =
+div-ec-enc-icdf8-run : tie.Need-div-ec-enc-icdf8-run
+div-ec-enc-icdf8-run c =
     let z = c .before .before .before .before .before .before in
     omega (arith, low-part (z .args .khz) 0 (z .pre .1 .0))
 
-sub-ec-enc-icdf-run : tie.Need-sub-ec-enc-icdf-run
-sub-ec-enc-icdf-run c = search needs
+sub-ec-enc-icdf8-run : tie.Need-sub-ec-enc-icdf8-run
+sub-ec-enc-icdf8-run c = search needs
 
-part-ec-enc-icdf-run-start : tie.Need-part-ec-enc-icdf-run-start
-part-ec-enc-icdf-run-start c = search needs
+part-ec-enc-icdf8-run-start : tie.Need-part-ec-enc-icdf8-run-start
+part-ec-enc-icdf8-run-start c = search needs
 
-part-ec-enc-icdf-run-end : tie.Need-part-ec-enc-icdf-run-end
-part-ec-enc-icdf-run-end c = search needs
+part-ec-enc-icdf8-run-end : tie.Need-part-ec-enc-icdf8-run-end
+part-ec-enc-icdf8-run-end c = search needs
 
-ec-enc-icdf-run-requires : tie.Need-ec-enc-icdf-run-requires
-ec-enc-icdf-run-requires c κs =
+ec-enc-icdf8-run-requires : tie.Need-ec-enc-icdf8-run-requires
+ec-enc-icdf8-run-requires c κs =
     let z = c .before .before .before .before .before .before .before in
     let t = lag-row (z .pre .0 .rows) in
     let h = high-part (z .args .khz) _ (z .pre .1 .0) (z .pre .1 .1 .most) in
     rw (lag-is z) (z .pre .0 .core, (omega (arith, z .pre .0 .few), (t .good, t .writable _ h)))
 
-rem-ec-enc-icdf-run : tie.Need-rem-ec-enc-icdf-run
-rem-ec-enc-icdf-run c =
+rem-ec-enc-icdf8-run : tie.Need-rem-ec-enc-icdf8-run
+rem-ec-enc-icdf8-run c =
     let z = c .before .before .before .before .before .before .before .before .before .before .before in
     omega (arith, low-part (z .args .khz) 0 (z .pre .1 .0))
 
-sub-ec-enc-icdf-run-2 : tie.Need-sub-ec-enc-icdf-run-2
-sub-ec-enc-icdf-run-2 c = search needs
+sub-ec-enc-icdf8-run-2 : tie.Need-sub-ec-enc-icdf8-run-2
+sub-ec-enc-icdf8-run-2 c = search needs
 
-part-ec-enc-icdf-run-start-2 : tie.Need-part-ec-enc-icdf-run-start-2
-part-ec-enc-icdf-run-start-2 c = search needs
+part-ec-enc-icdf8-run-start-2 : tie.Need-part-ec-enc-icdf8-run-start-2
+part-ec-enc-icdf8-run-start-2 c = search needs
 
-part-ec-enc-icdf-run-end-2 : tie.Need-part-ec-enc-icdf-run-end-2
-part-ec-enc-icdf-run-end-2 c =
+part-ec-enc-icdf8-run-end-2 : tie.Need-part-ec-enc-icdf8-run-end-2
+part-ec-enc-icdf8-run-end-2 c =
     let z = c .before .before .before .before .before .before .before .before .before .before .before in
     let e = c .before .before .before .before .before .before .before .before .lag-low-start .ensures in
     omega (arith, lag-low-within (z .args .khz) (z .pre .1 .0) .0, e, z .pre .0 .rows .size)
 
-ec-enc-icdf-run-requires-2 : tie.Need-ec-enc-icdf-run-requires-2
-ec-enc-icdf-run-requires-2 c κs =
+ec-enc-icdf8-run-requires-2 : tie.Need-ec-enc-icdf8-run-requires-2
+ec-enc-icdf8-run-requires-2 c κs =
     let z = c .before .before .before .before .before .before .before .before .before .before .before .before in
-    let h = c .before .before .before .before .ec-enc-icdf-run in
+    let h = c .before .before .before .before .ec-enc-icdf8-run in
     let e = c .before .before .before .before .before .before .before .before .before .lag-low-start .ensures in
     let t = lag-low-row (z .pre .0 .rows) _ _ (z .pre .1 .0) e in
     (h .ensures .core, (omega (arith, z .pre .0 .few, h .ensures .most), (t .good, t .writable _ (low-part (z .args .khz) _ (z .pre .1 .0)))))
@@ -86,8 +86,8 @@ returns : tie.Need-returns
 unfolding absoluteLag
 returns c =
     let z = c .before .before .before .before .before .before .before .before .before .before .before .before .before .before .before in
-    let h = c .before .before .before .before .before .before .before .ec-enc-icdf-run in
-    let l = c .before .before .ec-enc-icdf-run2 in
+    let h = c .before .before .before .before .before .before .before .ec-enc-icdf8-run in
+    let l = c .before .before .ec-enc-icdf8-run2 in
     let s = c .before .before .before .before .before .before .before .before .before .before .before .before .lag-low-start .ensures in
     let t = lag-low-row (z .pre .0 .rows) _ _ (z .pre .1 .0) s in
     let e = ap natAbs (lag-is z) in
@@ -102,15 +102,15 @@ absolute-lag-tell-spec =
     cast-end
     add-end
     cast-value
-    div-ec-enc-icdf-run
-    sub-ec-enc-icdf-run
-    part-ec-enc-icdf-run-start
-    part-ec-enc-icdf-run-end
-    ec-enc-icdf-run-requires
-    rem-ec-enc-icdf-run
-    sub-ec-enc-icdf-run-2
-    part-ec-enc-icdf-run-start-2
-    part-ec-enc-icdf-run-end-2
-    ec-enc-icdf-run-requires-2
+    div-ec-enc-icdf8-run
+    sub-ec-enc-icdf8-run
+    part-ec-enc-icdf8-run-start
+    part-ec-enc-icdf8-run-end
+    ec-enc-icdf8-run-requires
+    rem-ec-enc-icdf8-run
+    sub-ec-enc-icdf8-run-2
+    part-ec-enc-icdf8-run-start-2
+    part-ec-enc-icdf8-run-end-2
+    ec-enc-icdf8-run-requires-2
     same-length
     returns)

@@ -32,26 +32,26 @@ add-end c =
     let z = c .before .before .before .before in
     omega (arith, within z .0, c .contour-size .ensures, c .before .contour-start .ensures)
 
-cast-ec-enc-icdf-run : tie.Need-cast-ec-enc-icdf-run
-cast-ec-enc-icdf-run c =
+cast-ec-enc-icdf8-run : tie.Need-cast-ec-enc-icdf8-run
+cast-ec-enc-icdf8-run c =
     let z = c .before .before .before .before .before .before .before in
     rw (contour-is z) (upto-fits (z .args .x .contour) (omega (arith, within z .1)) (z .pre .1 .2))
 
-sub-ec-enc-icdf-run : tie.Need-sub-ec-enc-icdf-run
-sub-ec-enc-icdf-run c = search needs
+sub-ec-enc-icdf8-run : tie.Need-sub-ec-enc-icdf8-run
+sub-ec-enc-icdf8-run c = search needs
 
-part-ec-enc-icdf-run-start : tie.Need-part-ec-enc-icdf-run-start
-part-ec-enc-icdf-run-start c = search needs
+part-ec-enc-icdf8-run-start : tie.Need-part-ec-enc-icdf8-run-start
+part-ec-enc-icdf8-run-start c = search needs
 
-part-ec-enc-icdf-run-end : tie.Need-part-ec-enc-icdf-run-end
-part-ec-enc-icdf-run-end c =
+part-ec-enc-icdf8-run-end : tie.Need-part-ec-enc-icdf8-run-end
+part-ec-enc-icdf8-run-end c =
     let z = c .before .before .before .before .before .before .before in
     let s = c .before .before .before .before .contour-start .ensures in
     let n = c .before .before .before .contour-size .ensures in
     omega (arith, within z .0, s, n, z .pre .0 .rows .size)
 
-ec-enc-icdf-run-requires : tie.Need-ec-enc-icdf-run-requires
-ec-enc-icdf-run-requires c κs =
+ec-enc-icdf8-run-requires : tie.Need-ec-enc-icdf8-run-requires
+ec-enc-icdf8-run-requires c κs =
     let z = c .before .before .before .before .before .before .before .before in
     let s = c .before .before .before .before .before .contour-start .ensures in
     let n = c .before .before .before .before .contour-size .ensures in
@@ -66,7 +66,7 @@ returns : tie.Need-returns
 unfolding contour
 returns c =
     let z = c .before .before .before .before .before .before .before .before .before .before .before in
-    let a = c .before .before .ec-enc-icdf-run in
+    let a = c .before .before .ec-enc-icdf8-run in
     let s = c .before .before .before .before .before .before .before .before .contour-start .ensures in
     let n = c .before .before .before .before .before .before .before .contour-size .ensures in
     let t = contour-row (z .pre .0 .rows) _ _ _ _ (z .pre .1 .0) (z .pre .1 .1) s n in
@@ -79,10 +79,10 @@ contour-tell-spec =
     contour-start-requires
     contour-size-requires
     add-end
-    cast-ec-enc-icdf-run
-    sub-ec-enc-icdf-run
-    part-ec-enc-icdf-run-start
-    part-ec-enc-icdf-run-end
-    ec-enc-icdf-run-requires
+    cast-ec-enc-icdf8-run
+    sub-ec-enc-icdf8-run
+    part-ec-enc-icdf8-run-start
+    part-ec-enc-icdf8-run-end
+    ec-enc-icdf8-run-requires
     same-length
     returns)

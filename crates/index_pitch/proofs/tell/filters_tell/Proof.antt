@@ -54,13 +54,13 @@ loop-holds c =
       kept = refl;
     }
 
-element-copy-out-ec-enc-icdf-run : tie.Need-element-copy-out-ec-enc-icdf-run Inv-loop μ-loop
-element-copy-out-ec-enc-icdf-run c =
+element-copy-out-ec-enc-icdf8-run : tie.Need-element-copy-out-ec-enc-icdf8-run Inv-loop μ-loop
+element-copy-out-ec-enc-icdf8-run c =
     let z = c .before .before .before .before .before in
     omega (arith, subframes-most (z .pre .1 .1))
 
-cast-ec-enc-icdf-run : tie.Need-cast-ec-enc-icdf-run Inv-loop μ-loop
-cast-ec-enc-icdf-run c =
+cast-ec-enc-icdf8-run : tie.Need-cast-ec-enc-icdf8-run Inv-loop μ-loop
+cast-ec-enc-icdf8-run c =
     let z = c .before .before .before .before .before .before in
     let l = c .before .before .before .loop in
     let u = z .pre .1 .2 (l .k) (c .before .before .loop-test .taken) in
@@ -68,19 +68,19 @@ cast-ec-enc-icdf-run c =
     rw (filter-is (z .args .p) h u)
     (upto-fits (getD (z .args .t4 .ltp) (l .k) (pos 0)) (omega (arith, size-is (z .args .p) h, size-most (z .args .p) h)) u)
 
-sub-ec-enc-icdf-run : tie.Need-sub-ec-enc-icdf-run Inv-loop μ-loop
-sub-ec-enc-icdf-run c = search needs
+sub-ec-enc-icdf8-run : tie.Need-sub-ec-enc-icdf8-run Inv-loop μ-loop
+sub-ec-enc-icdf8-run c = search needs
 
-part-ec-enc-icdf-run-start : tie.Need-part-ec-enc-icdf-run-start Inv-loop μ-loop
-part-ec-enc-icdf-run-start c = search needs
+part-ec-enc-icdf8-run-start : tie.Need-part-ec-enc-icdf8-run-start Inv-loop μ-loop
+part-ec-enc-icdf8-run-start c = search needs
 
-part-ec-enc-icdf-run-end : tie.Need-part-ec-enc-icdf-run-end Inv-loop μ-loop
-part-ec-enc-icdf-run-end c =
+part-ec-enc-icdf8-run-end : tie.Need-part-ec-enc-icdf8-run-end Inv-loop μ-loop
+part-ec-enc-icdf8-run-end c =
     let z = c .before .before .before .before .before .before in
     omega (arith, size-most (z .args .p) (z .pre .1 .0), z .pre .0 .rows .size)
 
-ec-enc-icdf-run-requires : tie.Need-ec-enc-icdf-run-requires Inv-loop μ-loop
-ec-enc-icdf-run-requires c κs =
+ec-enc-icdf8-run-requires : tie.Need-ec-enc-icdf8-run-requires Inv-loop μ-loop
+ec-enc-icdf8-run-requires c κs =
     let z = c .before .before .before .before .before .before .before in
     let l = c .before .before .before .before .loop in
     let u = z .pre .1 .2 (l .k) (c .before .before .before .loop-test .taken) in
@@ -100,7 +100,7 @@ loop-again : tie.Need-loop-again Inv-loop μ-loop
 loop-again c =
     let z = c .before .before .before .before .before .before .before .before .before .before in
     let l = c .before .before .before .before .before .before .before .loop in
-    let a = c .before .before .ec-enc-icdf-run in
+    let a = c .before .before .ec-enc-icdf8-run in
     let i = c .before .before .before .before .before .before .loop-test .taken in
     let u = z .pre .1 .2 (l .k) i in
     let h = z .pre .1 .0 in
@@ -133,12 +133,12 @@ filters-tell-spec =
     add-start
     add-end
     loop-holds
-    element-copy-out-ec-enc-icdf-run
-    cast-ec-enc-icdf-run
-    sub-ec-enc-icdf-run
-    part-ec-enc-icdf-run-start
-    part-ec-enc-icdf-run-end
-    ec-enc-icdf-run-requires
+    element-copy-out-ec-enc-icdf8-run
+    cast-ec-enc-icdf8-run
+    sub-ec-enc-icdf8-run
+    part-ec-enc-icdf8-run-start
+    part-ec-enc-icdf8-run-end
+    ec-enc-icdf8-run-requires
     add-k
     loop-less
     loop-again

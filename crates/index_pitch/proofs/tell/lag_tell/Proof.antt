@@ -8,17 +8,17 @@ use Rattle.silk.specs.IndexSyntax.{lag}
 use Rattle.index_pitch.proofs.tell.lag_tell.Statement.{statement}
 use Rattle.index_pitch.proofs.tell.lag_tell.Tie as tie
 
-sub-ec-enc-icdf-run : tie.Need-sub-ec-enc-icdf-run
-sub-ec-enc-icdf-run c = search needs
+sub-ec-enc-icdf8-run : tie.Need-sub-ec-enc-icdf8-run
+sub-ec-enc-icdf8-run c = search needs
 
-part-ec-enc-icdf-run-start : tie.Need-part-ec-enc-icdf-run-start
-part-ec-enc-icdf-run-start c = search needs
+part-ec-enc-icdf8-run-start : tie.Need-part-ec-enc-icdf8-run-start
+part-ec-enc-icdf8-run-start c = search needs
 
-part-ec-enc-icdf-run-end : tie.Need-part-ec-enc-icdf-run-end
-part-ec-enc-icdf-run-end c = search needs
+part-ec-enc-icdf8-run-end : tie.Need-part-ec-enc-icdf8-run-end
+part-ec-enc-icdf8-run-end c = search needs
 
-ec-enc-icdf-run-requires : tie.Need-ec-enc-icdf-run-requires
-ec-enc-icdf-run-requires c κs =
+ec-enc-icdf8-run-requires : tie.Need-ec-enc-icdf8-run-requires
+ec-enc-icdf8-run-requires c κs =
     let z = c .before .before .before .before .before in
     let t = delta-lag-row (z .pre .0 .rows) in
     (z .pre .0 .core, (omega (arith, z .pre .0 .few), (t .good, t .writable _ (omega arith))))
@@ -26,7 +26,7 @@ ec-enc-icdf-run-requires c κs =
 absolute-lag-tell-requires : tie.Need-absolute-lag-tell-requires
 absolute-lag-tell-requires c κs =
     let z = c .before .before .before .before .before .before .before .before .before in
-    let a = c .before .before .before .ec-enc-icdf-run in
+    let a = c .before .before .before .ec-enc-icdf8-run in
     (record { core = a .ensures .core; few = omega (arith, a .ensures .most, z .pre .0 .few); rows = z .pre .0 .rows }, z .pre .1)
 
 same-length : tie.Need-same-length
@@ -36,7 +36,7 @@ returns : tie.Need-returns
 unfolding lag
 returns c =
     let z = c .before .before .before .before .before .before .before .before .before .before .before .before in
-    let a = c .before .before .before .before .before .before .ec-enc-icdf-run in
+    let a = c .before .before .before .before .before .before .ec-enc-icdf8-run in
     let l = c .before .before .absolute-lag-tell in
     λ before.
     rw (c .before .before .before .before .before .before .before .before .before .if1 .taken)
@@ -58,10 +58,10 @@ pub lag-tell-spec : {M : Type 1} → statement M
 lag-tell-spec =
     tie.close
     (tie.spec
-    sub-ec-enc-icdf-run
-    part-ec-enc-icdf-run-start
-    part-ec-enc-icdf-run-end
-    ec-enc-icdf-run-requires
+    sub-ec-enc-icdf8-run
+    part-ec-enc-icdf8-run-start
+    part-ec-enc-icdf8-run-end
+    ec-enc-icdf8-run-requires
     absolute-lag-tell-requires
     same-length
     returns

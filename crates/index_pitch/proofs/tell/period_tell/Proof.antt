@@ -23,17 +23,17 @@ cast-p c =
     let z = c .before .before .before .before in
     rw (period-is z) (upto-fits (z .args .x .period) (omega arith) (z .pre .1 .0 .1))
 
-sub-ec-enc-icdf-run : tie.Need-sub-ec-enc-icdf-run
-sub-ec-enc-icdf-run c = search needs
+sub-ec-enc-icdf8-run : tie.Need-sub-ec-enc-icdf8-run
+sub-ec-enc-icdf8-run c = search needs
 
-part-ec-enc-icdf-run-start : tie.Need-part-ec-enc-icdf-run-start
-part-ec-enc-icdf-run-start c = search needs
+part-ec-enc-icdf8-run-start : tie.Need-part-ec-enc-icdf8-run-start
+part-ec-enc-icdf8-run-start c = search needs
 
-part-ec-enc-icdf-run-end : tie.Need-part-ec-enc-icdf-run-end
-part-ec-enc-icdf-run-end c = search needs
+part-ec-enc-icdf8-run-end : tie.Need-part-ec-enc-icdf8-run-end
+part-ec-enc-icdf8-run-end c = search needs
 
-ec-enc-icdf-run-requires : tie.Need-ec-enc-icdf-run-requires
-ec-enc-icdf-run-requires c κs =
+ec-enc-icdf8-run-requires : tie.Need-ec-enc-icdf8-run-requires
+ec-enc-icdf8-run-requires c κs =
     let z = c .before .before .before .before .before .before in
     let t = period-row (z .pre .0 .rows) in
     rw (period-is z) (z .pre .0 .core, (omega (arith, z .pre .0 .few), (t .good, t .writable _ (omega (arith, z .pre .1 .0 .1 .most)))))
@@ -41,7 +41,7 @@ ec-enc-icdf-run-requires c κs =
 filters-tell-requires : tie.Need-filters-tell-requires
 filters-tell-requires c κs =
     let z = c .before .before .before .before .before .before .before .before .before .before in
-    let a = c .before .before .before .ec-enc-icdf-run in
+    let a = c .before .before .before .ec-enc-icdf8-run in
     rw (period-is z) (
       record { core = a .ensures .core; few = omega (arith, a .ensures .most, z .pre .0 .few); rows = z .pre .0 .rows },
       (omega (arith, z .pre .1 .0 .1 .most), z .pre .1 .0 .0, z .pre .1 .1),
@@ -54,7 +54,7 @@ returns : tie.Need-returns
 unfolding period
 returns c =
     let z = c .before .before .before .before .before .before .before .before .before .before .before .before .before in
-    let a = c .before .before .before .before .before .before .ec-enc-icdf-run in
+    let a = c .before .before .before .before .before .before .ec-enc-icdf8-run in
     let f = c .before .before .filters-tell in
     let x = z .args .x in
     let p = natAbs (toZ w8 (ofZ w8 (x .period))) in
@@ -68,10 +68,10 @@ period-tell-spec =
     tie.close
     (tie.spec
     cast-p
-    sub-ec-enc-icdf-run
-    part-ec-enc-icdf-run-start
-    part-ec-enc-icdf-run-end
-    ec-enc-icdf-run-requires
+    sub-ec-enc-icdf8-run
+    part-ec-enc-icdf8-run-start
+    part-ec-enc-icdf8-run-end
+    ec-enc-icdf8-run-requires
     filters-tell-requires
     same-length
     returns)

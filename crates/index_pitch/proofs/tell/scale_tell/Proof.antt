@@ -16,22 +16,22 @@ use Rattle.index_pitch.proofs.tell.scale_tell.Tie as tie
 scale-is : (z : tie.Start) → toZ w8 (ofZ w8 (z .args .x .scale)) ≡ z .args .x .scale
 scale-is z = abs-kept w8 _ (z .pre .1 .most) (omega arith)
 
-cast-ec-enc-icdf-run : tie.Need-cast-ec-enc-icdf-run
-cast-ec-enc-icdf-run c =
+cast-ec-enc-icdf8-run : tie.Need-cast-ec-enc-icdf8-run
+cast-ec-enc-icdf8-run c =
     let z = c .before .before .before .before .before .before in
     rw (scale-is z) (upto-fits (z .args .x .scale) (omega arith) (z .pre .1))
 
-sub-ec-enc-icdf-run : tie.Need-sub-ec-enc-icdf-run
-sub-ec-enc-icdf-run c = search needs
+sub-ec-enc-icdf8-run : tie.Need-sub-ec-enc-icdf8-run
+sub-ec-enc-icdf8-run c = search needs
 
-part-ec-enc-icdf-run-start : tie.Need-part-ec-enc-icdf-run-start
-part-ec-enc-icdf-run-start c = search needs
+part-ec-enc-icdf8-run-start : tie.Need-part-ec-enc-icdf8-run-start
+part-ec-enc-icdf8-run-start c = search needs
 
-part-ec-enc-icdf-run-end : tie.Need-part-ec-enc-icdf-run-end
-part-ec-enc-icdf-run-end c = search needs
+part-ec-enc-icdf8-run-end : tie.Need-part-ec-enc-icdf8-run-end
+part-ec-enc-icdf8-run-end c = search needs
 
-ec-enc-icdf-run-requires : tie.Need-ec-enc-icdf-run-requires
-ec-enc-icdf-run-requires c κs =
+ec-enc-icdf8-run-requires : tie.Need-ec-enc-icdf8-run-requires
+ec-enc-icdf8-run-requires c κs =
     let z = c .before .before .before .before .before .before .before in
     let t = scale-row (z .pre .0 .rows) in
     rw (scale-is z) (z .pre .0 .core, (omega (arith, z .pre .0 .few), (t .good, t .writable _ (omega (arith, z .pre .1 .most)))))
@@ -43,7 +43,7 @@ returns : tie.Need-returns
 unfolding scale
 returns c =
     let z = c .before .before .before .before .before .before .before .before .before .before in
-    let a = c .before .before .ec-enc-icdf-run in
+    let a = c .before .before .ec-enc-icdf8-run in
     rw (eq-eqb _ _ (c .before .before .before .before .before .before .before .if1 .taken))
     (told-ask (scale-row (z .pre .0 .rows) .is) (ap natAbs (scale-is z)) (a .ensures) (told-done (a .ensures .core)))
 
@@ -57,11 +57,11 @@ pub scale-tell-spec : {M : Type 1} → statement M
 scale-tell-spec =
     tie.close
     (tie.spec
-    cast-ec-enc-icdf-run
-    sub-ec-enc-icdf-run
-    part-ec-enc-icdf-run-start
-    part-ec-enc-icdf-run-end
-    ec-enc-icdf-run-requires
+    cast-ec-enc-icdf8-run
+    sub-ec-enc-icdf8-run
+    part-ec-enc-icdf8-run-start
+    part-ec-enc-icdf8-run-end
+    ec-enc-icdf8-run-requires
     same-length
     returns
     returns-2)

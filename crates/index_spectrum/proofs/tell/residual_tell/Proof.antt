@@ -37,17 +37,17 @@ add-start c = search needs
 add-end : tie.Need-add-end
 add-end c = search needs
 
-sub-ec-enc-icdf-run : tie.Need-sub-ec-enc-icdf-run
-sub-ec-enc-icdf-run c = search needs
+sub-ec-enc-icdf8-run : tie.Need-sub-ec-enc-icdf8-run
+sub-ec-enc-icdf8-run c = search needs
 
-part-ec-enc-icdf-run-start : tie.Need-part-ec-enc-icdf-run-start
-part-ec-enc-icdf-run-start c = search needs
+part-ec-enc-icdf8-run-start : tie.Need-part-ec-enc-icdf8-run-start
+part-ec-enc-icdf8-run-start c = search needs
 
-part-ec-enc-icdf-run-end : tie.Need-part-ec-enc-icdf-run-end
-part-ec-enc-icdf-run-end c = search needs
+part-ec-enc-icdf8-run-end : tie.Need-part-ec-enc-icdf8-run-end
+part-ec-enc-icdf8-run-end c = search needs
 
-ec-enc-icdf-run-requires : tie.Need-ec-enc-icdf-run-requires
-ec-enc-icdf-run-requires c κs =
+ec-enc-icdf8-run-requires : tie.Need-ec-enc-icdf8-run-requires
+ec-enc-icdf8-run-requires c κs =
     let z = c .before .before .before .before .before in
     let t = residual-row (z .pre .0 .rows) (z .args .k) (z .pre .1 .0) in
     (z .pre .0 .core, (omega (arith, z .pre .0 .few), (t .good, t .writable _ (omega arith))))
@@ -57,19 +57,19 @@ extension-said-requires c κs =
     let z = c .before .before .before .before .before .before .before .before .before in
     rw (z-is z) (low-end (z .args .z) (rw (z-is z) at (c .before .before .before .before .before .before .if1 .taken)), z .pre .1 .1)
 
-sub-ec-enc-icdf-run-2 : tie.Need-sub-ec-enc-icdf-run-2
-sub-ec-enc-icdf-run-2 c = search needs
+sub-ec-enc-icdf8-run-2 : tie.Need-sub-ec-enc-icdf8-run-2
+sub-ec-enc-icdf8-run-2 c = search needs
 
-part-ec-enc-icdf-run-start-2 : tie.Need-part-ec-enc-icdf-run-start-2
-part-ec-enc-icdf-run-start-2 c = search needs
+part-ec-enc-icdf8-run-start-2 : tie.Need-part-ec-enc-icdf8-run-start-2
+part-ec-enc-icdf8-run-start-2 c = search needs
 
-part-ec-enc-icdf-run-end-2 : tie.Need-part-ec-enc-icdf-run-end-2
-part-ec-enc-icdf-run-end-2 c = search needs
+part-ec-enc-icdf8-run-end-2 : tie.Need-part-ec-enc-icdf8-run-end-2
+part-ec-enc-icdf8-run-end-2 c = search needs
 
-ec-enc-icdf-run-requires-2 : tie.Need-ec-enc-icdf-run-requires-2
-ec-enc-icdf-run-requires-2 c κs =
+ec-enc-icdf8-run-requires-2 : tie.Need-ec-enc-icdf8-run-requires-2
+ec-enc-icdf8-run-requires-2 c κs =
     let z = c .before .before .before .before .before .before .before .before .before .before .before in
-    let a = c .before .before .before .before .before .ec-enc-icdf-run in
+    let a = c .before .before .before .before .before .ec-enc-icdf8-run in
     let e : c .before .extension-said .result ≡ extensionSaid (z .args .z) = rw (z-is z) at (c .before .extension-said .ensures) in
     let t = extension-row (z .pre .0 .rows) in
     (a .ensures .core, (omega (arith, a .ensures .most, z .pre .0 .few), (t .good, t .writable _ (omega (arith, e, z .pre .1 .1)))))
@@ -81,8 +81,8 @@ returns : tie.Need-returns
 unfolding residual
 returns c =
     let z = c .before .before .before .before .before .before .before .before .before .before .before .before .before .before in
-    let a = c .before .before .before .before .before .before .before .before .ec-enc-icdf-run in
-    let b = c .before .before .ec-enc-icdf-run2 in
+    let a = c .before .before .before .before .before .before .before .before .ec-enc-icdf8-run in
+    let b = c .before .before .ec-enc-icdf8-run2 in
     let x = c .before .before .before .before .extension-said in
     let i = c .before .before .before .before .before .before .before .before .before .before .before .if1 in
     let l : leZ (z .args .z) (negsuc 3) ≡ true = rw (z-is z) at (i .taken) in
@@ -91,17 +91,17 @@ returns c =
     told-ask {n = 16} (residual-row (z .pre .0 .rows) (z .args .k) (z .pre .1 .0) .is) f (a .ensures)
     (told-ask (extension-row (z .pre .0 .rows) .is) e (b .ensures) (told-done (b .ensures .core)))
 
-sub-ec-enc-icdf-run-3 : tie.Need-sub-ec-enc-icdf-run-3
-sub-ec-enc-icdf-run-3 c = search needs
+sub-ec-enc-icdf8-run-3 : tie.Need-sub-ec-enc-icdf8-run-3
+sub-ec-enc-icdf8-run-3 c = search needs
 
-part-ec-enc-icdf-run-start-3 : tie.Need-part-ec-enc-icdf-run-start-3
-part-ec-enc-icdf-run-start-3 c = search needs
+part-ec-enc-icdf8-run-start-3 : tie.Need-part-ec-enc-icdf8-run-start-3
+part-ec-enc-icdf8-run-start-3 c = search needs
 
-part-ec-enc-icdf-run-end-3 : tie.Need-part-ec-enc-icdf-run-end-3
-part-ec-enc-icdf-run-end-3 c = search needs
+part-ec-enc-icdf8-run-end-3 : tie.Need-part-ec-enc-icdf8-run-end-3
+part-ec-enc-icdf8-run-end-3 c = search needs
 
-ec-enc-icdf-run-requires-3 : tie.Need-ec-enc-icdf-run-requires-3
-ec-enc-icdf-run-requires-3 c κs =
+ec-enc-icdf8-run-requires-3 : tie.Need-ec-enc-icdf8-run-requires-3
+ec-enc-icdf8-run-requires-3 c κs =
     let z = c .before .before .before .before .before .before in
     let t = residual-row (z .pre .0 .rows) (z .args .k) (z .pre .1 .0) in
     (z .pre .0 .core, (omega (arith, z .pre .0 .few), (t .good, t .writable _ (omega arith))))
@@ -111,19 +111,19 @@ extension-said-requires-2 c κs =
     let z = c .before .before .before .before .before .before .before .before .before .before in
     rw (z-is z) (high-end (z .args .z) (rw (z-is z) at (c .before .before .before .before .before .before .if2 .taken)), z .pre .1 .1)
 
-sub-ec-enc-icdf-run-4 : tie.Need-sub-ec-enc-icdf-run-4
-sub-ec-enc-icdf-run-4 c = search needs
+sub-ec-enc-icdf8-run-4 : tie.Need-sub-ec-enc-icdf8-run-4
+sub-ec-enc-icdf8-run-4 c = search needs
 
-part-ec-enc-icdf-run-start-4 : tie.Need-part-ec-enc-icdf-run-start-4
-part-ec-enc-icdf-run-start-4 c = search needs
+part-ec-enc-icdf8-run-start-4 : tie.Need-part-ec-enc-icdf8-run-start-4
+part-ec-enc-icdf8-run-start-4 c = search needs
 
-part-ec-enc-icdf-run-end-4 : tie.Need-part-ec-enc-icdf-run-end-4
-part-ec-enc-icdf-run-end-4 c = search needs
+part-ec-enc-icdf8-run-end-4 : tie.Need-part-ec-enc-icdf8-run-end-4
+part-ec-enc-icdf8-run-end-4 c = search needs
 
-ec-enc-icdf-run-requires-4 : tie.Need-ec-enc-icdf-run-requires-4
-ec-enc-icdf-run-requires-4 c κs =
+ec-enc-icdf8-run-requires-4 : tie.Need-ec-enc-icdf8-run-requires-4
+ec-enc-icdf8-run-requires-4 c κs =
     let z = c .before .before .before .before .before .before .before .before .before .before .before .before in
-    let a = c .before .before .before .before .before .ec-enc-icdf-run3 in
+    let a = c .before .before .before .before .before .ec-enc-icdf8-run3 in
     let e : c .before .extension-said2 .result ≡ extensionSaid (z .args .z) = rw (z-is z) at (c .before .extension-said2 .ensures) in
     let t = extension-row (z .pre .0 .rows) in
     (a .ensures .core, (omega (arith, a .ensures .most, z .pre .0 .few), (t .good, t .writable _ (omega (arith, e, z .pre .1 .1)))))
@@ -135,8 +135,8 @@ returns-2 : tie.Need-returns-2
 unfolding residual
 returns-2 c =
     let z = c .before .before .before .before .before .before .before .before .before .before .before .before .before .before .before in
-    let a = c .before .before .before .before .before .before .before .before .ec-enc-icdf-run3 in
-    let b = c .before .before .ec-enc-icdf-run4 in
+    let a = c .before .before .before .before .before .before .before .before .ec-enc-icdf8-run3 in
+    let b = c .before .before .ec-enc-icdf8-run4 in
     let x = c .before .before .before .before .extension-said2 in
     let i = c .before .before .before .before .before .before .before .before .before .before .before .before .if1 in
     let j = c .before .before .before .before .before .before .before .before .before .before .before .if2 in
@@ -150,17 +150,17 @@ returns-2 c =
 centred-said-requires : tie.Need-centred-said-requires
 centred-said-requires c κs = search needs
 
-sub-ec-enc-icdf-run-5 : tie.Need-sub-ec-enc-icdf-run-5
-sub-ec-enc-icdf-run-5 c = search needs
+sub-ec-enc-icdf8-run-5 : tie.Need-sub-ec-enc-icdf8-run-5
+sub-ec-enc-icdf8-run-5 c = search needs
 
-part-ec-enc-icdf-run-start-5 : tie.Need-part-ec-enc-icdf-run-start-5
-part-ec-enc-icdf-run-start-5 c = search needs
+part-ec-enc-icdf8-run-start-5 : tie.Need-part-ec-enc-icdf8-run-start-5
+part-ec-enc-icdf8-run-start-5 c = search needs
 
-part-ec-enc-icdf-run-end-5 : tie.Need-part-ec-enc-icdf-run-end-5
-part-ec-enc-icdf-run-end-5 c = search needs
+part-ec-enc-icdf8-run-end-5 : tie.Need-part-ec-enc-icdf8-run-end-5
+part-ec-enc-icdf8-run-end-5 c = search needs
 
-ec-enc-icdf-run-requires-5 : tie.Need-ec-enc-icdf-run-requires-5
-ec-enc-icdf-run-requires-5 c κs =
+ec-enc-icdf8-run-requires-5 : tie.Need-ec-enc-icdf8-run-requires-5
+ec-enc-icdf8-run-requires-5 c κs =
     let z = c .before .before .before .before .before .before .before in
     let t = residual-row (z .pre .0 .rows) (z .args .k) (z .pre .1 .0) in
     (z .pre .0 .core, (omega (arith, z .pre .0 .few), (t .good, t .writable _ (omega (arith, c .before .centred-said .ensures .2)))))
@@ -172,7 +172,7 @@ returns-3 : tie.Need-returns-3
 unfolding residual
 returns-3 c =
     let z = c .before .before .before .before .before .before .before .before .before .before in
-    let a = c .before .before .ec-enc-icdf-run5 in
+    let a = c .before .before .ec-enc-icdf8-run5 in
     let v = c .before .before .before .before .centred-said in
     let i = c .before .before .before .before .before .before .before .if1 in
     let j = c .before .before .before .before .before .before .if2 in
@@ -193,32 +193,32 @@ residual-tell-spec =
     mul-start
     add-start
     add-end
-    sub-ec-enc-icdf-run
-    part-ec-enc-icdf-run-start
-    part-ec-enc-icdf-run-end
-    ec-enc-icdf-run-requires
+    sub-ec-enc-icdf8-run
+    part-ec-enc-icdf8-run-start
+    part-ec-enc-icdf8-run-end
+    ec-enc-icdf8-run-requires
     extension-said-requires
-    sub-ec-enc-icdf-run-2
-    part-ec-enc-icdf-run-start-2
-    part-ec-enc-icdf-run-end-2
-    ec-enc-icdf-run-requires-2
+    sub-ec-enc-icdf8-run-2
+    part-ec-enc-icdf8-run-start-2
+    part-ec-enc-icdf8-run-end-2
+    ec-enc-icdf8-run-requires-2
     same-length
     returns
-    sub-ec-enc-icdf-run-3
-    part-ec-enc-icdf-run-start-3
-    part-ec-enc-icdf-run-end-3
-    ec-enc-icdf-run-requires-3
+    sub-ec-enc-icdf8-run-3
+    part-ec-enc-icdf8-run-start-3
+    part-ec-enc-icdf8-run-end-3
+    ec-enc-icdf8-run-requires-3
     extension-said-requires-2
-    sub-ec-enc-icdf-run-4
-    part-ec-enc-icdf-run-start-4
-    part-ec-enc-icdf-run-end-4
-    ec-enc-icdf-run-requires-4
+    sub-ec-enc-icdf8-run-4
+    part-ec-enc-icdf8-run-start-4
+    part-ec-enc-icdf8-run-end-4
+    ec-enc-icdf8-run-requires-4
     same-length-2
     returns-2
     centred-said-requires
-    sub-ec-enc-icdf-run-5
-    part-ec-enc-icdf-run-start-5
-    part-ec-enc-icdf-run-end-5
-    ec-enc-icdf-run-requires-5
+    sub-ec-enc-icdf8-run-5
+    part-ec-enc-icdf8-run-start-5
+    part-ec-enc-icdf8-run-end-5
+    ec-enc-icdf8-run-requires-5
     same-length-3
     returns-3)

@@ -58,19 +58,19 @@ cast-v c =
     let z = c .before .before .before in
     rw (index-is z) (upto-fits (index z) (omega arith) (z .pre .1 .2 .index))
 
-sub-ec-enc-icdf-run : tie.Need-sub-ec-enc-icdf-run
-sub-ec-enc-icdf-run c = search needs
+sub-ec-enc-icdf8-run : tie.Need-sub-ec-enc-icdf8-run
+sub-ec-enc-icdf8-run c = search needs
 
-part-ec-enc-icdf-run-start : tie.Need-part-ec-enc-icdf-run-start
-part-ec-enc-icdf-run-start c = search needs
+part-ec-enc-icdf8-run-start : tie.Need-part-ec-enc-icdf8-run-start
+part-ec-enc-icdf8-run-start c = search needs
 
-part-ec-enc-icdf-run-end : tie.Need-part-ec-enc-icdf-run-end
-part-ec-enc-icdf-run-end c =
+part-ec-enc-icdf8-run-end : tie.Need-part-ec-enc-icdf8-run-end
+part-ec-enc-icdf8-run-end c =
     let z = c .before .before .before .before in
     omega (arith, below-four z, z .pre .0 .rows .size)
 
-ec-enc-icdf-run-requires : tie.Need-ec-enc-icdf-run-requires
-ec-enc-icdf-run-requires c κs =
+ec-enc-icdf8-run-requires : tie.Need-ec-enc-icdf8-run-requires
+ec-enc-icdf8-run-requires c κs =
     let z = c .before .before .before .before .before in
     let t = first-index-row (z .pre .0 .rows) _ (below-four z) in
     rw (index-is z) (z .pre .0 .core, (omega (arith, z .pre .0 .few), (t .good, t .writable _ (omega (arith, z .pre .1 .2 .index .most)))))
@@ -84,7 +84,7 @@ slice-aggregate-residuals-tell c = search needs
 residuals-tell-requires : tie.Need-residuals-tell-requires
 residuals-tell-requires c κs =
     let z = c .before .before .before .before .before .before .before .before .before .before .before .before in
-    let a = c .before .before .before .before .before .before .ec-enc-icdf-run in
+    let a = c .before .before .before .before .before .before .ec-enc-icdf8-run in
     let w = c .before .before .wide-selectors-run in
     let o : bookOf (z .args .khz) .order ≡ 16 = rw (eq-eqb _ _ (c .before .before .before .if1 .taken)) (wide-shaped .order) in (
       record { core = a .ensures .core; few = omega (arith, a .ensures .most, z .pre .0 .few); rows = z .pre .0 .rows },
@@ -100,7 +100,7 @@ same-length c = search needs
 returns : tie.Need-returns
 returns c =
     let z = c .before .before .before .before .before .before .before .before .before .before .before .before .before .before .before in
-    let a = c .before .before .before .before .before .before .before .before .before .ec-enc-icdf-run in
+    let a = c .before .before .before .before .before .before .before .before .before .ec-enc-icdf8-run in
     let w = c .before .before .before .before .before .wide-selectors-run in
     let f = c .before .before .residuals-tell in
     spectrum-told {n = 512} (z .args .khz) (z .args .signal) (z .args .t4) (nlsf-size z) (z .pre .1 .2 .index)
@@ -116,7 +116,7 @@ slice-aggregate-residuals-tell-2 c = search needs
 residuals-tell-requires-2 : tie.Need-residuals-tell-requires-2
 residuals-tell-requires-2 c κs =
     let z = c .before .before .before .before .before .before .before .before .before .before .before .before in
-    let a = c .before .before .before .before .before .before .ec-enc-icdf-run in
+    let a = c .before .before .before .before .before .before .ec-enc-icdf8-run in
     let w = c .before .before .narrow-selectors-run in
     let o : bookOf (z .args .khz) .order ≡ 10 = rw (ne-eqb _ _ (c .before .before .before .if1 .left)) (narrow-shaped .order) in (
       record { core = a .ensures .core; few = omega (arith, a .ensures .most, z .pre .0 .few); rows = z .pre .0 .rows },
@@ -132,7 +132,7 @@ same-length-2 c = search needs
 returns-2 : tie.Need-returns-2
 returns-2 c =
     let z = c .before .before .before .before .before .before .before .before .before .before .before .before .before .before .before in
-    let a = c .before .before .before .before .before .before .before .before .before .ec-enc-icdf-run in
+    let a = c .before .before .before .before .before .before .before .before .before .ec-enc-icdf8-run in
     let w = c .before .before .before .before .before .narrow-selectors-run in
     let f = c .before .before .residuals-tell2 in
     spectrum-told {n = 512} (z .args .khz) (z .args .signal) (z .args .t4) (nlsf-size z) (z .pre .1 .2 .index)
@@ -151,10 +151,10 @@ spectrum-tell-run-spec =
     add-end
     element-copy-out-v
     cast-v
-    sub-ec-enc-icdf-run
-    part-ec-enc-icdf-run-start
-    part-ec-enc-icdf-run-end
-    ec-enc-icdf-run-requires
+    sub-ec-enc-icdf8-run
+    part-ec-enc-icdf8-run-start
+    part-ec-enc-icdf8-run-end
+    ec-enc-icdf8-run-requires
     wide-selectors-run-requires
     slice-aggregate-residuals-tell
     residuals-tell-requires

@@ -1,0 +1,44 @@
+-- `upper_end` meets its contract. Assumes nothing.
+use borrow.Author.Needs.{needs}
+use Prim.Native.Nat.{ℕ, _-_, _*_, _≤_, _<_}
+use mathlib.Core.Path.{_≡_, ap}
+use mathlib.Core.Logic.{⊎-elim}
+use native.Mathlib.Omega.{arith}
+use native.Mathlib.Nat.{mul-le-mul-left}
+use lib.ListN.{length, getD}
+use Rattle.entenc_run.proofs.icdf8.upper_end.Statement.{statement}
+use Rattle.entenc_run.proofs.icdf8.upper_end.Tie as tie
+
+-- where the entry stands
+at : (c : tie.Joined1) → (c .if1 .j < length (c .before .args .table .now)) × ((c .before .args .k ≡ 0 → ⊥) → c .if1 .j ≡ c .before .args .k - 1)
+at c =
+    let h = c .before .pre .0 in
+    ⊎-elim (λ w. (omega (arith, w .0 .taken, w .1), λ n. absurd (n (w .0 .taken)))) (λ w. (omega (arith, w .1), λ n. w .1)) (c .if1 .came)
+
+sub-j : tie.Need-sub-j
+sub-j c = search needs
+
+shared-slice-read-part : tie.Need-shared-slice-read-part
+shared-slice-read-part c = at (c .before) .0
+
+cast-part : tie.Need-cast-part
+cast-part c = omega (arith, c .shared-slice-known .given (c .before .if1 .j))
+
+mul-part : tie.Need-mul-part
+mul-part c =
+    let b = c .before .before in
+    let x = getD (b .args .table .now) (c .before .if1 .j) 0 in
+    let l : x ≤ 255 = omega (arith, c .shared-slice-known .given (c .before .if1 .j)) in
+    omega (arith, mul-le-mul-left (b .args .unit) l, b .pre .1)
+
+returns : tie.Need-returns
+returns c = search needs
+
+returns-2 : tie.Need-returns-2
+returns-2 c =
+    let b = c .before .before .before in
+    (λ z. absurd (c .if2 .left z), λ n. ap (λ (i : ℕ). b .args .unit * getD (b .args .table .now) i 0) (at (c .before .before) .1 n))
+
+pub upper-end-spec : {M : Type 1} → statement M
+upper-end-spec =
+    tie.close (tie.spec sub-j shared-slice-read-part cast-part mul-part returns returns-2)
