@@ -21,7 +21,6 @@ use crate::tail::append;
 use crate::tail::flush_all;
 use entcode::Enc;
 
-pub mod icdf8; // icdf8.rt: symbols of rows of scale 8
 mod room; // room.rt: bytes to the buffer's two ends
 mod front; // front.rt: cuts of the range, and digits
 mod tail; // tail.rt: raw bits
@@ -42,18 +41,17 @@ pub fn ec_enc_bit_logp_run(buf: &mut [u8], w: Enc, v: u32, lp: u32) -> Enc
     }
 }
 
-// The upper end of symbol k's part.
+// The upper end of symbol k's part. The entry before is read for the first symbol too: whether it is the first can't be guessed ahead, and the
+// choice between two numbers needs no jump.
 fn symbol_top(table: &[u8], k: u32, unit: u32, rng: u32) -> u32
     requires { ⌜ k < length (now table) ⌝ }
     requires { ⌜ ((i : ℕ) → unit * getD (now table) i 0 ≤ 2 ^ 31) ⌝ }
     ensures { λ t. ⌜ t ≡ topOf rng unit (now (table .entry)) k ⌝ }
 {
-    if k == 0 {
-        rng
-    } else {
-        let j = (k - 1) as usize;
-        unit * (table[j] as u32)
-    }
+    let i = k as usize;
+    let j = if i == 0 { 0 } else { i - 1 };
+    let part = unit * (table[j] as u32);
+    if k == 0 { rng } else { part }
 }
 
 // Symbol k of an inverse table. The first and the others share one `keep`: with two of them this is too large to be inlined, and twice as slow.
@@ -68,6 +66,16 @@ pub fn ec_enc_icdf_run(buf: &mut [u8], w: Enc, k: u32, table: &[u8], scale: u32)
     let low = unit * (table[i] as u32);
     let top = symbol_top(table, k, unit, w.rng);
     keep(buf, w, top, low)
+}
+
+// A symbol of a row of SILK: all of them have scale 8.
+pub fn ec_enc_icdf8_run(buf: &mut [u8], w: Enc, k: u32, row: &[u8]) -> Enc
+    requires { ⌜ Core (out (now buf) w) ⌝ }
+    requires { ⌜ w .total ≤ 2 ^ 30 ⌝ }
+    requires { ⌜ Icdf 8 (now row) × Writable 8 (now row) k ⌝ }
+    ensures { λ r. ⌜ Wrote (out (now (buf .entry)) w) (record { model = tab 8 (now (row .entry)); value = k }) (out (now (buf .exit)) r) ⌝ }
+{
+    ec_enc_icdf_run(buf, w, k, row, 8)
 }
 
 // n raw bits.

@@ -10,7 +10,7 @@ ghost use Rattle.silk.specs.IndexSyntax.{kindOf, kind, firstGain, moreGains, ga
 ghost use Rattle.silk.specs.IndexParts.{Upto, Kind, firstMost};
 ghost use Rattle.silk.specs.IndexSays.{WritesGains};
 use entcode::Enc;
-use entenc_run::icdf8::ec_enc_icdf8_run;
+use entenc_run::ec_enc_icdf8_run;
 use silk::Indices;
 
 // Type and offset as one number.

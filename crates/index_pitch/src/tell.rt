@@ -13,7 +13,7 @@ use crate::contour_size;
 use crate::contour_start;
 use crate::lag_low_start;
 use entcode::Enc;
-use entenc_run::icdf8::ec_enc_icdf8_run;
+use entenc_run::ec_enc_icdf8_run;
 use silk::Indices;
 
 // ---- lag

@@ -13,7 +13,7 @@ ghost use Rattle.silk.specs.IndexRows.{Writing, Rate};
 ghost use Rattle.silk.specs.IndexSyntax.{extensionSaid, residual, residuals, spectrum};
 ghost use Rattle.silk.specs.IndexSays.{WritesSpectrum};
 use entcode::Enc;
-use entenc_run::icdf8::ec_enc_icdf8_run;
+use entenc_run::ec_enc_icdf8_run;
 use nlsf_unpack::narrow_selectors_run;
 use nlsf_unpack::residual_pick_run;
 use nlsf_unpack::wide_selectors_run;
