@@ -1,6 +1,7 @@
 // Residuals and places of a line spectrum (RFC 6716, sections 4.2.7.5.2 and 4.2.7.5.3): the first half of the crate's NLSF_decode.rs, with the
 // predictors of its NLSF_unpack.rs.
 ghost use mathlib.Core.Path.{_≡_};
+ghost use mathlib.Core.Bool.{cond};
 ghost use Prim.Native.Nat.{_*_, _/_, _≤_, _<_};
 ghost use mathlib.Core.List.{[], _∷_};
 ghost use lib.ListN.{length};
@@ -9,7 +10,7 @@ ghost use lib.Signed.{quotZ};
 ghost use Rattle.spectrum.specs.Values.{Mag};
 ghost use Rattle.spectrum.specs.Residuals.{nudged, scaled, predicted, listOf, predictorIn};
 ghost use Rattle.spectrum.specs.Places.{placed};
-ghost use Rattle.nlsf_places.specs.Asked.{rows, placesBy, PlacesOk};
+ghost use Rattle.nlsf_places.specs.Asked.{towardZero, rows, placesBy, PlacesOk};
 
 // ---- predictors
 
@@ -20,6 +21,13 @@ fn list_of(e: u8, i: usize) -> u8
     if i % 2 == 0 { e % 2 } else { e / 16 % 2 }
 }
 
+// One of two numbers, without a jump: which of them it is can't be guessed ahead.
+fn pick(first: bool, a: u8, b: u8) -> u8
+    ensures { λ r. ⌜ r ≡ cond first a b ⌝ }
+{
+    if first { a } else { b }
+}
+
 // The predictor of place i, and 0 past the lists.
 fn predictor(selectors: &[u8], first: &[u8], second: &[u8], i: usize) -> u8
     requires { ⌜ (i / 2 < length (now selectors)) × (length (now first) ≡ length (now second)) ⌝ }
@@ -28,26 +36,30 @@ fn predictor(selectors: &[u8], first: &[u8], second: &[u8], i: usize) -> u8
     if i >= first.len() {
         return 0;
     }
-    let e = selectors[i / 2];
-    if list_of(e, i) == 0 {
-        return first[i];
-    }
-    second[i]
+    let l = list_of(selectors[i / 2], i);
+    pick(l == 0, first[i], second[i])
 }
 
 // ---- residuals
 
-// An index x 1024, moved 102 toward zero.
+// 102 toward zero.
+fn toward_zero(x: i8) -> i32
+    ensures { λ r. ⌜ r ≡ towardZero x ⌝ }
+{
+    if x > 0 {
+        return -102;
+    }
+    if x < 0 {
+        return 102;
+    }
+    0
+}
+
+// An index x 1024, moved 102 toward zero. No product stands in an arm: signs can't be guessed ahead, and constants are chosen without a jump.
 fn nudge(x: i8) -> i32
     ensures { λ r. ⌜ r ≡ nudged x ⌝ }
 {
-    if x > 0 {
-        return (x as i32) * 1024 - 102;
-    }
-    if x < 0 {
-        return (x as i32) * 1024 + 102;
-    }
-    0
+    (x as i32) * 1024 + toward_zero(x)
 }
 
 // Times the step, shifted right 16 with floor.
