@@ -128,7 +128,7 @@ pub fn places_run(
     ensures { λ _. ⌜ now (vector .exit) ≡ placesBy (rows step (now (selectors .entry)) (now (first .entry)) (now (second .entry)) (now (values .entry)) (now (weights .entry))) (now (xs .entry)) ⌝ }
 {
     let mut r: i32 = 0;
-    let mut k: usize = vector.len();
+    let mut k: usize = values.len();
     while k > 0 {
         let j = k - 1;
         let p = predictor(selectors, first, second, j);

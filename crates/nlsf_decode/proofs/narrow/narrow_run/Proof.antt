@@ -16,30 +16,30 @@ use Rattle.nlsf_decode.proofs.narrow.narrow_run.Tie as tie
 -- the rows that are lent, and that they are the book's
 abbrev lent : tie.After-predictors2 → Rows
 lent d =
-    rows 11796 (d .before .before .selectors .result) (d .before .predictors .result) (d .predictors2 .result)
-    (d .before .before .before .before .values .result) (d .before .before .before .weights .result)
+    rows 11796 (d .before .before .narrow-selectors .result) (d .before .predictors .result) (d .predictors2 .result)
+    (d .before .before .before .before .narrow-vector .result) (d .before .before .before .narrow-weights .result)
 
 lent-are : (d : tie.After-predictors2) → RowsOf narrowBook (d .before .before .before .before .before .args .v) (lent d)
 unfolding narrowBook
 lent-are d =
     record {
       step = refl;
-      selectors = d .before .before .selectors .ensures;
+      selectors = d .before .before .narrow-selectors .ensures;
       predictors =
           ap₂ (λ (p q : List ℕ). p ∷ q ∷ []) (d .before .predictors .ensures) (d .predictors2 .ensures)
           ∙ both-lists (narrowBook .predictors) (narrow-shaped .predictors .count);
-      values = d .before .before .before .before .values .ensures;
-      weights = d .before .before .before .weights .ensures;
+      values = d .before .before .before .before .narrow-vector .ensures;
+      weights = d .before .before .before .narrow-weights .ensures;
     }
 
-values-requires : tie.Need-values-requires
-values-requires c κs = search needs
+narrow-vector-requires : tie.Need-narrow-vector-requires
+narrow-vector-requires c κs = search needs
 
-weights-requires : tie.Need-weights-requires
-weights-requires c κs = search needs
+narrow-weights-requires : tie.Need-narrow-weights-requires
+narrow-weights-requires c κs = search needs
 
-selectors-requires : tie.Need-selectors-requires
-selectors-requires c κs = search needs
+narrow-selectors-requires : tie.Need-narrow-selectors-requires
+narrow-selectors-requires c κs = search needs
 
 predictors-requires : tie.Need-predictors-requires
 predictors-requires c κs = search needs
@@ -99,9 +99,9 @@ pub narrow-run-spec : {M : Type 1} → statement M
 narrow-run-spec =
     tie.close
     (tie.spec
-    values-requires
-    weights-requires
-    selectors-requires
+    narrow-vector-requires
+    narrow-weights-requires
+    narrow-selectors-requires
     predictors-requires
     predictors-requires-2
     slice-aggregate-places-run
