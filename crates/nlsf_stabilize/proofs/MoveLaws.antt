@@ -8,8 +8,8 @@ use native.Mathlib.Omega.{arith}
 use native.Mathlib.Nat.{suc-inj, not-suc-le-zero}
 use native.Mathlib.Numerals.{add-one}
 use borrow.Author.Tests.{eq-eqb, ne-eqb}
-use lib.IntN.{ℤ, pos, _+ℤ_, _-ℤ_}
-use lib.Signed.{leZ}
+use lib.IntN.{ℤ, pos, _+ℤ_, _-ℤ_, _*ℤ_}
+use lib.Signed.{leZ, shrZ}
 use lib.ListN.{length, set, take, drop, length-drop}
 use lib.Seq.{take-all}
 use mir.Syntax.{w16}
@@ -29,7 +29,8 @@ use Rattle.spectrum.specs.Fallback.{fallback}
 use Rattle.spectrum.specs.Gaps.{Good}
 use Rattle.spectrum.specs.Stabilising.{Stable, run, stabilise, kept16}
 use Rattle.spectrum.specs.Values.{at, top, held, half, total}
-use Rattle.nlsf_stabilize.specs.Asked.{PairOk, MoveOk}
+use Rattle.nlsf_stabilize.specs.Asked.{smallestKey, PairOk, MoveOk}
+use Rattle.nlsf_stabilize.proofs.DiffLaws.{key-place, key-sign}
 
 pub part-before : (g : List ℤ) (i : ℕ) → total (take (i - 0) (drop 0 g)) ≡ total (take i g)
 part-before g i = let e : i - 0 ≡ i = omega arith in ap (λ (n : ℕ). total (take n g)) e
@@ -105,9 +106,13 @@ run-start g v =
     let s = run kept16 20 g v in
     let z : 0 + s .moves ≡ s .moves = omega arith in ap (λ (k : ℕ). record { vector = s .vector; moves = k }) z
 
--- the test of the difference d at the place i found
-pub tested : (g v : List ℤ) (i : ℕ) (d : ℤ) (t : Bool) → i ≡ place g v → d ≡ at (diffs (pos 0) v g) i → leZ (pos 0) d ≡ t → keeps g v ≡ t
-tested g v i d t e f h = keeps-at v g ∙ ap (leZ (pos 0)) (ap (at (diffs (pos 0) v g)) (sym e) ∙ sym f) ∙ h
+-- what the smallest key k says: the test of its sign, and its place
+module _ (g v : List ℤ) (k : ℤ) (e : k ≡ smallestKey g v) (h : place g v < 32) where
+  pub tested : (t : Bool) → leZ (pos 0) k ≡ t → keeps g v ≡ t
+  tested t q = keeps-at v g ∙ key-sign (at (diffs (pos 0) v g) (place g v)) (place g v) t h (ap (leZ (pos 0)) (sym e) ∙ q)
+
+  pub placed : (i : ℕ) → i ≡ up (k -ℤ shrZ k 32 *ℤ pos 32) → i ≡ place g v
+  placed i f = f ∙ ap (λ (z : ℤ). up (z -ℤ shrZ z 32 *ℤ pos 32)) e ∙ key-place (at (diffs (pos 0) v g) (place g v)) (place g v) h
 
 pub run-stop : (g v : List ℤ) (m : ℕ) (s : Stable) → m < 20 → keeps g v ≡ true → after m (run kept16 (20 - m) g v) ≡ s → record { vector = v; moves = m } ≡ s
 run-stop g v m s h k e =

@@ -3,7 +3,7 @@ ghost use mathlib.Core.Path.{_≡_};
 ghost use Rattle.spectrum.specs.Stabilising.{kept16, stabilise};
 ghost use Rattle.spectrum.specs.Calls.{lengthsOk, stabiliseRefusal, stabiliseCall};
 ghost use Rattle.nlsf_stabilize.specs.Asked.{MoveOk};
-use distances::diff_at_run;
+use distances::place_of_run;
 use distances::smallest_run;
 use fallback::fall_back_run;
 use gaps::gaps_ok_run;
@@ -23,12 +23,11 @@ pub fn stabilise_run(v: &mut [i16], g: &[i16]) -> u32
 {
     let mut m: u32 = 0;
     while m < 20 {
-        let i = smallest_run(v, g);
-        let d = diff_at_run(v, g, i);
-        if d >= 0 {
+        let k = smallest_run(v, g);
+        if k >= 0 {
             return m;
         }
-        move_at_run(v, g, i);
+        move_at_run(v, g, place_of_run(k));
         m += 1;
     }
     fall_back_run(v, g);
