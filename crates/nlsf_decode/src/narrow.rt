@@ -16,6 +16,9 @@ use tables::books::narrow_selectors;
 use tables::books::narrow_vector;
 use tables::books::narrow_weights;
 
+// The sum of the book's gaps.
+const GAP_SUM: i32 = 742;
+
 fn predictors(l: usize) -> [u8; 9]
     requires { ⌜ l < 2 ⌝ }
     ensures { λ r. ⌜ r ≡ getD (narrowBook .predictors) l [] ⌝ }
@@ -45,5 +48,5 @@ pub fn narrow_run(vector: &mut [i16], v: usize, xs: &[i8]) -> u32
         &weight,
     );
     let gaps = narrow_gaps();
-    stabilise_run(vector, &gaps)
+    stabilise_run(vector, &gaps, GAP_SUM)
 }

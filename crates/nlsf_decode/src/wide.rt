@@ -16,6 +16,9 @@ use tables::books::wide_selectors;
 use tables::books::wide_vector;
 use tables::books::wide_weights;
 
+// The sum of the book's gaps.
+const GAP_SUM: i32 = 583;
+
 fn predictors(l: usize) -> [u8; 15]
     requires { ⌜ l < 2 ⌝ }
     ensures { λ r. ⌜ r ≡ getD (wideBook .predictors) l [] ⌝ }
@@ -45,5 +48,5 @@ pub fn wide_run(vector: &mut [i16], v: usize, xs: &[i8]) -> u32
         &weight,
     );
     let gaps = wide_gaps();
-    stabilise_run(vector, &gaps)
+    stabilise_run(vector, &gaps, GAP_SUM)
 }

@@ -20,10 +20,10 @@ use Rattle.nlsf_stabilize.proofs.stabilise_run.Statement.{statement}
 use Rattle.nlsf_stabilize.proofs.stabilise_run.Tie as tie
 
 abbrev Inv-loop : tie.InvT-loop
-Inv-loop v₀ g m₀ v m = (m ≤ 20) × ((length v ≡ length v₀) × (after m (run kept16 (20 - m) g v) ≡ stabilise kept16 g v₀))
+Inv-loop v₀ g sum m₀ v m = (m ≤ 20) × ((length v ≡ length v₀) × (after m (run kept16 (20 - m) g v) ≡ stabilise kept16 g v₀))
 
 abbrev μ-loop : tie.MeasureT-loop
-μ-loop v₀ g m₀ v m = 20 - m
+μ-loop v₀ g sum m₀ v m = 20 - m
 
 loop-holds : tie.Need-loop-holds Inv-loop μ-loop
 loop-holds c = (omega arith, (refl, run-start (c .args .g .now) (c .args .v .now)))
@@ -33,16 +33,16 @@ key-is : (c : tie.After-smallest-run Inv-loop μ-loop) → let b = c .before .be
     (toZ w32 (ofZ w32 (c .smallest-run .result)) ≡ smallestKey (b .before .args .g .now) (b .loop .v)) × (place (b .before .args .g .now) (b .loop .v) ≤ length (b .loop .v))
 key-is c =
     let b = c .before .before .before in
-    let o = keep-ok (b .before .args .g .now) (b .before .args .v .now) (b .loop .v) 0 0 (b .before .pre) (b .loop .inv .1 .0) (omega arith) in
+    let o = keep-ok (b .before .args .g .now) (b .before .args .v .now) (b .loop .v) 0 0 (b .before .pre .0) (b .loop .inv .1 .0) (omega arith) in
     (toZ-ofZ {w = w32} (sfits-of (c .smallest-run .ok)) ∙ c .smallest-run .ensures, place-most (b .loop .v) (b .before .args .g .now) (o .long))
 
 few : (c : tie.After-smallest-run Inv-loop μ-loop) → let b = c .before .before .before in place (b .before .args .g .now) (b .loop .v) < 32
-few c = let b = c .before .before .before in omega (arith, key-is c .1, b .loop .inv .1 .0, b .before .pre .few)
+few c = let b = c .before .before .before in omega (arith, key-is c .1, b .loop .inv .1 .0, b .before .pre .0 .few)
 
 smallest-run-requires : tie.Need-smallest-run-requires Inv-loop μ-loop
 smallest-run-requires c κs =
     let b = c .before .before in
-    let o = keep-ok (b .before .args .g .now) (b .before .args .v .now) (b .loop .v) 0 0 (b .before .pre) (b .loop .inv .1 .0) (omega arith) in (o .some, (o .long, o .few))
+    let o = keep-ok (b .before .args .g .now) (b .before .args .v .now) (b .loop .v) 0 0 (b .before .pre .0) (b .loop .inv .1 .0) (omega arith) in (o .some, (o .long, o .few))
 
 same-length : tie.Need-same-length Inv-loop μ-loop
 same-length c = c .before .before .before .before .loop .inv .1 .0
@@ -65,9 +65,9 @@ move-at-run-requires c κs =
     let b = t .before .before .before in
     let g = b .before .args .g .now in
     let v = b .loop .v in
-    let o = keep-ok g (b .before .args .v .now) v 0 0 (b .before .pre) (b .loop .inv .1 .0) (omega arith) in
-    keep-ok g v v 0 (c .place-of-run .result) o refl
-    (subst (λ (n : ℕ). n ≤ length v) (sym (placed g v (toZ w32 (ofZ w32 (t .smallest-run .result))) (key-is t .0) (few t) (c .place-of-run .result) (c .place-of-run .ensures))) (key-is t .1))
+    let o = keep-ok g (b .before .args .v .now) v 0 0 (b .before .pre .0) (b .loop .inv .1 .0) (omega arith) in
+    let p = placed g v (toZ w32 (ofZ w32 (t .smallest-run .result))) (key-is t .0) (few t) (c .place-of-run .result) (c .place-of-run .ensures) in
+    rw (toZ-ofZ (b .before .fits .sum)) (keep-ok g v v 0 (c .place-of-run .result) o refl (subst (λ (n : ℕ). n ≤ length v) (sym p) (key-is t .1)), b .before .pre .1)
 
 add-m : tie.Need-add-m Inv-loop μ-loop
 add-m c = search needs
@@ -98,7 +98,7 @@ loop-again c =
 fall-back-run-requires : tie.Need-fall-back-run-requires Inv-loop μ-loop
 fall-back-run-requires c κs =
     let b = c .before .before in
-    let o = keep-ok (b .before .args .g .now) (b .before .args .v .now) (b .loop .v) 0 0 (b .before .pre) (b .loop .inv .1 .0) (omega arith) in (o .some, (o .long, o .rule))
+    let o = keep-ok (b .before .args .g .now) (b .before .args .v .now) (b .loop .v) 0 0 (b .before .pre .0) (b .loop .inv .1 .0) (omega arith) in (o .some, (o .long, o .rule))
 
 same-length-2 : tie.Need-same-length-2 Inv-loop μ-loop
 same-length-2 c = c .before .fall-back-run .kept .0 ∙ c .before .before .before .before .loop .inv .1 .0

@@ -1,11 +1,12 @@
 -- `narrow_run` meets its contract. Assumes nothing.
 use Prim.Native.Nat.{ℕ}
-use mathlib.Core.Path.{refl, sym, ap₂, subst⁻¹, _∙_}
-use mathlib.Core.List.{List, [], _∷_}
+use mathlib.Core.Path.{_≡_, refl, sym, ap₂, subst⁻¹, _∙_}
+use mathlib.Core.List.{List, [], _∷_, map}
 use borrow.Author.Needs.{needs}
-use lib.IntN.{ℤ}
+use lib.IntN.{ℤ, pos}
 use Rattle.sheet.specs.Books.{narrowBook, narrow-shaped}
 use Rattle.spectrum.proofs.BookLaws.{narrow-usable}
+use Rattle.spectrum.specs.Values.{total}
 use Rattle.nlsf_stabilize.specs.Asked.{MoveOk}
 use Rattle.nlsf_places.specs.Asked.{Rows, rows}
 use Rattle.nlsf_decode.proofs.RowLaws.{RowsOf, both-lists, stabilised-by, places-ok, book-moves}
@@ -31,6 +32,10 @@ lent-are d =
       values = d .before .before .before .before .narrow-vector .ensures;
       weights = d .before .before .before .narrow-weights .ensures;
     }
+
+gap-total : total (map pos (narrowBook .gaps)) ≡ pos 742
+unfolding narrowBook total
+gap-total = refl
 
 narrow-vector-requires : tie.Need-narrow-vector-requires
 narrow-vector-requires c κs = search needs
@@ -80,8 +85,8 @@ stabilise-run-requires c κs =
     let p = c .before .before .before .before in
     let s = p .before .before .before .before .before .before .before .before .before .before .before .before in
     let u = p .places-run .last .0 in
-    subst⁻¹ (λ (g : List ℤ). MoveOk g u 0) (c .before .before .narrow-gaps .ensures)
-    (book-moves narrowBook narrow-usable u (p .places-run .kept .0 ∙ s .pre .long ∙ sym (narrow-shaped .order)))
+    subst⁻¹ (λ (g : List ℤ). MoveOk g u 0 × (pos 742 ≡ total g)) (c .before .before .narrow-gaps .ensures)
+    (book-moves narrowBook narrow-usable u (p .places-run .kept .0 ∙ s .pre .long ∙ sym (narrow-shaped .order)), sym gap-total)
 
 same-length : tie.Need-same-length
 same-length c = search needs

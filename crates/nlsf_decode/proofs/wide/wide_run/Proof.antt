@@ -1,11 +1,12 @@
 -- `wide_run` meets its contract. Assumes nothing.
 use Prim.Native.Nat.{ℕ}
-use mathlib.Core.Path.{refl, sym, ap₂, subst⁻¹, _∙_}
-use mathlib.Core.List.{List, [], _∷_}
+use mathlib.Core.Path.{_≡_, refl, sym, ap₂, subst⁻¹, _∙_}
+use mathlib.Core.List.{List, [], _∷_, map}
 use borrow.Author.Needs.{needs}
-use lib.IntN.{ℤ}
+use lib.IntN.{ℤ, pos}
 use Rattle.sheet.specs.Books.{wideBook, wide-shaped}
 use Rattle.spectrum.proofs.BookLaws.{wide-usable}
+use Rattle.spectrum.specs.Values.{total}
 use Rattle.nlsf_stabilize.specs.Asked.{MoveOk}
 use Rattle.nlsf_places.specs.Asked.{Rows, rows}
 use Rattle.nlsf_decode.proofs.RowLaws.{RowsOf, both-lists, stabilised-by, places-ok, book-moves}
@@ -31,6 +32,10 @@ lent-are d =
       values = d .before .before .before .before .wide-vector .ensures;
       weights = d .before .before .before .wide-weights .ensures;
     }
+
+gap-total : total (map pos (wideBook .gaps)) ≡ pos 583
+unfolding wideBook total
+gap-total = refl
 
 wide-vector-requires : tie.Need-wide-vector-requires
 wide-vector-requires c κs = search needs
@@ -80,8 +85,8 @@ stabilise-run-requires c κs =
     let p = c .before .before .before .before in
     let s = p .before .before .before .before .before .before .before .before .before .before .before .before in
     let u = p .places-run .last .0 in
-    subst⁻¹ (λ (g : List ℤ). MoveOk g u 0) (c .before .before .wide-gaps .ensures)
-    (book-moves wideBook wide-usable u (p .places-run .kept .0 ∙ s .pre .long ∙ sym (wide-shaped .order)))
+    subst⁻¹ (λ (g : List ℤ). MoveOk g u 0 × (pos 583 ≡ total g)) (c .before .before .wide-gaps .ensures)
+    (book-moves wideBook wide-usable u (p .places-run .kept .0 ∙ s .pre .long ∙ sym (wide-shaped .order)), sym gap-total)
 
 same-length : tie.Need-same-length
 same-length c = search needs
