@@ -4,6 +4,7 @@ ghost use mathlib.Core.Path.{_≡_};
 ghost use mathlib.Core.Bool.{cond};
 ghost use Prim.Native.Nat.{_*_, _/_, _≤_, _<_};
 ghost use mathlib.Core.List.{[], _∷_};
+ghost use lib.Dec.{eqb};
 ghost use lib.ListN.{length};
 ghost use lib.IntN.{pos, _+ℤ_, _*ℤ_};
 ghost use lib.Signed.{quotZ};
@@ -21,11 +22,13 @@ fn list_of(e: u8, i: usize) -> u8
     if i % 2 == 0 { e % 2 } else { e / 16 % 2 }
 }
 
-// One of two numbers, without a jump: which of them it is can't be guessed ahead.
-fn pick(first: bool, a: u8, b: u8) -> u8
-    ensures { λ r. ⌜ r ≡ cond first a b ⌝ }
+// Byte l of two, by a shift: which of them it is can't be guessed ahead, and a choice would be compiled to a jump.
+fn pick(l: u8, a: u8, b: u8) -> u8
+    requires { ⌜ l < 2 ⌝ }
+    ensures { λ r. ⌜ r ≡ cond (eqb l 0) a b ⌝ }
 {
-    if first { a } else { b }
+    let both = (a as u32) + (b as u32) * 256;
+    ((both >> ((l as u32) * 8)) % 256) as u8
 }
 
 // The predictor of place i, and 0 past the lists.
@@ -37,7 +40,7 @@ fn predictor(selectors: &[u8], first: &[u8], second: &[u8], i: usize) -> u8
         return 0;
     }
     let l = list_of(selectors[i / 2], i);
-    pick(l == 0, first[i], second[i])
+    pick(l, first[i], second[i])
 }
 
 // ---- residuals

@@ -48,7 +48,10 @@ shared-slice-read-pick-2 : tie.Need-shared-slice-read-pick-2
 shared-slice-read-pick-2 c = search needs
 
 pick-requires : tie.Need-pick-requires
-pick-requires c κs = search needs
+pick-requires c κs =
+    let d = c .before .before in
+    let a = d .before .before .before .before .before .before .args in
+    omega (arith, d .list-of .ensures, list-below (getD (a .selectors .now) (a .i / 2) 0) (a .i))
 
 returns-2 : tie.Need-returns-2
 unfolding predictorIn
