@@ -22,13 +22,13 @@ fn list_of(e: u8, i: usize) -> u8
     if i % 2 == 0 { e % 2 } else { e / 16 % 2 }
 }
 
-// Byte l of two, by a shift: which of them it is can't be guessed ahead, and a choice would be compiled to a jump.
+// Byte l of two, through memory: which of them it is can't be guessed ahead, and a choice or a shift would be compiled to a jump.
 fn pick(l: u8, a: u8, b: u8) -> u8
     requires { ⌜ l < 2 ⌝ }
     ensures { λ r. ⌜ r ≡ cond (eqb l 0) a b ⌝ }
 {
-    let both = (a as u32) + (b as u32) * 256;
-    ((both >> ((l as u32) * 8)) % 256) as u8
+    let both = [a, b];
+    both[l as usize]
 }
 
 // The predictor of place i, and 0 past the lists.
