@@ -11,7 +11,7 @@ use lib.Signed.{leZ}
 use lib.ListN.{length, take}
 use lib.Seq.{take-length}
 use mir.Syntax.{w16, w32}
-use mir.Val.{SFits, toZ, ofZ}
+use mir.Val.{SFits, toZ}
 use mir.Facts.{toZ-ofZ, sfits-widen}
 use Rattle.lists.specs.Every.{every}
 use Rattle.spectrum.specs.Gaps.{goodGaps}
