@@ -1,8 +1,11 @@
 // Decoding of a line spectrum (RFC 6716, section 4.2.7.5): a book's vector moved by residuals, then stabilised. Names as in the crate's
 // NLSF_decode.rs.
 ghost use mathlib.Core.Path.{_≡_};
+ghost use lib.IntN.{pos, negsuc};
+ghost use Rattle.lists.specs.Every.{every};
+ghost use Rattle.ranges.specs.InRange.{inRange};
 ghost use Rattle.spectrum.specs.Stabilising.{kept16};
-ghost use Rattle.spectrum.specs.Calls.{bookOf, numbersOk, decodeRefusal, decoded, decodeCall};
+ghost use Rattle.spectrum.specs.Calls.{bookOf, placeIndices, numbersOk, decodeRefusal, decoded, decodeCall};
 use narrow::narrow_run;
 use ranges::all_in_range;
 use spectrum::Moves;
@@ -20,12 +23,20 @@ fn order_of(khz: u32) -> usize
     if khz == 16 { 16 } else { 10 }
 }
 
+// One index of -10 to 10 for each place. Either order has its own call, whose number of turns is then known to the compiler.
+fn places_ok(index: [i8; 17], khz: u32) -> bool
+    ensures { λ b. ⌜ b ≡ every (inRange (negsuc 9) (pos 10)) (placeIndices (bookOf khz .order) index) ⌝ }
+{
+    if khz == 16 {
+        return all_in_range(&index[1..17], -10, 10);
+    }
+    all_in_range(&index[1..11], -10, 10)
+}
+
 fn numbers_ok(index: [i8; 17], khz: u32) -> bool
     ensures { λ b. ⌜ b ≡ numbersOk khz index ⌝ }
 {
-    let n = order_of(khz);
-    let e = n + 1;
-    let small = all_in_range(&index[1..e], -10, 10);
+    let small = places_ok(index, khz);
     let first = index[0];
     let rate = (khz == 8) | ((khz == 12) | (khz == 16));
     rate & (((0 <= first) & (first <= 31)) & small)

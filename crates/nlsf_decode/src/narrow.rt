@@ -1,4 +1,4 @@
-// Decoding under the narrow book (8 and 12 kHz): its rows for one vector, each reached by its lookup, then the places, then the stabiliser.
+// Decoding under the narrow book (8 and 12 kHz): its rows for one vector, then the places, then the stabiliser.
 ghost use mathlib.Core.Path.{_≡_};
 ghost use Prim.Native.Nat.{_<_};
 ghost use mathlib.Core.List.{[], map};
@@ -13,32 +13,11 @@ use nlsf_stabilize::stabilise_run;
 use tables::books::narrow_gaps;
 use tables::books::narrow_predictors;
 use tables::books::narrow_selectors;
-use tables::books::narrow_vectors;
+use tables::books::narrow_vector;
 use tables::books::narrow_weights;
 
-fn values(v: usize) -> [u8; 10]
-    requires { ⌜ v < 32 ⌝ }
-    ensures { λ r. ⌜ r ≡ getD (narrowBook .vectors) v [] ⌝ }
-{
-    let t = narrow_vectors();
-    t[v]
-}
-
-fn weights(v: usize) -> [u16; 10]
-    requires { ⌜ v < 32 ⌝ }
-    ensures { λ r. ⌜ r ≡ getD (narrowBook .weights) v [] ⌝ }
-{
-    let t = narrow_weights();
-    t[v]
-}
-
-fn selectors(v: usize) -> [u8; 5]
-    requires { ⌜ v < 32 ⌝ }
-    ensures { λ r. ⌜ r ≡ getD (narrowBook .selectors) v [] ⌝ }
-{
-    let t = narrow_selectors();
-    t[v]
-}
+// The sum of the book's gaps.
+const GAP_SUM: i32 = 742;
 
 fn predictors(l: usize) -> [u8; 9]
     requires { ⌜ l < 2 ⌝ }
@@ -53,9 +32,9 @@ pub fn narrow_run(vector: &mut [i16], v: usize, xs: &[i8]) -> u32
     requires { ⌜ Indexed 10 (now vector) v (now xs) ⌝ }
     ensures { λ m. ⌜ record { vector = now (vector .exit); moves = m } ≡ stabilise kept16 (map pos (narrowBook .gaps)) (places narrowBook v (now (xs .entry))) ⌝ }
 {
-    let value = values(v);
-    let weight = weights(v);
-    let selector = selectors(v);
+    let value = narrow_vector(v);
+    let weight = narrow_weights(v);
+    let selector = narrow_selectors(v);
     let first = predictors(0);
     let second = predictors(1);
     places_run(
@@ -69,5 +48,5 @@ pub fn narrow_run(vector: &mut [i16], v: usize, xs: &[i8]) -> u32
         &weight,
     );
     let gaps = narrow_gaps();
-    stabilise_run(vector, &gaps)
+    stabilise_run(vector, &gaps, GAP_SUM)
 }

@@ -1,4 +1,4 @@
-// Decoding under the wide book (16 kHz): its rows for one vector, each reached by its lookup, then the places, then the stabiliser.
+// Decoding under the wide book (16 kHz): its rows for one vector, then the places, then the stabiliser.
 ghost use mathlib.Core.Path.{_≡_};
 ghost use Prim.Native.Nat.{_<_};
 ghost use mathlib.Core.List.{[], map};
@@ -13,32 +13,11 @@ use nlsf_stabilize::stabilise_run;
 use tables::books::wide_gaps;
 use tables::books::wide_predictors;
 use tables::books::wide_selectors;
-use tables::books::wide_vectors;
+use tables::books::wide_vector;
 use tables::books::wide_weights;
 
-fn values(v: usize) -> [u8; 16]
-    requires { ⌜ v < 32 ⌝ }
-    ensures { λ r. ⌜ r ≡ getD (wideBook .vectors) v [] ⌝ }
-{
-    let t = wide_vectors();
-    t[v]
-}
-
-fn weights(v: usize) -> [u16; 16]
-    requires { ⌜ v < 32 ⌝ }
-    ensures { λ r. ⌜ r ≡ getD (wideBook .weights) v [] ⌝ }
-{
-    let t = wide_weights();
-    t[v]
-}
-
-fn selectors(v: usize) -> [u8; 8]
-    requires { ⌜ v < 32 ⌝ }
-    ensures { λ r. ⌜ r ≡ getD (wideBook .selectors) v [] ⌝ }
-{
-    let t = wide_selectors();
-    t[v]
-}
+// The sum of the book's gaps.
+const GAP_SUM: i32 = 583;
 
 fn predictors(l: usize) -> [u8; 15]
     requires { ⌜ l < 2 ⌝ }
@@ -53,9 +32,9 @@ pub fn wide_run(vector: &mut [i16], v: usize, xs: &[i8]) -> u32
     requires { ⌜ Indexed 16 (now vector) v (now xs) ⌝ }
     ensures { λ m. ⌜ record { vector = now (vector .exit); moves = m } ≡ stabilise kept16 (map pos (wideBook .gaps)) (places wideBook v (now (xs .entry))) ⌝ }
 {
-    let value = values(v);
-    let weight = weights(v);
-    let selector = selectors(v);
+    let value = wide_vector(v);
+    let weight = wide_weights(v);
+    let selector = wide_selectors(v);
     let first = predictors(0);
     let second = predictors(1);
     places_run(
@@ -69,5 +48,5 @@ pub fn wide_run(vector: &mut [i16], v: usize, xs: &[i8]) -> u32
         &weight,
     );
     let gaps = wide_gaps();
-    stabilise_run(vector, &gaps)
+    stabilise_run(vector, &gaps, GAP_SUM)
 }

@@ -1,12 +1,18 @@
 -- What placing a vector asks of its rows, and what it leaves in the vector. Assumes nothing.
 use Prim.Native.Nat.{ℕ, _*_, _≤_, _<_}
 use mathlib.Core.Path.{_≡_}
+use mathlib.Core.Bool.{cond}
 use mathlib.Core.List.{List, [], _∷_}
-use lib.IntN.{ℤ}
+use lib.IntN.{ℤ, pos, negsuc}
+use lib.Signed.{ltZ}
 use lib.ListN.{length, getD}
 use Rattle.spectrum.specs.Places.{placedAll}
 use Rattle.spectrum.specs.Residuals.{residuals, predictorIn}
 use Rattle.spectrum.specs.Values.{Within}
+
+-- what an index x 1024 is moved by
+unfoldable pub towardZero : ℤ → ℤ
+towardZero x = cond (ltZ (pos 0) x) (negsuc 101) (cond (ltZ x (pos 0)) (pos 102) (pos 0))
 
 -- a book's step, and what it has for one vector: selectors, both lists of predictors, values and weights
 pub record Rows : Type 0 where

@@ -1,15 +1,17 @@
 // Residuals and places of a line spectrum (RFC 6716, sections 4.2.7.5.2 and 4.2.7.5.3): the first half of the crate's NLSF_decode.rs, with the
 // predictors of its NLSF_unpack.rs.
 ghost use mathlib.Core.Path.{_≡_};
+ghost use mathlib.Core.Bool.{cond};
 ghost use Prim.Native.Nat.{_*_, _/_, _≤_, _<_};
 ghost use mathlib.Core.List.{[], _∷_};
+ghost use lib.Dec.{eqb};
 ghost use lib.ListN.{length};
 ghost use lib.IntN.{pos, _+ℤ_, _*ℤ_};
 ghost use lib.Signed.{quotZ};
 ghost use Rattle.spectrum.specs.Values.{Mag};
 ghost use Rattle.spectrum.specs.Residuals.{nudged, scaled, predicted, listOf, predictorIn};
 ghost use Rattle.spectrum.specs.Places.{placed};
-ghost use Rattle.nlsf_places.specs.Asked.{rows, placesBy, PlacesOk};
+ghost use Rattle.nlsf_places.specs.Asked.{towardZero, rows, placesBy, PlacesOk};
 
 // ---- predictors
 
@@ -20,6 +22,15 @@ fn list_of(e: u8, i: usize) -> u8
     if i % 2 == 0 { e % 2 } else { e / 16 % 2 }
 }
 
+// Byte l of two, through memory: which of them it is can't be guessed ahead, and a choice or a shift would be compiled to a jump.
+fn pick(l: u8, a: u8, b: u8) -> u8
+    requires { ⌜ l < 2 ⌝ }
+    ensures { λ r. ⌜ r ≡ cond (eqb l 0) a b ⌝ }
+{
+    let both = [a, b];
+    both[l as usize]
+}
+
 // The predictor of place i, and 0 past the lists.
 fn predictor(selectors: &[u8], first: &[u8], second: &[u8], i: usize) -> u8
     requires { ⌜ (i / 2 < length (now selectors)) × (length (now first) ≡ length (now second)) ⌝ }
@@ -28,26 +39,30 @@ fn predictor(selectors: &[u8], first: &[u8], second: &[u8], i: usize) -> u8
     if i >= first.len() {
         return 0;
     }
-    let e = selectors[i / 2];
-    if list_of(e, i) == 0 {
-        return first[i];
-    }
-    second[i]
+    let l = list_of(selectors[i / 2], i);
+    pick(l, first[i], second[i])
 }
 
 // ---- residuals
 
-// An index x 1024, moved 102 toward zero.
+// 102 toward zero.
+fn toward_zero(x: i8) -> i32
+    ensures { λ r. ⌜ r ≡ towardZero x ⌝ }
+{
+    if x > 0 {
+        return -102;
+    }
+    if x < 0 {
+        return 102;
+    }
+    0
+}
+
+// An index x 1024, moved 102 toward zero. No product stands in an arm: signs can't be guessed ahead, and constants are chosen without a jump.
 fn nudge(x: i8) -> i32
     ensures { λ r. ⌜ r ≡ nudged x ⌝ }
 {
-    if x > 0 {
-        return (x as i32) * 1024 - 102;
-    }
-    if x < 0 {
-        return (x as i32) * 1024 + 102;
-    }
-    0
+    (x as i32) * 1024 + toward_zero(x)
 }
 
 // Times the step, shifted right 16 with floor.
@@ -116,7 +131,7 @@ pub fn places_run(
     ensures { λ _. ⌜ now (vector .exit) ≡ placesBy (rows step (now (selectors .entry)) (now (first .entry)) (now (second .entry)) (now (values .entry)) (now (weights .entry))) (now (xs .entry)) ⌝ }
 {
     let mut r: i32 = 0;
-    let mut k: usize = vector.len();
+    let mut k: usize = values.len();
     while k > 0 {
         let j = k - 1;
         let p = predictor(selectors, first, second, j);

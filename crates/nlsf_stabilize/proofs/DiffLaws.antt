@@ -1,19 +1,24 @@
 -- The differences as the code reads them. Assumes nothing.
-use Prim.Native.Nat.{ℕ, zero, suc, _+_, _-_, _<_}
-use mathlib.Core.Path.{_≡_, sym, ap, subst, _∙_}
-use mathlib.Core.Bool.{true, false}
+use Prim.Native.Nat.{ℕ, zero, suc, _+_, _-_, _*_, _<_}
+use mathlib.Core.Path.{_≡_, sym, ap, subst, subst₂, _∙_}
+use mathlib.Core.Bool.{Bool, true, false}
 use mathlib.Core.List.{List, [], _∷_}
 use native.Mathlib.Omega.{arith}
 use native.Mathlib.Nat.{not-suc-le-zero}
 use borrow.Author.Count.{below-more}
-use lib.IntN.{ℤ, pos, _+ℤ_, _-ℤ_}
-use lib.Signed.{ltZ}
+use lib.IntN.{ℤ, pos, _+ℤ_, _-ℤ_, _*ℤ_}
+use lib.Signed.{ltZ, leZ, shrZ}
 use lib.ListN.{length}
-use Rattle.ints.specs.Order.{ltZ-true, ltZ-false}
+use Rattle.ints.specs.Order.{ltZ-true, ltZ-false, leZ-true, leZ-false}
+use Rattle.ints.specs.Parts.{up, down}
+use Rattle.ints.specs.Quotients.{shr-low, shr-high}
+use Rattle.ints.specs.Sums.{sum-parts, up-diff, up-times, down-times}
+use Rattle.spectrum.proofs.Extremes.{le-leZ, lt-leZ}
 use Rattle.spectrum.proofs.FirstSmallest.{First, found, diff-first, diff-between, diff-last}
 use Rattle.spectrum.proofs.MoveBounds.{length-diffs}
 use Rattle.spectrum.specs.Distances.{diffs, place}
 use Rattle.spectrum.specs.Values.{at, top, _≼_}
+use Rattle.nlsf_stabilize.specs.Asked.{keyed, smallestKey}
 
 pub at-first : (v g : List ℤ) (i : ℕ) → i ≡ 0 → 0 < length v → length g ≡ suc (length v) → at (diffs (pos 0) v g) i ≡ at v 0 -ℤ (pos 0 +ℤ at g 0)
 at-first [] g i e h l = absurd (not-suc-le-zero h)
@@ -39,26 +44,74 @@ first-one l =
     }
 
 module _ (l : List ℤ) (i a : ℕ) (f : First l i a) where
-  pub first-newer : ltZ (at l i) (at l a) ≡ true → First l (i + 1) i
-  first-newer t =
-      let d = ltZ-true (at l i) (at l a) t in
+  first-newer : up (at l i) + down (at l a) < up (at l a) + down (at l i) → First l (i + 1) i
+  first-newer d =
       record {
         within = omega arith;
         least = below-more (λ k. at l i ≼ at l k) i (λ k h. omega (arith, f .least k h)) (omega arith);
         before = λ k h. omega (arith, f .least k h);
       }
 
-  pub first-older : ltZ (at l i) (at l a) ≡ false → First l (i + 1) a
-  first-older t =
+  first-older : at l a ≼ at l i → First l (i + 1) a
+  first-older d =
       record {
         within = omega (arith, f .within);
-        least = below-more (λ k. at l a ≼ at l k) i (f .least) (ltZ-false (at l i) (at l a) t);
+        least = below-more (λ k. at l a ≼ at l k) i (f .least) d;
         before = f .before;
       }
 
+-- ---- keys
+
+keyed-parts : (d : ℤ) (i : ℕ) → up (keyed d i) + down d * 32 ≡ up d * 32 + i + down (keyed d i)
+unfolding keyed
+keyed-parts d i = omega (arith, sum-parts (d *ℤ pos 32) (pos i), up-times d 32, down-times d 32)
+
+-- the key z is that of the first smallest of the n numbers passed
+pub record Best (l : List ℤ) (n : ℕ) (z : ℤ) : Type 0 where
+  pub place : ℕ
+  pub first : First l n place
+  pub key : z ≡ keyed (at l place) place
+
+pub best-one : (l : List ℤ) (z : ℤ) → z ≡ keyed (at l 0) 0 → Best l 1 z
+best-one l z e = record { place = 0; first = first-one l; key = e }
+
+module _ (l : List ℤ) (i : ℕ) (z k : ℤ) (h : i < 32) (b : Best l i z) (e : k ≡ keyed (at l i) i) where
+  pub best-newer : ltZ k z ≡ true → Best l (i + 1) k
+  best-newer t =
+      let a = b .place in
+      let d = subst₂ (λ (x y : ℤ). up x + down y < up y + down x) e (b .key) (ltZ-true k z t) in
+      record {
+        place = i;
+        first = first-newer l i a (b .first) (omega (arith, d, keyed-parts (at l i) i, keyed-parts (at l a) a, b .first .within));
+        key = e;
+      }
+
+  pub best-older : ltZ k z ≡ false → Best l (i + 1) z
+  best-older t =
+      let a = b .place in
+      let d = subst₂ (λ (x y : ℤ). y ≼ x) e (b .key) (ltZ-false k z t) in
+      record {
+        place = a;
+        first = first-older l i a (b .first) (omega (arith, d, keyed-parts (at l i) i, keyed-parts (at l a) a, b .first .within));
+        key = b .key;
+      }
+
 -- the first smallest of the differences up to the last place, which is the order
-pub place-found : (v g : List ℤ) (i r : ℕ) → i ≡ length v → length g ≡ suc (length v) → First (diffs (pos 0) v g) (i + 1) r → r ≡ place g v
+pub key-found : (v g : List ℤ) (i : ℕ) (z : ℤ) → i ≡ length v → length g ≡ suc (length v) → Best (diffs (pos 0) v g) (i + 1) z → z ≡ smallestKey g v
 unfolding place
-place-found v g i r e l f =
+key-found v g i z e l b =
     let s : i + 1 ≡ suc (length v) = omega arith in
-    found (diffs (pos 0) v g) (length v) r (length-diffs (pos 0) v g l) (subst (λ (n : ℕ). First (diffs (pos 0) v g) n r) s f) .0
+    let ds = diffs (pos 0) v g in
+    let f = found ds (length v) (b .place) (length-diffs (pos 0) v g l) (subst (λ (n : ℕ). First ds n (b .place)) s (b .first)) in
+    b .key ∙ ap (λ (n : ℕ). keyed (at ds n) n) (f .0)
+
+-- what a key says: its place, and whether its difference is below 0
+pub key-place : (d : ℤ) (i : ℕ) → i < 32 → up (keyed d i -ℤ shrZ (keyed d i) 32 *ℤ pos 32) ≡ i
+key-place d i h =
+    let z = keyed d i in
+    let s = shrZ z 32 in
+    omega (arith, keyed-parts d i, up-diff z (s *ℤ pos 32), up-times s 32, down-times s 32, shr-low z 32 (omega arith), shr-high z 32 (omega arith))
+
+pub key-sign : (d : ℤ) (i : ℕ) (t : Bool) → i < 32 → leZ (pos 0) (keyed d i) ≡ t → leZ (pos 0) d ≡ t
+key-sign d i true h e = le-leZ (pos 0) d (omega (arith, keyed-parts d i, leZ-true (pos 0) (keyed d i) e))
+key-sign d i false h e = lt-leZ (pos 0) d (omega (arith, keyed-parts d i, leZ-false (pos 0) (keyed d i) e))

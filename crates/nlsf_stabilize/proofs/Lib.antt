@@ -5,3 +5,4 @@ pub mod Upward
 pub mod PairLaws
 pub mod MoveLaws
 pub mod Widened
+pub mod SumLaws

@@ -1,42 +1,56 @@
 -- A move, branch by branch, as the code makes it. Assumes nothing.
 use Prim.Native.Nat.{ℕ, zero, suc, _+_, _-_, _≤_, _<_}
-use mathlib.Core.Path.{_≡_, sym, ap, ap₂, subst, _∙_}
+use mathlib.Core.Path.{_≡_, refl, sym, ap, ap₂, subst, _∙_}
 use mathlib.Core.Bool.{Bool, true, false, cond}
 use mathlib.Core.List.{List, [], _∷_}
 use mathlib.Core.Logic.{_≢_}
 use native.Mathlib.Omega.{arith}
 use native.Mathlib.Nat.{suc-inj, not-suc-le-zero}
-use native.Mathlib.Numerals.{add-one}
 use borrow.Author.Tests.{eq-eqb, ne-eqb}
-use lib.IntN.{ℤ, pos, _+ℤ_, _-ℤ_}
-use lib.Signed.{leZ}
-use lib.ListN.{length, set, take, drop, length-drop}
-use lib.Seq.{take-all}
+use lib.IntN.{ℤ, pos, negsuc, _+ℤ_, _-ℤ_, _*ℤ_}
+use lib.Signed.{leZ, shrZ}
+use lib.ListN.{length, set, take, drop}
 use mir.Syntax.{w16}
 use mir.Val.{SFits}
 use Rattle.ints.specs.Parts.{up, down}
-use Rattle.ints.specs.Sums.{up-diff, down-diff}
+use Rattle.ints.specs.Order.{parts-same}
+use Rattle.ints.specs.Sums.{up-diff, down-diff, diff-parts}
 use Rattle.ints.specs.Widths.{parts-fit}
 use Rattle.ints.specs.Wrap.{wrap16}
-use Rattle.spectrum.proofs.CallLaws.{lengths-are, stabilise-accepted}
+use Rattle.spectrum.proofs.CallLaws.{lengths-are, stabilise-accepted, stabilise-refuses}
+use Rattle.spectrum.proofs.Extremes.{le-leZ}
 use Rattle.spectrum.proofs.FirstSmallest.{after, keeps-at, turn-stop, turn-move, turn-end}
+use Rattle.spectrum.proofs.Kept.{good-total}
 use Rattle.spectrum.proofs.MoveBounds.{good-at, cut, fits-nat, low-is}
 use Rattle.spectrum.proofs.Results.{ruled}
 use Rattle.spectrum.proofs.SameStores.{kept16-keeps}
-use Rattle.spectrum.specs.Calls.{stabiliseRefusal}
+use Rattle.spectrum.specs.Calls.{called, lengthsOk, stabiliseRefusal, stabiliseCall}
 use Rattle.spectrum.specs.Distances.{diffs, keeps, place, lower, upper, centre, newLow, newHigh, move}
 use Rattle.spectrum.specs.Fallback.{fallback}
-use Rattle.spectrum.specs.Gaps.{Good}
+use Rattle.spectrum.specs.Gaps.{goodGaps, Good}
 use Rattle.spectrum.specs.Stabilising.{Stable, run, stabilise, kept16}
-use Rattle.spectrum.specs.Values.{at, top, held, half, total}
-use Rattle.nlsf_stabilize.specs.Asked.{PairOk, MoveOk}
+use Rattle.spectrum.specs.Values.{Mag, at, top, held, half, total}
+use Rattle.nlsf_stabilize.specs.Asked.{ruledSum, smallestKey, PairOk, MoveOk}
+use Rattle.nlsf_stabilize.proofs.DiffLaws.{key-place, key-sign}
 
 pub part-before : (g : List ℤ) (i : ℕ) → total (take (i - 0) (drop 0 g)) ≡ total (take i g)
 part-before g i = let e : i - 0 ≡ i = omega arith in ap (λ (n : ℕ). total (take n g)) e
 
-pub part-behind : (g : List ℤ) (n i : ℕ) → length g ≡ suc n → total (take (n + 1 - (i + 1)) (drop (i + 1) g)) ≡ total (drop (suc i) g)
-part-behind g n i l =
-    ap total (take-all (n + 1 - (i + 1)) (drop (i + 1) g) (omega (arith, length-drop (i + 1) g))) ∙ ap (λ (k : ℕ). total (drop k g)) (add-one i)
+-- the sums of all gaps and of those before a gap lie within 32,768, and what they leave beside the gap is the sum of those behind it
+pub sums-near : (g v : List ℤ) (i : ℕ) → MoveOk g v i → i ≢ length v → Mag 32768 (total g) × Mag 32768 (total (take i g))
+sums-near g v i m n =
+    let c = cut g i (length v) (m .long) (omega (arith, m .place, n)) (m .rule .good) in
+    let t = good-total g (m .rule .good) in
+    ((m .rule .most, omega (arith, t .0)), (omega (arith, c .all, m .rule .most), omega (arith, c .before0)))
+
+pub part-behind : (g v : List ℤ) (i : ℕ) → MoveOk g v i → i ≢ length v → (total g -ℤ total (take i g)) -ℤ at g i ≡ total (drop (suc i) g)
+part-behind g v i m n =
+    let c = cut g i (length v) (m .long) (omega (arith, m .place, n)) (m .rule .good) in
+    let t = good-total g (m .rule .good) in
+    let a = total g in
+    let b = total (take i g) in
+    parts-same ((a -ℤ b) -ℤ at g i) (total (drop (suc i) g))
+    (omega (arith, diff-parts (a -ℤ b) (at g i), diff-parts a b, c .all, c .before0, c .here0, c .behind0, t .0))
 
 pub pair-ok : (g v : List ℤ) (i : ℕ) → MoveOk g v i → i ≢ length v → PairOk (at g i) (total (take i g)) (total (drop (suc i) g))
 pair-ok g v i m n =
@@ -105,9 +119,13 @@ run-start g v =
     let s = run kept16 20 g v in
     let z : 0 + s .moves ≡ s .moves = omega arith in ap (λ (k : ℕ). record { vector = s .vector; moves = k }) z
 
--- the test of the difference d at the place i found
-pub tested : (g v : List ℤ) (i : ℕ) (d : ℤ) (t : Bool) → i ≡ place g v → d ≡ at (diffs (pos 0) v g) i → leZ (pos 0) d ≡ t → keeps g v ≡ t
-tested g v i d t e f h = keeps-at v g ∙ ap (leZ (pos 0)) (ap (at (diffs (pos 0) v g)) (sym e) ∙ sym f) ∙ h
+-- what the smallest key k says: the test of its sign, and its place
+module _ (g v : List ℤ) (k : ℤ) (e : k ≡ smallestKey g v) (h : place g v < 32) where
+  pub tested : (t : Bool) → leZ (pos 0) k ≡ t → keeps g v ≡ t
+  tested t q = keeps-at v g ∙ key-sign (at (diffs (pos 0) v g) (place g v)) (place g v) t h (ap (leZ (pos 0)) (sym e) ∙ q)
+
+  pub placed : (i : ℕ) → i ≡ up (k -ℤ shrZ k 32 *ℤ pos 32) → i ≡ place g v
+  placed i f = f ∙ ap (λ (z : ℤ). up (z -ℤ shrZ z 32 *ℤ pos 32)) e ∙ key-place (at (diffs (pos 0) v g) (place g v)) (place g v) h
 
 pub run-stop : (g v : List ℤ) (m : ℕ) (s : Stable) → m < 20 → keeps g v ≡ true → after m (run kept16 (20 - m) g v) ≡ s → record { vector = v; moves = m } ≡ s
 run-stop g v m s h k e =
@@ -123,6 +141,38 @@ pub run-out : (g v w : List ℤ) (m : ℕ) (s : Stable) → m ≡ 20 → w ≡ f
 run-out g v w m s h f e =
     let z : 20 - m ≡ 0 = omega arith in
     ap (λ (l : List ℤ). record { vector = l; moves = m }) f ∙ sym (turn-end kept16 m g v) ∙ ap (λ (n : ℕ). after m (run kept16 n g v)) (sym z) ∙ e
+
+-- ---- the call: lengths, then the gaps' sum r, -1 where the rule is broken
+
+-- the sum is below 0 just where the rule is broken
+pub ruled-sum : (n : ℕ) (g : List ℤ) (r : ℤ) → length g ≡ suc n → r ≡ ruledSum n g → (t : Bool) → leZ (pos 0) r ≡ t → goodGaps n g ≡ t
+unfolding ruledSum
+ruled-sum n g r l e t q = go (goodGaps n g) refl e t q
+  where
+    go : (b : Bool) → goodGaps n g ≡ b → r ≡ cond b (total g) (negsuc 0) → (t : Bool) → leZ (pos 0) r ≡ t → b ≡ t
+    go true h e t q =
+        sym (le-leZ (pos 0) (total g) (omega (arith, good-total g (ruled n g l h .good)))) ∙ ap (leZ (pos 0)) (sym e) ∙ q
+    go false h e t q = ap (leZ (pos 0)) (sym e) ∙ q
+
+pub ruled-total : (n : ℕ) (g : List ℤ) (r : ℤ) → r ≡ ruledSum n g → goodGaps n g ≡ true → r ≡ total g
+unfolding ruledSum
+ruled-total n g r e h = e ∙ ap (λ (b : Bool). cond b (total g) (negsuc 0)) h
+
+module _ (v g : List ℤ) where
+  refused : (n : ℕ) → stabiliseRefusal v g ≡ n → (n ≡ 0 → ⊥) → called v n 0 ≡ stabiliseCall v g
+  refused n e z = ap (λ (m : ℕ). called v m 0) (sym e) ∙ stabilise-refuses v g (λ h. z (sym e ∙ h))
+
+  pub refused-lengths : lengthsOk v g ≡ false → called v 6 0 ≡ stabiliseCall v g
+  unfolding stabiliseRefusal
+  refused-lengths e = refused 6 (ap (λ (t : Bool). cond t (cond (goodGaps (length v) g) 0 7) 6) e) (λ h. omega arith)
+
+  pub refused-gaps : lengthsOk v g ≡ true → goodGaps (length v) g ≡ false → called v 7 0 ≡ stabiliseCall v g
+  unfolding stabiliseRefusal
+  refused-gaps e f = refused 7 (ap₂ (λ (t u : Bool). cond t (cond u 0 7) 6) e f) (λ h. omega arith)
+
+  pub accepted : lengthsOk v g ≡ true → goodGaps (length v) g ≡ true → stabiliseRefusal v g ≡ 0
+  unfolding stabiliseRefusal
+  accepted e f = ap₂ (λ (t u : Bool). cond t (cond u 0 7) 6) e f
 
 -- an accepted call's vector and gaps are what the loop of moves asks
 pub move-ok : (v g : List ℤ) → stabiliseRefusal v g ≡ 0 → MoveOk g v 0

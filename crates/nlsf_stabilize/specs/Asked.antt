@@ -1,12 +1,28 @@
 -- What the inner functions of the stabiliser ask of gaps and vectors. Assumes nothing.
 use Prim.Native.Nat.{ℕ, suc, _+_, _≤_, _<_}
 use mathlib.Core.Path.{_≡_}
+use mathlib.Core.Bool.{cond}
 use mathlib.Core.List.{List}
-use lib.IntN.{ℤ}
+use lib.IntN.{ℤ, pos, negsuc, _+ℤ_, _*ℤ_}
 use lib.ListN.{length}
 use Rattle.ints.specs.Parts.{up, down}
-use Rattle.spectrum.specs.Gaps.{Ruled}
-use Rattle.spectrum.specs.Values.{at}
+use Rattle.spectrum.specs.Distances.{diffs, place}
+use Rattle.spectrum.specs.Gaps.{goodGaps, Ruled}
+use Rattle.spectrum.specs.Values.{at, total}
+
+-- the sum of gaps that meet the gap set's rule for n values, and -1 of others
+unfoldable pub ruledSum : ℕ → List ℤ → ℤ
+ruledSum n g = cond (goodGaps n g) (total g) (negsuc 0)
+
+-- a difference and its place in one number: the smallest of these keys has the smallest difference, and of equal ones the first place
+unfoldable pub keyed : ℤ → ℕ → ℤ
+keyed d i = d *ℤ pos 32 +ℤ pos i
+
+abbrev pub keyAt : List ℤ → List ℤ → ℕ → ℤ
+keyAt g v i = keyed (at (diffs (pos 0) v g) i) i
+
+abbrev pub smallestKey : List ℤ → List ℤ → ℤ
+smallestKey g v = keyAt g v (place g v)
 
 -- no gap is negative, and the first fits 16 bits
 pub record NoneBelow (g : List ℤ) : Type 0 where

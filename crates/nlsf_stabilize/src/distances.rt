@@ -1,60 +1,70 @@
-// The differences of a vector to its least gaps, and the first smallest of them (RFC 6716, section 4.2.7.5.4).
+// The differences of a vector to its least gaps, and the first smallest of them (RFC 6716, section 4.2.7.5.4). A difference and its place make
+// one key, so that the search is a minimum without jumps: which of two is smaller can't be guessed ahead.
 ghost use mathlib.Core.Path.{_≡_};
 ghost use Prim.Native.Nat.{suc, _<_, _≤_};
-ghost use lib.IntN.{pos, _+ℤ_, _-ℤ_};
+ghost use lib.IntN.{pos, _+ℤ_, _-ℤ_, _*ℤ_};
 ghost use lib.ListN.{length};
+ghost use lib.Signed.{shrZ};
 ghost use Rattle.ints.specs.Parts.{up, down};
-ghost use Rattle.spectrum.specs.Values.{at};
-ghost use Rattle.spectrum.specs.Distances.{diffs, place};
+ghost use Rattle.nlsf_stabilize.specs.Asked.{keyed, keyAt, smallestKey};
 
-// How far x lies above p and the gap g together.
-fn above(x: i32, p: i16, g: i16) -> i32
-    requires { ⌜ (up x ≤ 32768) × (down x ≤ 32768) ⌝ }
-    ensures { λ r. ⌜ r ≡ x -ℤ (p +ℤ g) ⌝ }
+// The key of place i, where x lies above p and the gap g together.
+fn key(x: i32, p: i16, g: i16, i: usize) -> i32
+    requires { ⌜ ((up x ≤ 32768) × (down x ≤ 32768)) × (i ≤ 16) ⌝ }
+    ensures { λ r. ⌜ r ≡ keyed (x -ℤ (p +ℤ g)) i ⌝ }
 {
-    x - ((p as i32) + (g as i32))
+    (x - ((p as i32) + (g as i32))) * 32 + (i as i32)
 }
 
-// The difference of a place between two values to its least gap.
-fn diff_between(v: &[i16], g: &[i16], i: usize) -> i32
-    requires { ⌜ (length (now g) ≡ suc (length (now v))) × ((1 ≤ i) × (i < length (now v))) ⌝ }
-    ensures { λ r. ⌜ r ≡ at (diffs (pos 0) (now (v .entry)) (now (g .entry))) i ⌝ }
+// The key of a place between two values.
+fn key_between(v: &[i16], g: &[i16], i: usize) -> i32
+    requires { ⌜ ((length (now g) ≡ suc (length (now v))) × (length (now v) ≤ 16)) × ((1 ≤ i) × (i < length (now v))) ⌝ }
+    ensures { λ r. ⌜ r ≡ keyAt (now (g .entry)) (now (v .entry)) i ⌝ }
 {
-    above(v[i] as i32, v[i - 1], g[i])
+    key(v[i] as i32, v[i - 1], g[i], i)
 }
 
-// The difference of place i to its least gap.
-pub fn diff_at_run(v: &[i16], g: &[i16], i: usize) -> i32
-    requires { ⌜ (0 < length (now v)) × ((length (now g) ≡ suc (length (now v))) × (i ≤ length (now v))) ⌝ }
-    ensures { λ r. ⌜ r ≡ at (diffs (pos 0) (now (v .entry)) (now (g .entry))) i ⌝ }
-{
-    if i == 0 {
-        return above(v[0] as i32, 0, g[0]);
-    }
-    if i < v.len() {
-        return diff_between(v, g, i);
-    }
-    above(32768, v[i - 1], g[i])
-}
-
-// The place of the first smallest difference. The first and the last place have one value each and stand outside the loop.
-pub fn smallest_run(v: &[i16], g: &[i16]) -> usize
+// The key of the first place.
+fn key_first(v: &[i16], g: &[i16]) -> i32
     requires { ⌜ (0 < length (now v)) × (length (now g) ≡ suc (length (now v))) ⌝ }
-    ensures { λ r. ⌜ r ≡ place (now (g .entry)) (now (v .entry)) ⌝ }
+    ensures { λ r. ⌜ r ≡ keyAt (now (g .entry)) (now (v .entry)) 0 ⌝ }
 {
-    let mut at: usize = 0;
-    let mut least = diff_at_run(v, g, 0);
+    key(v[0] as i32, 0, g[0], 0)
+}
+
+// The key of the last place.
+fn key_last(v: &[i16], g: &[i16]) -> i32
+    requires { ⌜ (0 < length (now v)) × ((length (now g) ≡ suc (length (now v))) × (length (now v) ≤ 16)) ⌝ }
+    ensures { λ r. ⌜ r ≡ keyAt (now (g .entry)) (now (v .entry)) (length (now (v .entry))) ⌝ }
+{
+    let n = v.len();
+    key(32768, v[n - 1], g[n], n)
+}
+
+// The smallest key. The first and the last place have one value each and stand outside the loop.
+pub fn smallest_run(v: &[i16], g: &[i16]) -> i32
+    requires { ⌜ (0 < length (now v)) × ((length (now g) ≡ suc (length (now v))) × (length (now v) ≤ 16)) ⌝ }
+    ensures { λ r. ⌜ r ≡ smallestKey (now (g .entry)) (now (v .entry)) ⌝ }
+{
+    let mut least = key_first(v, g);
     let mut i: usize = 1;
     while i < v.len() {
-        let d = diff_between(v, g, i);
-        if d < least {
-            at = i;
-            least = d;
+        let k = key_between(v, g, i);
+        if k < least {
+            least = k;
         }
         i += 1;
     }
-    if diff_at_run(v, g, i) < least {
-        return i;
+    let last = key_last(v, g);
+    if last < least {
+        return last;
     }
-    at
+    least
+}
+
+// The place of a key.
+pub fn place_of_run(k: i32) -> usize
+    ensures { λ i. ⌜ i ≡ up (k -ℤ shrZ k 32 *ℤ pos 32) ⌝ }
+{
+    (k - (k >> 5) * 32) as usize
 }

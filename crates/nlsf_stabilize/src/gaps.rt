@@ -1,12 +1,9 @@
 // The sum of gaps, and the gap set's rule (document 01).
 ghost use mathlib.Core.Path.{_≡_};
 ghost use Prim.Native.Nat.{_+_, _≤_};
-ghost use lib.IntN.{pos};
 ghost use lib.ListN.{length};
-ghost use lib.Signed.{leZ};
-ghost use Rattle.lists.specs.Every.{every};
 ghost use Rattle.spectrum.specs.Values.{total};
-ghost use Rattle.spectrum.specs.Gaps.{goodGaps};
+ghost use Rattle.nlsf_stabilize.specs.Asked.{ruledSum};
 
 // The sum of at most 17 gaps.
 pub fn gap_sum_run(s: &[i16]) -> i32
@@ -22,26 +19,21 @@ pub fn gap_sum_run(s: &[i16]) -> i32
     acc
 }
 
-// No gap is negative.
-fn none_negative(g: &[i16]) -> bool
-    ensures { λ b. ⌜ b ≡ every (leZ (pos 0)) (now (g .entry)) ⌝ }
-{
-    let mut ok = true;
-    let mut k: usize = g.len();
-    while k > 0 {
-        let j = k - 1;
-        ok = (0 <= g[j]) & ok;
-        k = j;
-    }
-    ok
-}
-
-// The gap set's rule, for a vector of n values.
-pub fn gaps_ok_run(g: &[i16], n: usize) -> bool
+// The sum of gaps that meet the gap set's rule for a vector of n values, and -1 of others.
+pub fn ruled_sum_run(g: &[i16], n: usize) -> i32
     requires { ⌜ (length (now g) ≡ n + 1) × (n ≤ 16) ⌝ }
-    ensures { λ b. ⌜ b ≡ goodGaps n (now (g .entry)) ⌝ }
+    ensures { λ r. ⌜ r ≡ ruledSum n (now (g .entry)) ⌝ }
 {
-    let none = none_negative(g);
-    let sum = gap_sum_run(g);
-    none & ((1 <= g[n]) & (sum <= 32768))
+    let mut none = true;
+    let mut sum: i32 = 0;
+    let mut i: usize = 0;
+    while i < g.len() {
+        none = none & (0 <= g[i]);
+        sum = sum + (g[i] as i32);
+        i += 1;
+    }
+    if none & ((1 <= g[n]) & (sum <= 32768)) {
+        return sum;
+    }
+    -1
 }

@@ -1,12 +1,13 @@
 // The stabiliser of line spectra (RFC 6716, section 4.2.7.5.4): at most 20 moves, then the fallback. Names as in the crate's NLSF_stabilize.rs.
 ghost use mathlib.Core.Path.{_≡_};
+ghost use Rattle.spectrum.specs.Values.{total};
 ghost use Rattle.spectrum.specs.Stabilising.{kept16, stabilise};
-ghost use Rattle.spectrum.specs.Calls.{lengthsOk, stabiliseRefusal, stabiliseCall};
+ghost use Rattle.spectrum.specs.Calls.{lengthsOk, stabiliseCall};
 ghost use Rattle.nlsf_stabilize.specs.Asked.{MoveOk};
-use distances::diff_at_run;
+use distances::place_of_run;
 use distances::smallest_run;
 use fallback::fall_back_run;
-use gaps::gaps_ok_run;
+use gaps::ruled_sum_run;
 use moves::move_at_run;
 use spectrum::Moves;
 
@@ -16,19 +17,18 @@ mod gaps; // gaps.rt: the gap set's rule
 mod moves; // moves.rt: one move
 mod sort; // sort.rt: sorting
 
-// Stabilised, with the number of moves.
-pub fn stabilise_run(v: &mut [i16], g: &[i16]) -> u32
-    requires { ⌜ MoveOk (now g) (now v) 0 ⌝ }
+// Stabilised, with the number of moves; sum is that of the gaps.
+pub fn stabilise_run(v: &mut [i16], g: &[i16], sum: i32) -> u32
+    requires { ⌜ MoveOk (now g) (now v) 0 × (sum ≡ total (now g)) ⌝ }
     ensures { λ r. ⌜ record { vector = now (v .exit); moves = r } ≡ stabilise kept16 (now (g .entry)) (now (v .entry)) ⌝ }
 {
     let mut m: u32 = 0;
     while m < 20 {
-        let i = smallest_run(v, g);
-        let d = diff_at_run(v, g, i);
-        if d >= 0 {
+        let k = smallest_run(v, g);
+        if k >= 0 {
             return m;
         }
-        move_at_run(v, g, i);
+        move_at_run(v, g, sum, place_of_run(k));
         m += 1;
     }
     fall_back_run(v, g);
@@ -48,35 +48,27 @@ fn lengths_ok(vector: &[i16], gaps: &[i16]) -> bool
     }
 }
 
-// Refusals 6 and 7, or 0.
-fn refusal(vector: &[i16], gaps: &[i16]) -> u32
-    ensures { λ n. ⌜ n ≡ stabiliseRefusal (now (vector .entry)) (now (gaps .entry)) ⌝ }
-{
-    if lengths_ok(vector, gaps) {
-        if gaps_ok_run(gaps, vector.len()) {
-            0
-        } else {
-            7
-        }
-    } else {
-        6
-    }
-}
-
-// Stabilised, with the number of moves; a refusal leaves the vector as it is.
+// Stabilised, with the number of moves; a refusal, 6 or 7, leaves the vector as it is.
 pub fn silk_NLSF_stabilize(vector: &mut [i16], gaps: &[i16]) -> Moves
     ensures { λ a. ⌜ record { vector = now (vector .exit); answer = a } ≡ stabiliseCall (now (vector .entry)) (now (gaps .entry)) ⌝ }
 {
-    let n = refusal(vector, gaps);
-    if n == 0 {
-        let m = stabilise_run(vector, gaps);
-        Moves {
-            refusal: 0,
-            moves: m,
+    if lengths_ok(vector, gaps) {
+        let sum = ruled_sum_run(gaps, vector.len());
+        if sum >= 0 {
+            let m = stabilise_run(vector, gaps, sum);
+            Moves {
+                refusal: 0,
+                moves: m,
+            }
+        } else {
+            Moves {
+                refusal: 7,
+                moves: 0,
+            }
         }
     } else {
         Moves {
-            refusal: n,
+            refusal: 6,
             moves: 0,
         }
     }

@@ -1,7 +1,7 @@
 // One move: the first value, the last, or a pair about its centre (RFC 6716, section 4.2.7.5.4).
 ghost use mathlib.Core.Path.{_≡_};
 ghost use lib.IntN.{pos, _+ℤ_, _-ℤ_};
-ghost use Rattle.spectrum.specs.Values.{top, half, held};
+ghost use Rattle.spectrum.specs.Values.{Mag, top, half, held, total};
 ghost use Rattle.spectrum.specs.Distances.{move};
 ghost use Rattle.spectrum.specs.Stabilising.{kept16};
 ghost use Rattle.nlsf_stabilize.specs.Asked.{PairOk, MoveOk};
@@ -34,9 +34,17 @@ fn pair_low(a: i16, b: i16, gap: i16, before: i32, behind: i32) -> i16
     (c - h) as i16
 }
 
-// The move at place i.
-pub fn move_at_run(v: &mut [i16], g: &[i16], i: usize)
-    requires { ⌜ MoveOk (now g) (now v) i ⌝ }
+// The sum of the gaps behind one, by those of all and of those before it.
+fn rest(sum: i32, before: i32, gap: i16) -> i32
+    requires { ⌜ Mag 32768 sum × Mag 32768 before ⌝ }
+    ensures { λ r. ⌜ r ≡ (sum -ℤ before) -ℤ gap ⌝ }
+{
+    sum - before - (gap as i32)
+}
+
+// The move at place i; sum is that of all gaps.
+pub fn move_at_run(v: &mut [i16], g: &[i16], sum: i32, i: usize)
+    requires { ⌜ MoveOk (now g) (now v) i × (sum ≡ total (now g)) ⌝ }
     ensures { λ _. ⌜ now (v .exit) ≡ move kept16 (now (g .entry)) (now (v .entry)) i ⌝ }
 {
     let n = v.len();
@@ -49,7 +57,7 @@ pub fn move_at_run(v: &mut [i16], g: &[i16], i: usize)
         return;
     }
     let before = gap_sum_run(&g[0..i]);
-    let behind = gap_sum_run(&g[i + 1..n + 1]);
+    let behind = rest(sum, before, g[i]);
     let a = pair_low(v[i - 1], v[i], g[i], before, behind);
     let b = add16(a, g[i]);
     v[i - 1] = a;

@@ -14,8 +14,7 @@ pub fn narrow_selectors_run(v: u32) -> [u8; 5]
     requires { ⌜ v < 32 ⌝ }
     ensures { λ r. ⌜ r ≡ getD (narrowBook .selectors) v [] ⌝ }
 {
-    let t = narrow_selectors();
-    t[v as usize]
+    narrow_selectors(v as usize)
 }
 
 // The selectors of vector v of the wide book.
@@ -23,8 +22,7 @@ pub fn wide_selectors_run(v: u32) -> [u8; 8]
     requires { ⌜ v < 32 ⌝ }
     ensures { λ r. ⌜ r ≡ getD (wideBook .selectors) v [] ⌝ }
 {
-    let t = wide_selectors();
-    t[v as usize]
+    wide_selectors(v as usize)
 }
 
 // The residual row of place i.

@@ -12,7 +12,7 @@ use crate::entry::word;
 use tables::books::narrow_gaps;
 use tables::books::narrow_predictors;
 use tables::books::narrow_selectors;
-use tables::books::narrow_vectors;
+use tables::books::narrow_vector;
 use tables::books::narrow_weights;
 
 fn vectors_entry(place: usize) -> u32
@@ -21,8 +21,8 @@ fn vectors_entry(place: usize) -> u32
     if place >= 320 {
         return NO_ENTRY;
     }
-    let t = narrow_vectors();
-    byte(t[place / 10][place % 10])
+    let t = narrow_vector(place / 10);
+    byte(t[place % 10])
 }
 
 fn weights_entry(place: usize) -> u32
@@ -31,8 +31,8 @@ fn weights_entry(place: usize) -> u32
     if place >= 320 {
         return NO_ENTRY;
     }
-    let t = narrow_weights();
-    word(t[place / 10][place % 10])
+    let t = narrow_weights(place / 10);
+    word(t[place % 10])
 }
 
 fn selectors_entry(place: usize) -> u32
@@ -41,8 +41,8 @@ fn selectors_entry(place: usize) -> u32
     if place >= 160 {
         return NO_ENTRY;
     }
-    let t = narrow_selectors();
-    byte(t[place / 5][place % 5])
+    let t = narrow_selectors(place / 5);
+    byte(t[place % 5])
 }
 
 fn predictors_entry(place: usize) -> u32

@@ -12,7 +12,7 @@ use crate::entry::word;
 use tables::books::wide_gaps;
 use tables::books::wide_predictors;
 use tables::books::wide_selectors;
-use tables::books::wide_vectors;
+use tables::books::wide_vector;
 use tables::books::wide_weights;
 
 fn vectors_entry(place: usize) -> u32
@@ -21,8 +21,8 @@ fn vectors_entry(place: usize) -> u32
     if place >= 512 {
         return NO_ENTRY;
     }
-    let t = wide_vectors();
-    byte(t[place / 16][place % 16])
+    let t = wide_vector(place / 16);
+    byte(t[place % 16])
 }
 
 fn weights_entry(place: usize) -> u32
@@ -31,8 +31,8 @@ fn weights_entry(place: usize) -> u32
     if place >= 512 {
         return NO_ENTRY;
     }
-    let t = wide_weights();
-    word(t[place / 16][place % 16])
+    let t = wide_weights(place / 16);
+    word(t[place % 16])
 }
 
 fn selectors_entry(place: usize) -> u32
@@ -41,8 +41,8 @@ fn selectors_entry(place: usize) -> u32
     if place >= 256 {
         return NO_ENTRY;
     }
-    let t = wide_selectors();
-    byte(t[place / 8][place % 8])
+    let t = wide_selectors(place / 8);
+    byte(t[place % 8])
 }
 
 fn predictors_entry(place: usize) -> u32

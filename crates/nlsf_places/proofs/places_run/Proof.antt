@@ -1,7 +1,7 @@
 -- `places_run` meets its contract. The invariant: from k on stand the places, before it the old values, and r is the residual of place k.
 -- Assumes nothing.
 use Prim.Native.Nat.{ℕ, suc, _-_, _≤_, _<_}
-use mathlib.Core.Path.{_≡_, sym, ap, _∙_}
+use mathlib.Core.Path.{_≡_, sym, subst, ap, _∙_}
 use mathlib.Core.List.{List}
 use native.Mathlib.Omega.{arith}
 use borrow.Author.Needs.{needs, sfits-of}
@@ -83,7 +83,10 @@ residual-is c =
 loop-holds : tie.Need-loop-holds Inv-loop μ-loop
 loop-holds c =
     let s = c .before .before .before .before .before in
-    (omega arith, down-start (placesBy (lent s) (s .args .xs .now)) (s .args .vector .now), sym (none-behind (lent s) (s .args .vector .now) (s .args .xs .now) (s .pre)))
+    let v = s .args .vector .now in
+    let f = placesBy (lent s) (s .args .xs .now) in
+    let n = sym (s .pre .book) in
+    (omega (arith, s .pre .book), subst (λ (k : ℕ). Down f v v k) n (down-start f v), sym (subst (λ (k : ℕ). at (residualsBy (lent s) (s .args .xs .now)) k ≡ pos 0) n (none-behind (lent s) v (s .args .xs .now) (s .pre))))
 
 sub-j : tie.Need-sub-j Inv-loop μ-loop
 sub-j c = search needs

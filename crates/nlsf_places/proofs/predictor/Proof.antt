@@ -1,6 +1,7 @@
 -- `predictor` meets its contract. Assumes nothing.
 use Prim.Native.Nat.{ℕ, zero, suc, _/_, _%_, _≤_, _<_}
 use mathlib.Core.Path.{_≡_, refl, sym, ap, _∙_}
+use mathlib.Core.Bool.{cond}
 use mathlib.Core.List.{List, [], _∷_}
 use native.Mathlib.Omega.{arith}
 use borrow.Author.Needs.{needs}
@@ -20,6 +21,12 @@ past p q zero i a b = List·getD-eq-default p 0 a
 past p q (suc zero) i a b = List·getD-eq-default q 0 b
 past p q (suc (suc n)) i a b = refl
 
+-- the entry of the list that is named
+named : (p q : List ℕ) (n i : ℕ) → n < 2 → cond (eqb n 0) (getD p i 0) (getD q i 0) ≡ getD (getD (p ∷ q ∷ []) n []) i 0
+named p q zero i h = refl
+named p q (suc zero) i h = refl
+named p q (suc (suc n)) i h = absurd (omega arith)
+
 returns : tie.Need-returns
 unfolding predictorIn
 returns c =
@@ -28,42 +35,42 @@ returns c =
     let h : length (a .first .now) ≤ a .i = c .if1 .taken in
     sym (past (a .first .now) (a .second .now) (listOf (getD (a .selectors .now) (a .i / 2) 0) (a .i)) (a .i) h (omega (arith, b .pre .1)))
 
-shared-slice-read-e : tie.Need-shared-slice-read-e
-shared-slice-read-e c = search needs
+shared-slice-read-list-of : tie.Need-shared-slice-read-list-of
+shared-slice-read-list-of c = search needs
 
 list-of-requires : tie.Need-list-of-requires
 list-of-requires c κs = search needs
 
-shared-slice-read-result : tie.Need-shared-slice-read-result
-shared-slice-read-result c = search needs
+shared-slice-read-pick : tie.Need-shared-slice-read-pick
+shared-slice-read-pick c = search needs
+
+shared-slice-read-pick-2 : tie.Need-shared-slice-read-pick-2
+shared-slice-read-pick-2 c = search needs
+
+pick-requires : tie.Need-pick-requires
+pick-requires c κs =
+    let d = c .before .before in
+    let a = d .before .before .before .before .before .before .args in
+    omega (arith, d .list-of .ensures, list-below (getD (a .selectors .now) (a .i / 2) 0) (a .i))
 
 returns-2 : tie.Need-returns-2
 unfolding predictorIn
 returns-2 c =
-    let a = c .before .before .before .before .before .before .before .before .args in
-    let e : listOf (getD (a .selectors .now) (a .i / 2) 0) (a .i) ≡ 0 = sym (c .before .before .list-of .ensures) ∙ c .before .if2 .taken in
-    sym (ap (λ (n : ℕ). getD (getD (a .first .now ∷ a .second .now ∷ []) n []) (a .i) 0) e)
-
-shared-slice-read-result-2 : tie.Need-shared-slice-read-result-2
-shared-slice-read-result-2 c = search needs
-
-returns-3 : tie.Need-returns-3
-unfolding predictorIn
-returns-3 c =
-    let a = c .before .before .before .before .before .before .before .before .args in
+    let d = c .before .before .before in
+    let a = d .before .before .before .before .before .before .args in
     let n = listOf (getD (a .selectors .now) (a .i / 2) 0) (a .i) in
-    let l : n < 2 = list-below (getD (a .selectors .now) (a .i / 2) 0) (a .i) in
-    let e : n ≡ 1 = omega (arith, l, c .before .before .list-of .ensures, c .before .if2 .left) in
-    sym (ap (λ (m : ℕ). getD (getD (a .first .now ∷ a .second .now ∷ []) m []) (a .i) 0) e)
+    c .pick .ensures
+    ∙ ap (λ (m : ℕ). cond (eqb m 0) (getD (a .first .now) (a .i) 0) (getD (a .second .now) (a .i) 0)) (d .list-of .ensures)
+    ∙ named (a .first .now) (a .second .now) n (a .i) (list-below (getD (a .selectors .now) (a .i / 2) 0) (a .i))
 
 pub predictor-spec : {M : Type 1} → statement M
 predictor-spec =
     tie.close
     (tie.spec
     returns
-    shared-slice-read-e
+    shared-slice-read-list-of
     list-of-requires
-    shared-slice-read-result
-    returns-2
-    shared-slice-read-result-2
-    returns-3)
+    shared-slice-read-pick
+    shared-slice-read-pick-2
+    pick-requires
+    returns-2)

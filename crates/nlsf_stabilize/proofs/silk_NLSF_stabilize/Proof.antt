@@ -1,30 +1,58 @@
 -- `silk_NLSF_stabilize` meets its contract. Assumes nothing.
-use Prim.Native.Nat.{ℕ}
-use mathlib.Core.Path.{sym, ap, _∙_}
-use borrow.Author.Needs.{needs}
-use Rattle.spectrum.proofs.CallLaws.{stabilise-answers, stabilise-refuses}
-use Rattle.spectrum.specs.Calls.{called}
-use Rattle.nlsf_stabilize.proofs.MoveLaws.{move-ok}
+use mathlib.Core.Path.{_≡_, sym, _∙_}
+use mathlib.Core.Bool.{Bool, true, false}
+use native.Mathlib.Omega.{arith}
+use borrow.Author.Needs.{needs, sfits-of}
+use lib.IntN.{pos}
+use lib.ListN.{length}
+use lib.Signed.{leZ}
+use mir.Syntax.{w32}
+use mir.Val.{toZ, ofZ}
+use mir.Facts.{toZ-ofZ}
+use Rattle.spectrum.proofs.CallLaws.{lengths-are, stabilise-answers}
+use Rattle.spectrum.specs.Calls.{lengthsOk}
+use Rattle.spectrum.specs.Gaps.{goodGaps}
+use Rattle.nlsf_stabilize.proofs.MoveLaws.{ruled-sum, ruled-total, refused-lengths, refused-gaps, accepted, move-ok}
 use Rattle.nlsf_stabilize.proofs.silk_NLSF_stabilize.Statement.{statement}
 use Rattle.nlsf_stabilize.proofs.silk_NLSF_stabilize.Tie as tie
 
-refusal-requires : tie.Need-refusal-requires
-refusal-requires c κs = search needs
+-- the lengths are right past the first test, and the sum's sign is the gap set's rule
+lengths-right : (c : tie.Then1) → let a = c .before .before .before .args in lengthsOk (a .vector .now) (a .gaps .now) ≡ true
+lengths-right c = sym (c .before .lengths-ok .ensures) ∙ c .if1 .taken
+
+rule-is : (r : tie.After-ruled-sum-run) (t : Bool) → leZ (pos 0) (toZ w32 (ofZ w32 (r .ruled-sum-run .result))) ≡ t → let a = r .before .before .before .before .args in
+    goodGaps (length (a .vector .now)) (a .gaps .now) ≡ t
+rule-is r t e =
+    let a = r .before .before .before .before .args in
+    let l = lengths-are (a .vector .now) (a .gaps .now) (lengths-right (r .before)) in
+    ruled-sum (length (a .vector .now)) (a .gaps .now) _ (omega (arith, l .one-more)) (toZ-ofZ {w = w32} (sfits-of (r .ruled-sum-run .ok)) ∙ r .ruled-sum-run .ensures) t e
+
+lengths-ok-requires : tie.Need-lengths-ok-requires
+lengths-ok-requires c κs = search needs
+
+ruled-sum-run-requires : tie.Need-ruled-sum-run-requires
+ruled-sum-run-requires c κs =
+    let a = c .before .before .before .args in
+    let l = lengths-are (a .vector .now) (a .gaps .now) (lengths-right c) in (l .one-more, l .most)
 
 stabilise-run-requires : tie.Need-stabilise-run-requires
 stabilise-run-requires c κs =
-    let a = c .before .before .before .before .args in
-    move-ok (a .vector .now) (a .gaps .now) (sym (c .before .before .refusal .ensures) ∙ c .before .if1 .taken)
+    let r = c .before .before in
+    let a = r .before .before .before .before .args in
+    let t = rule-is r true (c .before .if2 .taken) in (
+      move-ok (a .vector .now) (a .gaps .now) (accepted (a .vector .now) (a .gaps .now) (lengths-right (r .before)) t),
+      ruled-total (length (a .vector .now)) (a .gaps .now) _ (toZ-ofZ {w = w32} (sfits-of (r .ruled-sum-run .ok)) ∙ r .ruled-sum-run .ensures) t,
+    )
 
 same-length : tie.Need-same-length
 same-length c = search needs
 
 returns : tie.Need-returns
 returns c =
-    let b = c .before .before .before .before in
-    let a = b .before .before .args in
+    let r = c .before .before .before .before in
+    let a = r .before .before .before .before .args in
     stabilise-answers (a .vector .now) (a .gaps .now) (c .before .stabilise-run .last .0) (c .before .stabilise-run .result)
-    (sym (b .refusal .ensures) ∙ c .before .before .before .if1 .taken)
+    (accepted (a .vector .now) (a .gaps .now) (lengths-right (r .before)) (rule-is r true (c .before .before .before .if2 .taken)))
     (c .before .stabilise-run .ensures)
 
 same-length-2 : tie.Need-same-length-2
@@ -32,12 +60,28 @@ same-length-2 c = search needs
 
 returns-2 : tie.Need-returns-2
 returns-2 c =
+    let r = c .before in
+    let a = r .before .before .before .before .args in
+    refused-gaps (a .vector .now) (a .gaps .now) (lengths-right (r .before)) (rule-is r false (c .if2 .left))
+
+same-length-3 : tie.Need-same-length-3
+same-length-3 c = search needs
+
+returns-3 : tie.Need-returns-3
+returns-3 c =
     let a = c .before .before .before .args in
-    let e = c .before .refusal .ensures in
-    ap (λ (n : ℕ). called (a .vector .now) n 0) e
-    ∙ stabilise-refuses (a .vector .now) (a .gaps .now) (λ h. c .if1 .left (e ∙ h))
+    refused-lengths (a .vector .now) (a .gaps .now) (sym (c .before .lengths-ok .ensures) ∙ c .if1 .left)
 
 pub silk-NLSF-stabilize-spec : {M : Type 1} → statement M
 silk-NLSF-stabilize-spec =
     tie.close
-    (tie.spec refusal-requires stabilise-run-requires same-length returns same-length-2 returns-2)
+    (tie.spec
+    lengths-ok-requires
+    ruled-sum-run-requires
+    stabilise-run-requires
+    same-length
+    returns
+    same-length-2
+    returns-2
+    same-length-3
+    returns-3)

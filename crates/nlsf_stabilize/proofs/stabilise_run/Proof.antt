@@ -1,62 +1,73 @@
 -- `stabilise_run` meets its contract. The invariant: what is still to be run from here, with the moves made, is the whole answer.
 -- Assumes nothing.
-use Prim.Native.Nat.{ℕ, _-_, _≤_}
+use Prim.Native.Nat.{ℕ, _-_, _≤_, _<_}
 use mathlib.Core.Path.{_≡_, refl, sym, ap, subst, _∙_}
 use mathlib.Core.Bool.{true, false}
 use native.Mathlib.Omega.{arith}
 use borrow.Author.Needs.{needs, sfits-of}
 use lib.ListN.{length}
 use mir.Syntax.{w32}
-use mir.Val.{SFits}
+use mir.Val.{toZ, ofZ}
 use mir.Facts.{toZ-ofZ}
 use Rattle.spectrum.proofs.FirstSmallest.{after}
 use Rattle.spectrum.proofs.Kept.{length-move}
 use Rattle.spectrum.proofs.MoveBounds.{place-most}
+use Rattle.spectrum.specs.Distances.{place}
 use Rattle.spectrum.specs.Stabilising.{run, stabilise, kept16}
-use Rattle.nlsf_stabilize.proofs.MoveLaws.{keep-ok, run-start, tested, run-stop, run-on, run-out}
+use Rattle.nlsf_stabilize.specs.Asked.{smallestKey}
+use Rattle.nlsf_stabilize.proofs.MoveLaws.{keep-ok, run-start, tested, placed, run-stop, run-on, run-out}
 use Rattle.nlsf_stabilize.proofs.stabilise_run.Statement.{statement}
 use Rattle.nlsf_stabilize.proofs.stabilise_run.Tie as tie
 
 abbrev Inv-loop : tie.InvT-loop
-Inv-loop v₀ g m₀ v m = (m ≤ 20) × ((length v ≡ length v₀) × (after m (run kept16 (20 - m) g v) ≡ stabilise kept16 g v₀))
+Inv-loop v₀ g sum m₀ v m = (m ≤ 20) × ((length v ≡ length v₀) × (after m (run kept16 (20 - m) g v) ≡ stabilise kept16 g v₀))
 
 abbrev μ-loop : tie.MeasureT-loop
-μ-loop v₀ g m₀ v m = 20 - m
+μ-loop v₀ g sum m₀ v m = 20 - m
 
 loop-holds : tie.Need-loop-holds Inv-loop μ-loop
 loop-holds c = (omega arith, (refl, run-start (c .args .g .now) (c .args .v .now)))
 
+-- the smallest key of the loop's vector
+key-is : (c : tie.After-smallest-run Inv-loop μ-loop) → let b = c .before .before .before in
+    (toZ w32 (ofZ w32 (c .smallest-run .result)) ≡ smallestKey (b .before .args .g .now) (b .loop .v)) × (place (b .before .args .g .now) (b .loop .v) ≤ length (b .loop .v))
+key-is c =
+    let b = c .before .before .before in
+    let o = keep-ok (b .before .args .g .now) (b .before .args .v .now) (b .loop .v) 0 0 (b .before .pre .0) (b .loop .inv .1 .0) (omega arith) in
+    (toZ-ofZ {w = w32} (sfits-of (c .smallest-run .ok)) ∙ c .smallest-run .ensures, place-most (b .loop .v) (b .before .args .g .now) (o .long))
+
+few : (c : tie.After-smallest-run Inv-loop μ-loop) → let b = c .before .before .before in place (b .before .args .g .now) (b .loop .v) < 32
+few c = let b = c .before .before .before in omega (arith, key-is c .1, b .loop .inv .1 .0, b .before .pre .0 .few)
+
 smallest-run-requires : tie.Need-smallest-run-requires Inv-loop μ-loop
 smallest-run-requires c κs =
     let b = c .before .before in
-    let o = keep-ok (b .before .args .g .now) (b .before .args .v .now) (b .loop .v) 0 0 (b .before .pre) (b .loop .inv .1 .0) (omega arith) in (o .some, o .long)
-
-diff-at-run-requires : tie.Need-diff-at-run-requires Inv-loop μ-loop
-diff-at-run-requires c κs =
-    let b = c .before .before .before .before in
-    let o = keep-ok (b .before .args .g .now) (b .before .args .v .now) (b .loop .v) 0 0 (b .before .pre) (b .loop .inv .1 .0) (omega arith) in
-    (o .some, (o .long, subst (λ (n : ℕ). n ≤ length (b .loop .v)) (sym (c .before .smallest-run .ensures)) (place-most (b .loop .v) (b .before .args .g .now) (o .long))))
+    let o = keep-ok (b .before .args .g .now) (b .before .args .v .now) (b .loop .v) 0 0 (b .before .pre .0) (b .loop .inv .1 .0) (omega arith) in (o .some, (o .long, o .few))
 
 same-length : tie.Need-same-length Inv-loop μ-loop
-same-length c = c .before .before .before .before .before .before .loop .inv .1 .0
+same-length c = c .before .before .before .before .loop .inv .1 .0
 
 returns : tie.Need-returns Inv-loop μ-loop
 returns c =
-    let b = c .before .before .before .before .before .before in
+    let b = c .before .before .before .before in
     let g = b .before .args .g .now in
-    let d : SFits w32 (c .before .diff-at-run .result) = sfits-of (c .before .diff-at-run .ok) in
+    let k = toZ w32 (ofZ w32 (c .before .smallest-run .result)) in
     run-stop g (b .loop .v) (b .loop .m) (stabilise kept16 g (b .before .args .v .now)) (omega arith)
-    (tested g (b .loop .v) (c .before .before .before .smallest-run .result) (c .before .diff-at-run .result) true (c .before .before .before .smallest-run .ensures) (c .before .diff-at-run .ensures) (rw (toZ-ofZ {w = w32} d) at (c .if1 .taken)))
+    (tested g (b .loop .v) k (key-is (c .before) .0) (few (c .before)) true (c .if1 .taken))
     (b .loop .inv .1 .1)
+
+place-of-run-requires : tie.Need-place-of-run-requires Inv-loop μ-loop
+place-of-run-requires c κs = search needs
 
 move-at-run-requires : tie.Need-move-at-run-requires Inv-loop μ-loop
 move-at-run-requires c κs =
-    let b = c .before .before .before .before .before .before .before in
+    let t = c .before .before .before in
+    let b = t .before .before .before in
     let g = b .before .args .g .now in
     let v = b .loop .v in
-    let o = keep-ok g (b .before .args .v .now) v 0 0 (b .before .pre) (b .loop .inv .1 .0) (omega arith) in
-    keep-ok g v v 0 (c .before .before .before .before .smallest-run .result) o refl
-    (subst (λ (n : ℕ). n ≤ length v) (sym (c .before .before .before .before .smallest-run .ensures)) (place-most v g (o .long)))
+    let o = keep-ok g (b .before .args .v .now) v 0 0 (b .before .pre .0) (b .loop .inv .1 .0) (omega arith) in
+    let p = placed g v (toZ w32 (ofZ w32 (t .smallest-run .result))) (key-is t .0) (few t) (c .place-of-run .result) (c .place-of-run .ensures) in
+    rw (toZ-ofZ (b .before .fits .sum)) (keep-ok g v v 0 (c .place-of-run .result) o refl (subst (λ (n : ℕ). n ≤ length v) (sym p) (key-is t .1)), b .before .pre .1)
 
 add-m : tie.Need-add-m Inv-loop μ-loop
 add-m c = search needs
@@ -66,18 +77,19 @@ loop-less c = omega arith
 
 loop-again : tie.Need-loop-again Inv-loop μ-loop
 loop-again c =
-    let b = c .before .before .before .before .before .before .before .before .before in
+    let q = c .before .before in
+    let t = q .before .before .before in
+    let b = t .before .before .before in
     let g = b .before .args .g .now in
     let v = b .loop .v in
-    let t = c .before .before .before .before in
-    let i = t .before .before .smallest-run .result in
-    let d : SFits w32 (t .diff-at-run .result) = sfits-of (t .diff-at-run .ok) in (
+    let k = toZ w32 (ofZ w32 (t .smallest-run .result)) in
+    let i = q .place-of-run .result in (
       omega arith,
       (
         ap length (c .before .move-at-run .ensures) ∙ length-move kept16 g v i ∙ b .loop .inv .1 .0,
         run-on g v (c .before .move-at-run .last .0) i (b .loop .m) (stabilise kept16 g (b .before .args .v .now)) (omega arith)
-            (tested g v i (t .diff-at-run .result) false (t .before .before .smallest-run .ensures) (t .diff-at-run .ensures) (rw (toZ-ofZ {w = w32} d) at (c .before .before .before .if1 .left)))
-            (t .before .before .smallest-run .ensures)
+            (tested g v k (key-is t .0) (few t) false (q .before .before .if1 .left))
+            (placed g v k (key-is t .0) (few t) i (q .place-of-run .ensures))
             (c .before .move-at-run .ensures)
             (b .loop .inv .1 .1),
       ),
@@ -86,7 +98,7 @@ loop-again c =
 fall-back-run-requires : tie.Need-fall-back-run-requires Inv-loop μ-loop
 fall-back-run-requires c κs =
     let b = c .before .before in
-    let o = keep-ok (b .before .args .g .now) (b .before .args .v .now) (b .loop .v) 0 0 (b .before .pre) (b .loop .inv .1 .0) (omega arith) in (o .some, (o .long, o .rule))
+    let o = keep-ok (b .before .args .g .now) (b .before .args .v .now) (b .loop .v) 0 0 (b .before .pre .0) (b .loop .inv .1 .0) (omega arith) in (o .some, (o .long, o .rule))
 
 same-length-2 : tie.Need-same-length-2 Inv-loop μ-loop
 same-length-2 c = c .before .fall-back-run .kept .0 ∙ c .before .before .before .before .loop .inv .1 .0
@@ -105,9 +117,9 @@ stabilise-run-spec =
     μ-loop
     loop-holds
     smallest-run-requires
-    diff-at-run-requires
     same-length
     returns
+    place-of-run-requires
     move-at-run-requires
     add-m
     loop-less

@@ -1,11 +1,12 @@
 -- `narrow_run` meets its contract. Assumes nothing.
 use Prim.Native.Nat.{ℕ}
-use mathlib.Core.Path.{refl, sym, ap₂, subst⁻¹, _∙_}
-use mathlib.Core.List.{List, [], _∷_}
+use mathlib.Core.Path.{_≡_, refl, sym, ap₂, subst⁻¹, _∙_}
+use mathlib.Core.List.{List, [], _∷_, map}
 use borrow.Author.Needs.{needs}
-use lib.IntN.{ℤ}
+use lib.IntN.{ℤ, pos}
 use Rattle.sheet.specs.Books.{narrowBook, narrow-shaped}
 use Rattle.spectrum.proofs.BookLaws.{narrow-usable}
+use Rattle.spectrum.specs.Values.{total}
 use Rattle.nlsf_stabilize.specs.Asked.{MoveOk}
 use Rattle.nlsf_places.specs.Asked.{Rows, rows}
 use Rattle.nlsf_decode.proofs.RowLaws.{RowsOf, both-lists, stabilised-by, places-ok, book-moves}
@@ -16,30 +17,34 @@ use Rattle.nlsf_decode.proofs.narrow.narrow_run.Tie as tie
 -- the rows that are lent, and that they are the book's
 abbrev lent : tie.After-predictors2 → Rows
 lent d =
-    rows 11796 (d .before .before .selectors .result) (d .before .predictors .result) (d .predictors2 .result)
-    (d .before .before .before .before .values .result) (d .before .before .before .weights .result)
+    rows 11796 (d .before .before .narrow-selectors .result) (d .before .predictors .result) (d .predictors2 .result)
+    (d .before .before .before .before .narrow-vector .result) (d .before .before .before .narrow-weights .result)
 
 lent-are : (d : tie.After-predictors2) → RowsOf narrowBook (d .before .before .before .before .before .args .v) (lent d)
 unfolding narrowBook
 lent-are d =
     record {
       step = refl;
-      selectors = d .before .before .selectors .ensures;
+      selectors = d .before .before .narrow-selectors .ensures;
       predictors =
           ap₂ (λ (p q : List ℕ). p ∷ q ∷ []) (d .before .predictors .ensures) (d .predictors2 .ensures)
           ∙ both-lists (narrowBook .predictors) (narrow-shaped .predictors .count);
-      values = d .before .before .before .before .values .ensures;
-      weights = d .before .before .before .weights .ensures;
+      values = d .before .before .before .before .narrow-vector .ensures;
+      weights = d .before .before .before .narrow-weights .ensures;
     }
 
-values-requires : tie.Need-values-requires
-values-requires c κs = search needs
+gap-total : total (map pos (narrowBook .gaps)) ≡ pos 742
+unfolding narrowBook total
+gap-total = refl
 
-weights-requires : tie.Need-weights-requires
-weights-requires c κs = search needs
+narrow-vector-requires : tie.Need-narrow-vector-requires
+narrow-vector-requires c κs = search needs
 
-selectors-requires : tie.Need-selectors-requires
-selectors-requires c κs = search needs
+narrow-weights-requires : tie.Need-narrow-weights-requires
+narrow-weights-requires c κs = search needs
+
+narrow-selectors-requires : tie.Need-narrow-selectors-requires
+narrow-selectors-requires c κs = search needs
 
 predictors-requires : tie.Need-predictors-requires
 predictors-requires c κs = search needs
@@ -80,8 +85,8 @@ stabilise-run-requires c κs =
     let p = c .before .before .before .before in
     let s = p .before .before .before .before .before .before .before .before .before .before .before .before in
     let u = p .places-run .last .0 in
-    subst⁻¹ (λ (g : List ℤ). MoveOk g u 0) (c .before .before .narrow-gaps .ensures)
-    (book-moves narrowBook narrow-usable u (p .places-run .kept .0 ∙ s .pre .long ∙ sym (narrow-shaped .order)))
+    subst⁻¹ (λ (g : List ℤ). MoveOk g u 0 × (pos 742 ≡ total g)) (c .before .before .narrow-gaps .ensures)
+    (book-moves narrowBook narrow-usable u (p .places-run .kept .0 ∙ s .pre .long ∙ sym (narrow-shaped .order)), sym gap-total)
 
 same-length : tie.Need-same-length
 same-length c = search needs
@@ -99,9 +104,9 @@ pub narrow-run-spec : {M : Type 1} → statement M
 narrow-run-spec =
     tie.close
     (tie.spec
-    values-requires
-    weights-requires
-    selectors-requires
+    narrow-vector-requires
+    narrow-weights-requires
+    narrow-selectors-requires
     predictors-requires
     predictors-requires-2
     slice-aggregate-places-run

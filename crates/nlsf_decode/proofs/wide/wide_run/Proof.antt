@@ -1,11 +1,12 @@
 -- `wide_run` meets its contract. Assumes nothing.
 use Prim.Native.Nat.{ℕ}
-use mathlib.Core.Path.{refl, sym, ap₂, subst⁻¹, _∙_}
-use mathlib.Core.List.{List, [], _∷_}
+use mathlib.Core.Path.{_≡_, refl, sym, ap₂, subst⁻¹, _∙_}
+use mathlib.Core.List.{List, [], _∷_, map}
 use borrow.Author.Needs.{needs}
-use lib.IntN.{ℤ}
+use lib.IntN.{ℤ, pos}
 use Rattle.sheet.specs.Books.{wideBook, wide-shaped}
 use Rattle.spectrum.proofs.BookLaws.{wide-usable}
+use Rattle.spectrum.specs.Values.{total}
 use Rattle.nlsf_stabilize.specs.Asked.{MoveOk}
 use Rattle.nlsf_places.specs.Asked.{Rows, rows}
 use Rattle.nlsf_decode.proofs.RowLaws.{RowsOf, both-lists, stabilised-by, places-ok, book-moves}
@@ -16,30 +17,34 @@ use Rattle.nlsf_decode.proofs.wide.wide_run.Tie as tie
 -- the rows that are lent, and that they are the book's
 abbrev lent : tie.After-predictors2 → Rows
 lent d =
-    rows 9830 (d .before .before .selectors .result) (d .before .predictors .result) (d .predictors2 .result)
-    (d .before .before .before .before .values .result) (d .before .before .before .weights .result)
+    rows 9830 (d .before .before .wide-selectors .result) (d .before .predictors .result) (d .predictors2 .result)
+    (d .before .before .before .before .wide-vector .result) (d .before .before .before .wide-weights .result)
 
 lent-are : (d : tie.After-predictors2) → RowsOf wideBook (d .before .before .before .before .before .args .v) (lent d)
 unfolding wideBook
 lent-are d =
     record {
       step = refl;
-      selectors = d .before .before .selectors .ensures;
+      selectors = d .before .before .wide-selectors .ensures;
       predictors =
           ap₂ (λ (p q : List ℕ). p ∷ q ∷ []) (d .before .predictors .ensures) (d .predictors2 .ensures)
           ∙ both-lists (wideBook .predictors) (wide-shaped .predictors .count);
-      values = d .before .before .before .before .values .ensures;
-      weights = d .before .before .before .weights .ensures;
+      values = d .before .before .before .before .wide-vector .ensures;
+      weights = d .before .before .before .wide-weights .ensures;
     }
 
-values-requires : tie.Need-values-requires
-values-requires c κs = search needs
+gap-total : total (map pos (wideBook .gaps)) ≡ pos 583
+unfolding wideBook total
+gap-total = refl
 
-weights-requires : tie.Need-weights-requires
-weights-requires c κs = search needs
+wide-vector-requires : tie.Need-wide-vector-requires
+wide-vector-requires c κs = search needs
 
-selectors-requires : tie.Need-selectors-requires
-selectors-requires c κs = search needs
+wide-weights-requires : tie.Need-wide-weights-requires
+wide-weights-requires c κs = search needs
+
+wide-selectors-requires : tie.Need-wide-selectors-requires
+wide-selectors-requires c κs = search needs
 
 predictors-requires : tie.Need-predictors-requires
 predictors-requires c κs = search needs
@@ -80,8 +85,8 @@ stabilise-run-requires c κs =
     let p = c .before .before .before .before in
     let s = p .before .before .before .before .before .before .before .before .before .before .before .before in
     let u = p .places-run .last .0 in
-    subst⁻¹ (λ (g : List ℤ). MoveOk g u 0) (c .before .before .wide-gaps .ensures)
-    (book-moves wideBook wide-usable u (p .places-run .kept .0 ∙ s .pre .long ∙ sym (wide-shaped .order)))
+    subst⁻¹ (λ (g : List ℤ). MoveOk g u 0 × (pos 583 ≡ total g)) (c .before .before .wide-gaps .ensures)
+    (book-moves wideBook wide-usable u (p .places-run .kept .0 ∙ s .pre .long ∙ sym (wide-shaped .order)), sym gap-total)
 
 same-length : tie.Need-same-length
 same-length c = search needs
@@ -99,9 +104,9 @@ pub wide-run-spec : {M : Type 1} → statement M
 wide-run-spec =
     tie.close
     (tie.spec
-    values-requires
-    weights-requires
-    selectors-requires
+    wide-vector-requires
+    wide-weights-requires
+    wide-selectors-requires
     predictors-requires
     predictors-requires-2
     slice-aggregate-places-run

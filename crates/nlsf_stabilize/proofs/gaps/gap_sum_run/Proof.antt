@@ -1,53 +1,18 @@
 -- `gap_sum_run` meets its contract. The invariant: the sum so far, and that it lies within 32,768 for each number passed. Assumes nothing.
-use Prim.Native.Nat.{ℕ, _+_, _-_, _*_, _≤_, _<_}
+use Prim.Native.Nat.{_-_, _≤_, _<_}
 use mathlib.Core.Path.{_≡_, refl, sym, ap, _∙_}
-use mathlib.Core.List.{List, [], _∷_, _++_}
 use native.Mathlib.Omega.{arith}
-use native.Mathlib.Numerals.{add-one}
 use borrow.Author.Needs.{needs, sfits-of}
-use lib.IntN.{ℤ, pos, _+ℤ_, +ℤ-idl, +ℤ-idr, +ℤ-assoc}
+use lib.IntN.{ℤ, _+ℤ_}
 use lib.ListN.{length, take}
-use lib.Seq.{take-suc, take-length}
+use lib.Seq.{take-length}
 use mir.Syntax.{w16, w32}
-use mir.Val.{SFits, toZ, ofZ}
+use mir.Val.{SFits, toZ}
 use mir.Facts.{toZ-ofZ, sfits-widen}
-use Rattle.ints.specs.Parts.{up, down}
-use Rattle.ints.specs.Sums.{up-sum, down-sum}
-use Rattle.ints.specs.Widths.{fits-up, fits-down, parts-fit}
 use Rattle.spectrum.specs.Values.{at, total}
+use Rattle.nlsf_stabilize.proofs.SumLaws.{Near, sum-more, read, nearer, fits}
 use Rattle.nlsf_stabilize.proofs.gaps.gap_sum_run.Statement.{statement}
 use Rattle.nlsf_stabilize.proofs.gaps.gap_sum_run.Tie as tie
-
--- after i numbers of 16 bits
-pub record Near (i : ℕ) (z : ℤ) : Type 0 where
-  pub high : up z ≤ 32768 * i
-  pub low : down z ≤ 32768 * i
-
-sum-snoc : (a : List ℤ) (x : ℤ) → total (a ++ (x ∷ [])) ≡ total a +ℤ x
-unfolding total
-sum-snoc [] x = +ℤ-idr x ∙ sym (+ℤ-idl x)
-sum-snoc (y ∷ a) x = ap (λ (z : ℤ). y +ℤ z) (sum-snoc a x) ∙ sym (+ℤ-assoc y (total a) x)
-
-sum-more : (s : List ℤ) (i : ℕ) → i < length s → total (take (i + 1) s) ≡ total (take i s) +ℤ at s i
-sum-more s i h = rw (add-one) (ap total (take-suc s i (pos 0) h) ∙ sum-snoc (take i s) (at s i))
-
--- one turn: the number read, and the sum with it
-module _ (i : ℕ) (a x : ℤ) (near : Near i a) (l : i < 17) (f : SFits w16 x) where
-  wide : SFits w32 x
-  wide = sfits-widen {w = w16} tt f
-
-  read : toZ w32 (ofZ w32 (toZ w16 (ofZ w16 x))) ≡ x
-  read = simp (toZ-ofZ f, toZ-ofZ {w = w32} wide)
-
-  nearer : Near (i + 1) (a +ℤ x)
-  nearer =
-      record {
-        high = omega (arith, near .high, up-sum a x, fits-up x f);
-        low = omega (arith, near .low, down-sum a x, fits-down x f);
-      }
-
-  fits : SFits w32 (a +ℤ x)
-  fits = parts-fit (a +ℤ x) (omega (arith, nearer .high)) (omega (arith, nearer .low))
 
 abbrev Inv-loop : tie.InvT-loop
 Inv-loop s acc₀ i₀ acc i = (i ≤ length s) × (length s ≤ 17) × Near i (toZ w32 acc) × (toZ w32 acc ≡ total (take i s))

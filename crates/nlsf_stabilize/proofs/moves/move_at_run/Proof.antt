@@ -4,16 +4,35 @@ use mathlib.Core.Path.{_≡_, _∙_}
 use native.Mathlib.Omega.{arith}
 use borrow.Author.Needs.{needs, sfits-of}
 use lib.IntN.{pos, _+ℤ_, _-ℤ_}
-use lib.ListN.{length, take, drop, length-set}
+use lib.ListN.{take, drop, length-set}
 use mir.Syntax.{w16, w32}
 use mir.Val.{SFits, toZ, ofZ}
 use mir.Facts.{toZ-ofZ}
 use Rattle.ints.specs.Wrap.{wrap16}
 use Rattle.spectrum.specs.Values.{at, top, held, half, total}
-use Rattle.nlsf_stabilize.proofs.MoveLaws.{part-before, part-behind, pair-ok, move-first, last-fits, move-last, move-between}
+use Rattle.nlsf_stabilize.proofs.MoveLaws.{part-before, sums-near, part-behind, pair-ok, move-first, last-fits, move-last, move-between}
 use Rattle.nlsf_stabilize.proofs.Widened.{wide}
 use Rattle.nlsf_stabilize.proofs.moves.move_at_run.Statement.{statement}
 use Rattle.nlsf_stabilize.proofs.moves.move_at_run.Tie as tie
+
+-- the sum before the gap, and the one behind it
+before-is : (q : tie.After-gap-sum-run) → let b = q .before .before .before .before in
+    toZ w32 (ofZ w32 (q .gap-sum-run .result)) ≡ total (take (b .args .i) (b .args .g .now))
+before-is q =
+    let b = q .before .before .before .before in
+    toZ-ofZ {w = w32} (sfits-of (q .gap-sum-run .ok)) ∙ q .gap-sum-run .ensures ∙ part-before (b .args .g .now) (b .args .i)
+
+behind-is : (r : tie.After-rest) → let b = r .before .before .before .before .before .before in
+    toZ w32 (ofZ w32 (r .rest .result)) ≡ total (drop (suc (b .args .i)) (b .args .g .now))
+behind-is r =
+    let q = r .before .before in
+    let d = q .before .before in
+    let b = d .before .before in
+    let g = b .args .g .now in
+    let i = b .args .i in
+    let k : SFits w16 (at g i) = sfits-of (r .before .rest-arg .given) in
+    let e : r .rest .result ≡ (total g -ℤ total (take i g)) -ℤ at g i = rw (toZ-ofZ (b .fits .sum), before-is q, b .pre .1, toZ-ofZ k) at (r .rest .ensures) in
+    toZ-ofZ {w = w32} (sfits-of (r .rest .ok)) ∙ e ∙ part-behind g (b .args .v .now) i (b .pre .0) (d .if2 .left)
 
 shared-slice-copy-out-v : tie.Need-shared-slice-copy-out-v
 shared-slice-copy-out-v c = search needs
@@ -28,7 +47,7 @@ returns : tie.Need-returns
 returns c =
     let b = c .before .before in
     let k : SFits w16 (at (b .args .g .now) 0) = sfits-of (c .v .given) in
-    rw (toZ-ofZ k) (move-first (b .args .g .now) (b .args .v .now) (b .args .i) (c .before .if1 .taken) (b .pre))
+    rw (toZ-ofZ k) (move-first (b .args .g .now) (b .args .v .now) (b .args .i) (c .before .if1 .taken) (b .pre .0))
 
 mul-v : tie.Need-mul-v
 mul-v c = search needs
@@ -45,20 +64,20 @@ sub-v : tie.Need-sub-v
 sub-v c =
     let b = c .before .before .before in
     let k : SFits w16 (at (b .args .g .now) (b .args .i)) = sfits-of (c .v2 .given) in
-    rw (toZ-ofZ k, toZ-ofZ (wide k)) (wide (last-fits (b .args .g .now) (b .args .v .now) (b .args .i) (c .before .if2 .taken) (b .pre)))
+    rw (toZ-ofZ k, toZ-ofZ (wide k)) (wide (last-fits (b .args .g .now) (b .args .v .now) (b .args .i) (c .before .if2 .taken) (b .pre .0)))
 
 cast-v-2 : tie.Need-cast-v-2
 cast-v-2 c =
     let b = c .before .before .before in
     let k : SFits w16 (at (b .args .g .now) (b .args .i)) = sfits-of (c .v2 .given) in
-    let o = last-fits (b .args .g .now) (b .args .v .now) (b .args .i) (c .before .if2 .taken) (b .pre) in
+    let o = last-fits (b .args .g .now) (b .args .v .now) (b .args .i) (c .before .if2 .taken) (b .pre .0) in
     rw (toZ-ofZ k, toZ-ofZ (wide k), toZ-ofZ (wide o)) o
 
-sub-t19 : tie.Need-sub-t19
-sub-t19 c = search needs
+sub-t20 : tie.Need-sub-t20
+sub-t20 c = search needs
 
-mul-t20 : tie.Need-mul-t20
-mul-t20 c = search needs
+mul-t21 : tie.Need-mul-t21
+mul-t21 c = search needs
 
 slice-set-from-v-2 : tie.Need-slice-set-from-v-2
 slice-set-from-v-2 c = search needs
@@ -70,8 +89,8 @@ returns-2 : tie.Need-returns-2
 returns-2 c =
     let b = c .before .before .before in
     let k : SFits w16 (at (b .args .g .now) (b .args .i)) = sfits-of (c .v2 .given) in
-    let o = last-fits (b .args .g .now) (b .args .v .now) (b .args .i) (c .before .if2 .taken) (b .pre) in
-    rw (toZ-ofZ k, toZ-ofZ (wide k), toZ-ofZ (wide o), toZ-ofZ o) (move-last (b .args .g .now) (b .args .v .now) (b .args .i) (c .before .if2 .taken) (omega arith) (b .pre))
+    let o = last-fits (b .args .g .now) (b .args .v .now) (b .args .i) (c .before .if2 .taken) (b .pre .0) in
+    rw (toZ-ofZ k, toZ-ofZ (wide k), toZ-ofZ (wide o), toZ-ofZ o) (move-last (b .args .g .now) (b .args .v .now) (b .args .i) (c .before .if2 .taken) (omega arith) (b .pre .0))
 
 sub-gap-sum-run : tie.Need-sub-gap-sum-run
 sub-gap-sum-run c = search needs
@@ -85,26 +104,17 @@ part-gap-sum-run-end c = search needs
 gap-sum-run-requires : tie.Need-gap-sum-run-requires
 gap-sum-run-requires c κs = search needs
 
-add-gap-sum-run : tie.Need-add-gap-sum-run
-add-gap-sum-run c = search needs
+mul-rest : tie.Need-mul-rest
+mul-rest c = search needs
 
-add-gap-sum-run-2 : tie.Need-add-gap-sum-run-2
-add-gap-sum-run-2 c = search needs
+shared-slice-copy-out-rest : tie.Need-shared-slice-copy-out-rest
+shared-slice-copy-out-rest c = search needs
 
-mul-gap-sum-run : tie.Need-mul-gap-sum-run
-mul-gap-sum-run c = search needs
-
-sub-gap-sum-run-2 : tie.Need-sub-gap-sum-run-2
-sub-gap-sum-run-2 c = search needs
-
-part-gap-sum-run-start-2 : tie.Need-part-gap-sum-run-start-2
-part-gap-sum-run-start-2 c = search needs
-
-part-gap-sum-run-end-2 : tie.Need-part-gap-sum-run-end-2
-part-gap-sum-run-end-2 c = search needs
-
-gap-sum-run-requires-2 : tie.Need-gap-sum-run-requires-2
-gap-sum-run-requires-2 c κs = search needs
+rest-requires : tie.Need-rest-requires
+rest-requires c κs =
+    let d = c .before .before .before in
+    let b = d .before .before in
+    rw (toZ-ofZ (b .fits .sum), before-is (c .before), b .pre .1) (sums-near (b .args .g .now) (b .args .v .now) (b .args .i) (b .pre .0) (d .if2 .left))
 
 sub-pair-low : tie.Need-sub-pair-low
 sub-pair-low c = search needs
@@ -135,9 +145,7 @@ pair-low-requires c κs =
     let v = b .args .v .now in
     let i = b .args .i in
     let k : SFits w16 (at g i) = sfits-of (c .pair-low-arg3 .given) in
-    let s1 : toZ w32 (ofZ w32 (c .before .before .before .before .before .gap-sum-run .result)) ≡ total (take i g) = toZ-ofZ {w = w32} (sfits-of (c .before .before .before .before .before .gap-sum-run .ok)) ∙ c .before .before .before .before .before .gap-sum-run .ensures ∙ part-before g i in
-    let s2 : toZ w32 (ofZ w32 (c .before .before .before .gap-sum-run2 .result)) ≡ total (drop (suc i) g) = toZ-ofZ {w = w32} (sfits-of (c .before .before .before .gap-sum-run2 .ok)) ∙ c .before .before .before .gap-sum-run2 .ensures ∙ part-behind g (length v) i (b .pre .long) in
-    rw (toZ-ofZ k, s1, s2) (pair-ok g v i (b .pre) (d .if2 .left))
+    rw (toZ-ofZ k, before-is (c .before .before .before .before .before), behind-is (c .before .before .before)) (pair-ok g v i (b .pre .0) (d .if2 .left))
 
 mul-add16 : tie.Need-mul-add16
 mul-add16 c = search needs
@@ -163,7 +171,7 @@ mul-b c = search needs
 slice-set-from-b : tie.Need-slice-set-from-b
 slice-set-from-b c =
     let d = c .before .before .before .before .before .before .before .before .before .before in
-    let b = d .before .before in rw length-set (omega (arith, b .pre .place))
+    let b = d .before .before in rw length-set (omega (arith, b .pre .0 .place))
 
 same-length-3 : tie.Need-same-length-3
 same-length-3 c = search needs
@@ -181,13 +189,13 @@ returns-3 c =
     let f1 : SFits w16 (at v i) = sfits-of (p .before .before .pair-low-arg2 .given) in
     let f0 : SFits w16 (at v (i - 1)) = sfits-of (p .before .before .before .pair-low-arg .given) in
     let q = p .before .before .before .before in
-    let s1 : toZ w32 (ofZ w32 (q .before .before .gap-sum-run .result)) ≡ total (take i g) = toZ-ofZ {w = w32} (sfits-of (q .before .before .gap-sum-run .ok)) ∙ q .before .before .gap-sum-run .ensures ∙ part-before g i in
-    let s2 : toZ w32 (ofZ w32 (q .gap-sum-run2 .result)) ≡ total (drop (suc i) g) = toZ-ofZ {w = w32} (sfits-of (q .gap-sum-run2 .ok)) ∙ q .gap-sum-run2 .ensures ∙ part-behind g (length v) i (b .pre .long) in
+    let s1 = before-is (q .before .before) in
+    let s2 = behind-is q in
     let x : SFits w16 (p .pair-low .result) = sfits-of (p .pair-low .ok) in
     let y : SFits w16 (c .add16 .result) = sfits-of (c .add16 .ok) in
     let e : p .pair-low .result ≡ held (total (take i g) +ℤ half (at g i)) ((top -ℤ total (drop (suc i) g)) -ℤ half (at g i)) (half (at v (i - 1) +ℤ at v i +ℤ pos 1)) -ℤ half (at g i) = rw (toZ-ofZ k, toZ-ofZ f0, toZ-ofZ f1, s1, s2) at (p .pair-low .ensures) in
     let w : c .add16 .result ≡ wrap16 (p .pair-low .result +ℤ at g i) = rw (toZ-ofZ x, toZ-ofZ k2) at (c .add16 .ensures) in
-    rw (toZ-ofZ x, toZ-ofZ y) (move-between g v i (p .pair-low .result) (c .add16 .result) (d .if2 .left) (omega arith) (b .pre) e w)
+    rw (toZ-ofZ x, toZ-ofZ y) (move-between g v i (p .pair-low .result) (c .add16 .result) (d .if2 .left) (omega arith) (b .pre .0) e w)
 
 pub move-at-run-spec : {M : Type 1} → statement M
 move-at-run-spec =
@@ -202,8 +210,8 @@ move-at-run-spec =
     cast-v
     sub-v
     cast-v-2
-    sub-t19
-    mul-t20
+    sub-t20
+    mul-t21
     slice-set-from-v-2
     same-length-2
     returns-2
@@ -211,13 +219,9 @@ move-at-run-spec =
     part-gap-sum-run-start
     part-gap-sum-run-end
     gap-sum-run-requires
-    add-gap-sum-run
-    add-gap-sum-run-2
-    mul-gap-sum-run
-    sub-gap-sum-run-2
-    part-gap-sum-run-start-2
-    part-gap-sum-run-end-2
-    gap-sum-run-requires-2
+    mul-rest
+    shared-slice-copy-out-rest
+    rest-requires
     sub-pair-low
     mul-pair-low
     slice-copy-out-pair-low

@@ -1,8 +1,8 @@
 -- `selectors_entry` of the narrow book meets its contract: the rows are 5 wide. Assumes nothing.
 use borrow.Author.Needs.{needs}
-use Prim.Native.Nat.{ℕ, _/_, _%_}
+use Prim.Native.Nat.{ℕ, _%_}
 use mathlib.Core.Path.{sym, ap, _∙_}
-use mathlib.Core.List.{List, []}
+use mathlib.Core.List.{List}
 use lib.Dec.{lit<}
 use lib.ListN.{getD}
 use Rattle.lists.specs.Rows.{grid-past, grid-inside}
@@ -17,27 +17,21 @@ returns c = sym (grid-past 32 5 (narrowBook .selectors) (narrow-shaped .selector
 narrow-selectors-requires : tie.Need-narrow-selectors-requires
 narrow-selectors-requires c κs = search needs
 
-mul-byte : tie.Need-mul-byte
-mul-byte c = search needs
-
-index-1-byte : tie.Need-index-1-byte
-index-1-byte c = search needs
-
-index-2-byte : tie.Need-index-2-byte
-index-2-byte c = search needs
+array-read-byte : tie.Need-array-read-byte
+array-read-byte c = search needs
 
 byte-requires : tie.Need-byte-requires
 byte-requires c κs = search needs
 
 returns-2 : tie.Need-returns-2
 returns-2 c =
-    let b = c .before .before .before in
+    let b = c .before .before in
     let i = b .before .args .place in
     c .byte .ensures
-    ∙ ap (λ (t : List (List ℕ)). getD (getD t (i / 5) []) (i % 5) 0) (c .before .before .narrow-selectors .ensures)
+    ∙ ap (λ (r : List ℕ). getD r (i % 5) 0) (c .before .narrow-selectors .ensures)
     ∙ grid-inside 32 5 (narrowBook .selectors) (narrow-shaped .selectors) (lit< tt) i 0 noEntry (b .if1 .left)
 
 pub selectors-entry-spec : {M : Type 1} → statement M
 selectors-entry-spec =
     tie.close
-    (tie.spec returns narrow-selectors-requires mul-byte index-1-byte index-2-byte byte-requires returns-2)
+    (tie.spec returns narrow-selectors-requires array-read-byte byte-requires returns-2)

@@ -1,8 +1,8 @@
 -- `weights_entry` of the narrow book meets its contract: the rows are 10 wide. Assumes nothing.
 use borrow.Author.Needs.{needs}
-use Prim.Native.Nat.{ℕ, _/_, _%_}
+use Prim.Native.Nat.{ℕ, _%_}
 use mathlib.Core.Path.{sym, ap, _∙_}
-use mathlib.Core.List.{List, []}
+use mathlib.Core.List.{List}
 use lib.Dec.{lit<}
 use lib.ListN.{getD}
 use Rattle.lists.specs.Rows.{grid-past, grid-inside}
@@ -20,27 +20,21 @@ narrow-weights-requires c κs = search needs
 mul-word : tie.Need-mul-word
 mul-word c = search needs
 
-mul-word-2 : tie.Need-mul-word-2
-mul-word-2 c = search needs
-
-index-1-word : tie.Need-index-1-word
-index-1-word c = search needs
-
-index-2-word : tie.Need-index-2-word
-index-2-word c = search needs
+array-read-word : tie.Need-array-read-word
+array-read-word c = search needs
 
 word-requires : tie.Need-word-requires
 word-requires c κs = search needs
 
 returns-2 : tie.Need-returns-2
 returns-2 c =
-    let b = c .before .before .before in
+    let b = c .before .before in
     let i = b .before .args .place in
     c .word .ensures
-    ∙ ap (λ (t : List (List ℕ)). getD (getD t (i / 10) []) (i % 10) 0) (c .before .before .narrow-weights .ensures)
+    ∙ ap (λ (r : List ℕ). getD r (i % 10) 0) (c .before .narrow-weights .ensures)
     ∙ grid-inside 32 10 (narrowBook .weights) (narrow-shaped .weights) (lit< tt) i 0 noEntry (b .if1 .left)
 
 pub weights-entry-spec : {M : Type 1} → statement M
 weights-entry-spec =
     tie.close
-    (tie.spec returns narrow-weights-requires mul-word mul-word-2 index-1-word index-2-word word-requires returns-2)
+    (tie.spec returns narrow-weights-requires mul-word array-read-word word-requires returns-2)

@@ -1,8 +1,8 @@
 -- `vectors_entry` of the wide book meets its contract: the rows are 16 wide. Assumes nothing.
 use borrow.Author.Needs.{needs}
-use Prim.Native.Nat.{ℕ, _/_, _%_}
+use Prim.Native.Nat.{ℕ, _%_}
 use mathlib.Core.Path.{sym, ap, _∙_}
-use mathlib.Core.List.{List, []}
+use mathlib.Core.List.{List}
 use lib.Dec.{lit<}
 use lib.ListN.{getD}
 use Rattle.lists.specs.Rows.{grid-past, grid-inside}
@@ -14,30 +14,24 @@ use Rattle.table_entries.proofs.wide.vectors_entry.Tie as tie
 returns : tie.Need-returns
 returns c = sym (grid-past 32 16 (wideBook .vectors) (wide-shaped .vectors) (c .before .args .place) noEntry (c .if1 .taken))
 
-wide-vectors-requires : tie.Need-wide-vectors-requires
-wide-vectors-requires c κs = search needs
+wide-vector-requires : tie.Need-wide-vector-requires
+wide-vector-requires c κs = search needs
 
-mul-byte : tie.Need-mul-byte
-mul-byte c = search needs
-
-index-1-byte : tie.Need-index-1-byte
-index-1-byte c = search needs
-
-index-2-byte : tie.Need-index-2-byte
-index-2-byte c = search needs
+array-read-byte : tie.Need-array-read-byte
+array-read-byte c = search needs
 
 byte-requires : tie.Need-byte-requires
 byte-requires c κs = search needs
 
 returns-2 : tie.Need-returns-2
 returns-2 c =
-    let b = c .before .before .before in
+    let b = c .before .before in
     let i = b .before .args .place in
     c .byte .ensures
-    ∙ ap (λ (t : List (List ℕ)). getD (getD t (i / 16) []) (i % 16) 0) (c .before .before .wide-vectors .ensures)
+    ∙ ap (λ (r : List ℕ). getD r (i % 16) 0) (c .before .wide-vector .ensures)
     ∙ grid-inside 32 16 (wideBook .vectors) (wide-shaped .vectors) (lit< tt) i 0 noEntry (b .if1 .left)
 
 pub vectors-entry-spec : {M : Type 1} → statement M
 vectors-entry-spec =
     tie.close
-    (tie.spec returns wide-vectors-requires mul-byte index-1-byte index-2-byte byte-requires returns-2)
+    (tie.spec returns wide-vector-requires array-read-byte byte-requires returns-2)
