@@ -168,6 +168,19 @@ pub fn ec_dec_icdf(packet: &[u8], d: Dec, table: &[u8], scale: u32) -> Decoded
     }
 }
 
+// The same for a packet view. A function of this size is inlined only where it has one caller, and the exported call needs it inlined: that answer is
+// not copied once more.
+pub fn ec_dec_icdf_of_view(packet: &[u8], d: Dec, table: &[u8], scale: u32) -> Decoded
+    ensures { λ a. ⌜ a ≡ decSym (now (packet .entry)) d (tab scale (now (table .entry))) ⌝ }
+{
+    let n = refusals::first_refusal(gate(packet, d), icdf::icdf_rule(table, scale));
+    if n == 0 {
+        entdec_run::ec_dec_icdf_run(packet, d, table, scale)
+    } else {
+        refused(n, d)
+    }
+}
+
 // A number below ft.
 pub fn ec_dec_uint(packet: &[u8], d: Dec, ft: u32) -> Decoded
     ensures { λ a. ⌜ a ≡ decSym (now (packet .entry)) d (num ft) ⌝ }

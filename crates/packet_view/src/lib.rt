@@ -80,7 +80,7 @@ pub fn symbol<'a>(view: PacketView<'a>, table: &[u8], scale: u32) -> PacketRead<
     ensures { λ a. ⌜ a ≡ viewSym (view .entry) (tab scale (now (table .entry))) ⌝ }
 {
     let packet = view.packet;
-    let read = entdec::ec_dec_icdf(packet, view.reader, table, scale);
+    let read = entdec::ec_dec_icdf_of_view(packet, view.reader, table, scale);
     PacketRead { packet, read }
 }
 

@@ -1,4 +1,4 @@
--- `packet_view::symbol` meets its contract: a walk of its MIR, by hand. The view is taken apart, `ec_dec_icdf` is called on packet, state, table and
+-- `packet_view::symbol` meets its contract: a walk of its MIR, by hand. The view is taken apart, `ec_dec_icdf_of_view` is called on packet, state, table and
 -- scale, and its answer is put behind the packet. Assumes nothing.
 use Prim.Native.Nat.{ℕ, _<_, _^_}
 use mathlib.Core.Path.{_≡_, refl, ap, subst⁻¹}
@@ -45,10 +45,10 @@ use Rattle.entcode.proofs.Dec as N
 use Rattle.entcode.proofs.Dec.Laws as N′
 use Rattle.entcode.proofs.Decoded as D
 use Rattle.entcode.proofs.Decoded.Laws as D′
-use Rattle.entdec.proofs.ec_dec_icdf as by-value
-use Rattle.entdec.proofs.ec_dec_icdf.Symbol as called
-use Rattle.entdec.proofs.ec_dec_icdf.Symbol.{name as #called}
-use Rattle.entdec.proofs.ec_dec_icdf.Met as called-thm
+use Rattle.entdec.proofs.ec_dec_icdf_of_view as by-value
+use Rattle.entdec.proofs.ec_dec_icdf_of_view.Symbol as called
+use Rattle.entdec.proofs.ec_dec_icdf_of_view.Symbol.{name as #called}
+use Rattle.entdec.proofs.ec_dec_icdf_of_view.Met as called-thm
 use Rattle.packet_view.specs.View.{handed}
 use Rattle.packet_view.specs.declared.PacketView.{PacketView}
 use Rattle.packet_view.proofs.PacketView as View
@@ -209,4 +209,4 @@ symbol-spec 𝓤 H 𝓜 𝓖 𝓡 =
     entered 𝓤 H (tripleOf 𝓤 H (𝓖 .A) symbol.signature (symbol.spec 𝓤 H (𝓖 .A) (𝓜 .mem) (𝓡 .run)))
     (tables 𝓤 H 𝓜 𝓡 code.env .C) (tables 𝓤 H 𝓜 𝓡 code.env .Λ) #symbol code.function (code.unfolded 𝓤 H 𝓜 𝓡)
     (meets 𝓤 H (𝓖 .A) (givenOf 𝓤 H 𝓜 𝓖) (𝓜 .mem) (𝓡 .run) (tablesOf 𝓤 H 𝓜 (tables 𝓤 H 𝓜 𝓡 code.env))
-    (cited 𝓤 H (Called 𝓤 H (𝓖 .A) (𝓜 .mem) (𝓡 .run)) 𝓜 𝓡 code.env #called called.routine code.calls-entdec·ec-dec-icdf (called-thm.met 𝓤 H 𝓜 𝓖 𝓡)))
+    (cited 𝓤 H (Called 𝓤 H (𝓖 .A) (𝓜 .mem) (𝓡 .run)) 𝓜 𝓡 code.env #called called.routine code.calls-entdec·ec-dec-icdf-of-view (called-thm.met 𝓤 H 𝓜 𝓖 𝓡)))
