@@ -20,11 +20,11 @@ use Rattle.entcode.specs.Flat.{Out}
 use Rattle.entcode.specs.WriterFacts.{Core, Wrote}
 use Rattle.tree.specs.Asks.{Asks, ask, symbols}
 use Rattle.tree.specs.AsksLaws.{symbols-cons}
-use Rattle.tree.specs.Told.{Told, told-done, told-ask, told-then, told-of, told-within, Midway, midway-start, midway-next, midway-asked, midway-end}
-use Rattle.silk.specs.PulseSyntax.{row, Block, headOf, tailOf, each, laterRow, countSaid, lowCounts, count, counts, total, split, shell, lowBits, sign}
+use Rattle.tree.specs.Told.{Told, told-done, told-ask, told-within, Midway, midway-start, midway-next, midway-asked, midway-end}
+use Rattle.silk.specs.PulseSyntax.{row, Block, headOf, tailOf, each, laterRow, countSaid, lowCounts, count, counts, total, split, lowBits, sign}
 use Rattle.silk.specs.PulseSteps.{less-suc, blockAt, blocksFrom}
 use Rattle.silk.specs.PulseRowLaws.{count-writable, later-writable}
-use Rattle.silk.specs.PulseWritten.{split-meant, next-bit}
+use Rattle.silk.specs.PulseWritten.{next-bit}
 
 -- ---- lists of trees
 
@@ -83,15 +83,6 @@ counts-silent c l level n i h = let e : n - i ≡ 0 = omega arith in rw e
 
 -- ---- splits
 
--- a total, taken place by place
-pub total-next : (s : List ℕ) (k : ℕ) → k < length s → total (drop k s) ≡ getD s k 0 + total (drop (k + 1) s)
-unfolding total
-total-next s k l = rw (add-one, drop-cons s k 0 l)
-
-pub total-end : (s : List ℕ) (k : ℕ) → length s ≤ k → total (drop k s) ≡ 0
-unfolding total
-total-end s k l = rw (drop-of-length-le s {i = k} l)
-
 pub split-untold : {o : Out} {y : List ℕ} (k c : ℕ) → c ≡ 0 → Core o → Told o y (split k c) 16 o
 unfolding split
 split-untold k c e h = rw e (told-within (omega arith) (told-done h))
@@ -101,17 +92,6 @@ pub split-told : {o q : Out} {y r : List ℕ} {v : ℕ} (k c : ℕ) → 1 ≤ c 
 unfolding split
 split-told k zero l e f h = absurd (omega arith)
 split-told k (suc c) l e f h = told-ask e f h (told-done (h .core))
-
-pub alone-told : {o : Out} {y : List ℕ} (c : ℕ) → Core o → Told o y (shell 0 c) 0 o
-unfolding shell
-alone-told c h = told-done h
-
--- a split, then its left half, then its right half
-pub halves-told : {o p r q : Out} {l n : ℕ} (k c : ℕ) (y : List ℕ) → total y ≡ c → l ≡ total (take (2 ^ k) y) → Told o y (split k c) 16 p
-    → Told p (take (2 ^ k) y) (shell k l) n r → Told r (drop (2 ^ k) y) (shell k (c - l)) n q → Told o y (shell (suc k) c) (16 + (n + (n + 0))) q
-unfolding shell
-halves-told k c y t e a f g =
-    told-then _ (split-meant k c y t ∙ sym e) a (told-then _ refl (told-of _ f) (told-then _ refl (told-of _ g) (told-done (g .core))))
 
 -- ---- low bits
 
