@@ -1,9 +1,10 @@
 // The signs of a block's pulses (RFC 6716, section 4.2.7.8.5): one for each place that is not 0; symbol 0 is minus. Names as in the crate's
 // code_signs.rs. The block's row is lent.
 ghost use mathlib.Core.Path.{_≡_};
+ghost use mathlib.Core.Bool.{true};
 ghost use Prim.Native.Nat.{_+_, _*_, _^_, _<_, _≤_, min};
 ghost use lib.IntN.{pos, natAbs};
-ghost use lib.ListN.{length};
+ghost use lib.ListN.{length, replicate};
 ghost use Rattle.icdf.specs.Rule.{Icdf};
 ghost use Rattle.entcode.specs.ReaderLaws.{Core};
 ghost use Rattle.tree.specs.Ran.{Ran};
@@ -40,7 +41,7 @@ fn decode_sign(packet: &[u8], d: Dec, row: &[u8], m: i16) -> SignRead
 }
 
 // The pulses of a block, from their magnitudes.
-pub fn silk_decode_signs_run(packet: &[u8], from: Dec, row: &[u8], places: &mut [i16]) -> Dec
+fn all_signs(packet: &[u8], from: Dec, row: &[u8], places: &mut [i16]) -> Dec
     requires { ⌜ Core (now packet) from ⌝ }
     requires { ⌜ from .total ≤ 2 ^ 29 ⌝ }
     requires { ⌜ Icdf 8 (now row) ⌝ }
@@ -58,6 +59,43 @@ pub fn silk_decode_signs_run(packet: &[u8], from: Dec, row: &[u8], places: &mut 
         k += 1;
     }
     d
+}
+
+// Whether no place has a pulse: all are looked at, so that no jump depends on them.
+fn no_pulse(places: &[i16]) -> bool
+    ensures { λ b. ⌜ (b ≡ true → now (places .entry) ≡ replicate (length (now (places .entry))) (pos 0)) ⌝ }
+{
+    let mut none = true;
+    let mut k: usize = places.len();
+    while k > 0 {
+        let j = k - 1;
+        let m = places[j];
+        none = (m == 0) & none;
+        k = j;
+    }
+    none
+}
+
+// The same. Where the counts say that the block is empty, its places are looked at side by side, and no sign is asked for.
+pub fn silk_decode_signs_run(
+    packet: &[u8],
+    from: Dec,
+    row: &[u8],
+    places: &mut [i16],
+    empty: bool,
+) -> Dec
+    requires { ⌜ Core (now packet) from ⌝ }
+    requires { ⌜ from .total ≤ 2 ^ 29 ⌝ }
+    requires { ⌜ Icdf 8 (now row) ⌝ }
+    requires { ⌜ Natural (now places) × (length (now places) ≡ 16) ⌝ }
+    ensures { λ z. ⌜ Ran (now (packet .entry)) from (each (pos 0) (sign (now (row .entry))) (mags (now (places .entry)))) 256 (now (places .exit)) z ⌝ }
+{
+    if empty {
+        if no_pulse(places) {
+            return from;
+        }
+    }
+    all_signs(packet, from, row, places)
 }
 
 // Where the sign row of a block with c pulses before low bits stands.

@@ -76,7 +76,14 @@ fn signs(
         let end = at + 16;
         let row = code_signs::sign_row_at_run(signal, offset, x.counts[i]);
         let last = row + 2;
-        d = code_signs::silk_decode_signs_run(packet, d, &rows[row..last], &mut pulses[at..end]);
+        let empty = (x.counts[i] == 0) & (x.lows[i] == 0);
+        d = code_signs::silk_decode_signs_run(
+            packet,
+            d,
+            &rows[row..last],
+            &mut pulses[at..end],
+            empty,
+        );
         i += 1;
     }
     d

@@ -51,14 +51,20 @@ sign-row-at-run-requires c κs = let b = c .before .before .before .before .befo
 add-last : tie.Need-add-last Inv-loop μ-loop
 add-last c = omega (arith, lent-ends c)
 
+element-copy-out-empty : tie.Need-element-copy-out-empty Inv-loop μ-loop
+element-copy-out-empty c = search needs
+
+element-copy-out-empty-2 : tie.Need-element-copy-out-empty-2 Inv-loop μ-loop
+element-copy-out-empty-2 c = search needs
+
 sub-silk-decode-signs-run : tie.Need-sub-silk-decode-signs-run Inv-loop μ-loop
 sub-silk-decode-signs-run c = search needs
 
 part-silk-decode-signs-run-start : tie.Need-part-silk-decode-signs-run-start Inv-loop μ-loop
-part-silk-decode-signs-run-start c = omega (arith, lent-ends c, c .before .before .before .before .before .before .pre .1 .1 .0 .size)
+part-silk-decode-signs-run-start c = omega (arith, lent-ends (c .before .before), c .before .before .before .before .before .before .before .before .pre .1 .1 .0 .size)
 
 part-silk-decode-signs-run-end : tie.Need-part-silk-decode-signs-run-end Inv-loop μ-loop
-part-silk-decode-signs-run-end c = omega (arith, lent-ends c, c .before .before .before .before .before .before .pre .1 .1 .0 .size)
+part-silk-decode-signs-run-end c = omega (arith, lent-ends (c .before .before), c .before .before .before .before .before .before .before .before .pre .1 .1 .0 .size)
 
 mul-silk-decode-signs-run : tie.Need-mul-silk-decode-signs-run Inv-loop μ-loop
 mul-silk-decode-signs-run c = search needs
@@ -67,17 +73,17 @@ sub-silk-decode-signs-run-2 : tie.Need-sub-silk-decode-signs-run-2 Inv-loop μ-l
 sub-silk-decode-signs-run-2 c = search needs
 
 part-silk-decode-signs-run-start-2 : tie.Need-part-silk-decode-signs-run-start-2 Inv-loop μ-loop
-part-silk-decode-signs-run-start-2 c = omega (arith, sized (c .before .before .before .before) (omega arith))
+part-silk-decode-signs-run-start-2 c = omega (arith, sized (c .before .before .before .before .before .before) (omega arith))
 
 part-silk-decode-signs-run-end-2 : tie.Need-part-silk-decode-signs-run-end-2 Inv-loop μ-loop
-part-silk-decode-signs-run-end-2 c = sized (c .before .before .before .before) (omega arith)
+part-silk-decode-signs-run-end-2 c = sized (c .before .before .before .before .before .before) (omega arith)
 
 silk-decode-signs-run-requires : tie.Need-silk-decode-signs-run-requires Inv-loop μ-loop
 silk-decode-signs-run-requires c κs =
-    let b = c .before .before .before .before .before .before .before .before in
-    let l = c .before .before .before .before .before .loop in
+    let b = c .before .before .before .before .before .before .before .before .before .before in
+    let l = c .before .before .before .before .before .before .before .loop in
     let g = l .inv .turning .through in
-    let r = c .before .before .sign-row-at-run in
+    let r = c .before .before .before .before .sign-row-at-run in
     let o = working-here _ _ _ _ _ _ _ _ _ _ _ _ _ _ (l .pulses) (l .d) (l .i) (l .inv) (omega arith) in (
       g .core,
       (
@@ -97,10 +103,10 @@ loop-less c = search needs
 
 loop-again : tie.Need-loop-again Inv-loop μ-loop
 loop-again c =
-    let b = c .before .before .before .before .before .before .before .before .before .before in
-    let l = c .before .before .before .before .before .before .before .loop in
-    let r = c .before .before .before .before .sign-row-at-run in
-    let t : l .i < b .args .n = c .before .before .before .before .before .before .loop-test .taken in
+    let b = c .before .before .before .before .before .before .before .before .before .before .before .before in
+    let l = c .before .before .before .before .before .before .before .before .before .loop in
+    let r = c .before .before .before .before .before .before .sign-row-at-run in
+    let t : l .i < b .args .n = c .before .before .before .before .before .before .before .before .loop-test .taken in
     let a = c .before .silk-decode-signs-run in
     let y = a .last .1 .1 .1 .0 in
     let o = working-here _ _ _ _ _ _ _ _ _ _ _ _ _ _ (l .pulses) (l .d) (l .i) (l .inv) t in
@@ -130,6 +136,8 @@ signs-spec =
     element-copy-out-sign-row-at-run
     sign-row-at-run-requires
     add-last
+    element-copy-out-empty
+    element-copy-out-empty-2
     sub-silk-decode-signs-run
     part-silk-decode-signs-run-start
     part-silk-decode-signs-run-end
