@@ -12,9 +12,9 @@ use nlsf_places::places_run;
 use nlsf_stabilize::stabilise_run;
 use tables::books::narrow_gaps;
 use tables::books::narrow_predictors;
-use tables::books::narrow_selectors;
-use tables::books::narrow_vector;
-use tables::books::narrow_weights;
+use tables::books::narrow_selectors_run;
+use tables::books::narrow_vector_run;
+use tables::books::narrow_weights_run;
 
 // The sum of the book's gaps.
 const GAP_SUM: i32 = 742;
@@ -32,9 +32,9 @@ pub fn narrow_run(vector: &mut [i16], v: usize, xs: &[i8]) -> u32
     requires { ⌜ Indexed 10 (now vector) v (now xs) ⌝ }
     ensures { λ m. ⌜ record { vector = now (vector .exit); moves = m } ≡ stabilise kept16 (map pos (narrowBook .gaps)) (places narrowBook v (now (xs .entry))) ⌝ }
 {
-    let value = narrow_vector(v);
-    let weight = narrow_weights(v);
-    let selector = narrow_selectors(v);
+    let value = narrow_vector_run(v);
+    let weight = narrow_weights_run(v);
+    let selector = narrow_selectors_run(v);
     let first = predictors(0);
     let second = predictors(1);
     places_run(

@@ -12,9 +12,9 @@ use nlsf_places::places_run;
 use nlsf_stabilize::stabilise_run;
 use tables::books::wide_gaps;
 use tables::books::wide_predictors;
-use tables::books::wide_selectors;
-use tables::books::wide_vector;
-use tables::books::wide_weights;
+use tables::books::wide_selectors_run;
+use tables::books::wide_vector_run;
+use tables::books::wide_weights_run;
 
 // The sum of the book's gaps.
 const GAP_SUM: i32 = 583;
@@ -32,9 +32,9 @@ pub fn wide_run(vector: &mut [i16], v: usize, xs: &[i8]) -> u32
     requires { ⌜ Indexed 16 (now vector) v (now xs) ⌝ }
     ensures { λ m. ⌜ record { vector = now (vector .exit); moves = m } ≡ stabilise kept16 (map pos (wideBook .gaps)) (places wideBook v (now (xs .entry))) ⌝ }
 {
-    let value = wide_vector(v);
-    let weight = wide_weights(v);
-    let selector = wide_selectors(v);
+    let value = wide_vector_run(v);
+    let weight = wide_weights_run(v);
+    let selector = wide_selectors_run(v);
     let first = predictors(0);
     let second = predictors(1);
     places_run(

@@ -6,15 +6,13 @@ ghost use Prim.Native.Nat.{_/_, _<_};
 ghost use lib.ListN.{length, getD};
 ghost use Rattle.sheet.specs.Books.{narrowBook, wideBook};
 ghost use Rattle.silk.specs.IndexSyntax.{residualPick};
-use tables::books::narrow_selectors;
-use tables::books::wide_selectors;
 
 // The selectors of vector v of the narrow book.
 pub fn narrow_selectors_run(v: u32) -> [u8; 5]
     requires { ⌜ v < 32 ⌝ }
     ensures { λ r. ⌜ r ≡ getD (narrowBook .selectors) v [] ⌝ }
 {
-    narrow_selectors(v as usize)
+    tables::books::narrow_selectors_run(v as usize)
 }
 
 // The selectors of vector v of the wide book.
@@ -22,7 +20,7 @@ pub fn wide_selectors_run(v: u32) -> [u8; 8]
     requires { ⌜ v < 32 ⌝ }
     ensures { λ r. ⌜ r ≡ getD (wideBook .selectors) v [] ⌝ }
 {
-    wide_selectors(v as usize)
+    tables::books::wide_selectors_run(v as usize)
 }
 
 // The residual row of place i.

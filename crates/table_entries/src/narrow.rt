@@ -11,9 +11,9 @@ use crate::entry::gap;
 use crate::entry::word;
 use tables::books::narrow_gaps;
 use tables::books::narrow_predictors;
-use tables::books::narrow_selectors;
-use tables::books::narrow_vector;
-use tables::books::narrow_weights;
+use tables::books::narrow_selectors_run;
+use tables::books::narrow_vector_run;
+use tables::books::narrow_weights_run;
 
 fn vectors_entry(place: usize) -> u32
     ensures { λ r. ⌜ r ≡ getD (flatten (narrowBook .vectors)) place noEntry ⌝ }
@@ -21,7 +21,7 @@ fn vectors_entry(place: usize) -> u32
     if place >= 320 {
         return NO_ENTRY;
     }
-    let t = narrow_vector(place / 10);
+    let t = narrow_vector_run(place / 10);
     byte(t[place % 10])
 }
 
@@ -31,7 +31,7 @@ fn weights_entry(place: usize) -> u32
     if place >= 320 {
         return NO_ENTRY;
     }
-    let t = narrow_weights(place / 10);
+    let t = narrow_weights_run(place / 10);
     word(t[place % 10])
 }
 
@@ -41,7 +41,7 @@ fn selectors_entry(place: usize) -> u32
     if place >= 160 {
         return NO_ENTRY;
     }
-    let t = narrow_selectors(place / 5);
+    let t = narrow_selectors_run(place / 5);
     byte(t[place % 5])
 }
 

@@ -11,9 +11,9 @@ use crate::entry::gap;
 use crate::entry::word;
 use tables::books::wide_gaps;
 use tables::books::wide_predictors;
-use tables::books::wide_selectors;
-use tables::books::wide_vector;
-use tables::books::wide_weights;
+use tables::books::wide_selectors_run;
+use tables::books::wide_vector_run;
+use tables::books::wide_weights_run;
 
 fn vectors_entry(place: usize) -> u32
     ensures { λ r. ⌜ r ≡ getD (flatten (wideBook .vectors)) place noEntry ⌝ }
@@ -21,7 +21,7 @@ fn vectors_entry(place: usize) -> u32
     if place >= 512 {
         return NO_ENTRY;
     }
-    let t = wide_vector(place / 16);
+    let t = wide_vector_run(place / 16);
     byte(t[place % 16])
 }
 
@@ -31,7 +31,7 @@ fn weights_entry(place: usize) -> u32
     if place >= 512 {
         return NO_ENTRY;
     }
-    let t = wide_weights(place / 16);
+    let t = wide_weights_run(place / 16);
     word(t[place % 16])
 }
 
@@ -41,7 +41,7 @@ fn selectors_entry(place: usize) -> u32
     if place >= 256 {
         return NO_ENTRY;
     }
-    let t = wide_selectors(place / 8);
+    let t = wide_selectors_run(place / 8);
     byte(t[place % 8])
 }
 

@@ -8,7 +8,7 @@ ghost use lib.ListN.{getD};
 ghost use Rattle.sheet.specs.Books.{narrowBook, wideBook};
 
 // Vector v, in 256ths.
-pub fn narrow_vector(v: usize) -> [u8; 10]
+pub fn narrow_vector_run(v: usize) -> [u8; 10]
     requires { ⌜ v < 32 ⌝ }
     ensures { λ r. ⌜ r ≡ getD (narrowBook .vectors) v [] ⌝ }
 {
@@ -49,7 +49,7 @@ pub fn narrow_vector(v: usize) -> [u8; 10]
 }
 
 // The weights of vector v.
-pub fn narrow_weights(v: usize) -> [u16; 10]
+pub fn narrow_weights_run(v: usize) -> [u16; 10]
     requires { ⌜ v < 32 ⌝ }
     ensures { λ r. ⌜ r ≡ getD (narrowBook .weights) v [] ⌝ }
 {
@@ -90,7 +90,7 @@ pub fn narrow_weights(v: usize) -> [u16; 10]
 }
 
 // The selectors of vector v: a byte serves two places.
-pub fn narrow_selectors(v: usize) -> [u8; 5]
+pub fn narrow_selectors_run(v: usize) -> [u8; 5]
     requires { ⌜ v < 32 ⌝ }
     ensures { λ r. ⌜ r ≡ getD (narrowBook .selectors) v [] ⌝ }
 {
@@ -152,7 +152,7 @@ pub fn narrow_gaps() -> [i16; 11]
 }
 
 // Vector v, in 256ths.
-pub fn wide_vector(v: usize) -> [u8; 16]
+pub fn wide_vector_run(v: usize) -> [u8; 16]
     requires { ⌜ v < 32 ⌝ }
     ensures { λ r. ⌜ r ≡ getD (wideBook .vectors) v [] ⌝ }
 {
@@ -737,7 +737,7 @@ pub fn wide_vector(v: usize) -> [u8; 16]
 }
 
 // The weights of vector v.
-pub fn wide_weights(v: usize) -> [u16; 16]
+pub fn wide_weights_run(v: usize) -> [u16; 16]
     requires { ⌜ v < 32 ⌝ }
     ensures { λ r. ⌜ r ≡ getD (wideBook .weights) v [] ⌝ }
 {
@@ -1322,7 +1322,7 @@ pub fn wide_weights(v: usize) -> [u16; 16]
 }
 
 // The selectors of vector v: a byte serves two places.
-pub fn wide_selectors(v: usize) -> [u8; 8]
+pub fn wide_selectors_run(v: usize) -> [u8; 8]
     requires { ⌜ v < 32 ⌝ }
     ensures { λ r. ⌜ r ≡ getD (wideBook .selectors) v [] ⌝ }
 {

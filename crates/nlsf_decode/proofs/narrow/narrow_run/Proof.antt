@@ -17,34 +17,34 @@ use Rattle.nlsf_decode.proofs.narrow.narrow_run.Tie as tie
 -- the rows that are lent, and that they are the book's
 abbrev lent : tie.After-predictors2 → Rows
 lent d =
-    rows 11796 (d .before .before .narrow-selectors .result) (d .before .predictors .result) (d .predictors2 .result)
-    (d .before .before .before .before .narrow-vector .result) (d .before .before .before .narrow-weights .result)
+    rows 11796 (d .before .before .narrow-selectors-run .result) (d .before .predictors .result) (d .predictors2 .result)
+    (d .before .before .before .before .narrow-vector-run .result) (d .before .before .before .narrow-weights-run .result)
 
 lent-are : (d : tie.After-predictors2) → RowsOf narrowBook (d .before .before .before .before .before .args .v) (lent d)
 unfolding narrowBook
 lent-are d =
     record {
       step = refl;
-      selectors = d .before .before .narrow-selectors .ensures;
+      selectors = d .before .before .narrow-selectors-run .ensures;
       predictors =
           ap₂ (λ (p q : List ℕ). p ∷ q ∷ []) (d .before .predictors .ensures) (d .predictors2 .ensures)
           ∙ both-lists (narrowBook .predictors) (narrow-shaped .predictors .count);
-      values = d .before .before .before .before .narrow-vector .ensures;
-      weights = d .before .before .before .narrow-weights .ensures;
+      values = d .before .before .before .before .narrow-vector-run .ensures;
+      weights = d .before .before .before .narrow-weights-run .ensures;
     }
 
 gap-total : total (map pos (narrowBook .gaps)) ≡ pos 742
 unfolding narrowBook total
 gap-total = refl
 
-narrow-vector-requires : tie.Need-narrow-vector-requires
-narrow-vector-requires c κs = search needs
+narrow-vector-run-requires : tie.Need-narrow-vector-run-requires
+narrow-vector-run-requires c κs = search needs
 
-narrow-weights-requires : tie.Need-narrow-weights-requires
-narrow-weights-requires c κs = search needs
+narrow-weights-run-requires : tie.Need-narrow-weights-run-requires
+narrow-weights-run-requires c κs = search needs
 
-narrow-selectors-requires : tie.Need-narrow-selectors-requires
-narrow-selectors-requires c κs = search needs
+narrow-selectors-run-requires : tie.Need-narrow-selectors-run-requires
+narrow-selectors-run-requires c κs = search needs
 
 predictors-requires : tie.Need-predictors-requires
 predictors-requires c κs = search needs
@@ -104,9 +104,9 @@ pub narrow-run-spec : {M : Type 1} → statement M
 narrow-run-spec =
     tie.close
     (tie.spec
-    narrow-vector-requires
-    narrow-weights-requires
-    narrow-selectors-requires
+    narrow-vector-run-requires
+    narrow-weights-run-requires
+    narrow-selectors-run-requires
     predictors-requires
     predictors-requires-2
     slice-aggregate-places-run

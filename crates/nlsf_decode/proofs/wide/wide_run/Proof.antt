@@ -17,34 +17,34 @@ use Rattle.nlsf_decode.proofs.wide.wide_run.Tie as tie
 -- the rows that are lent, and that they are the book's
 abbrev lent : tie.After-predictors2 → Rows
 lent d =
-    rows 9830 (d .before .before .wide-selectors .result) (d .before .predictors .result) (d .predictors2 .result)
-    (d .before .before .before .before .wide-vector .result) (d .before .before .before .wide-weights .result)
+    rows 9830 (d .before .before .wide-selectors-run .result) (d .before .predictors .result) (d .predictors2 .result)
+    (d .before .before .before .before .wide-vector-run .result) (d .before .before .before .wide-weights-run .result)
 
 lent-are : (d : tie.After-predictors2) → RowsOf wideBook (d .before .before .before .before .before .args .v) (lent d)
 unfolding wideBook
 lent-are d =
     record {
       step = refl;
-      selectors = d .before .before .wide-selectors .ensures;
+      selectors = d .before .before .wide-selectors-run .ensures;
       predictors =
           ap₂ (λ (p q : List ℕ). p ∷ q ∷ []) (d .before .predictors .ensures) (d .predictors2 .ensures)
           ∙ both-lists (wideBook .predictors) (wide-shaped .predictors .count);
-      values = d .before .before .before .before .wide-vector .ensures;
-      weights = d .before .before .before .wide-weights .ensures;
+      values = d .before .before .before .before .wide-vector-run .ensures;
+      weights = d .before .before .before .wide-weights-run .ensures;
     }
 
 gap-total : total (map pos (wideBook .gaps)) ≡ pos 583
 unfolding wideBook total
 gap-total = refl
 
-wide-vector-requires : tie.Need-wide-vector-requires
-wide-vector-requires c κs = search needs
+wide-vector-run-requires : tie.Need-wide-vector-run-requires
+wide-vector-run-requires c κs = search needs
 
-wide-weights-requires : tie.Need-wide-weights-requires
-wide-weights-requires c κs = search needs
+wide-weights-run-requires : tie.Need-wide-weights-run-requires
+wide-weights-run-requires c κs = search needs
 
-wide-selectors-requires : tie.Need-wide-selectors-requires
-wide-selectors-requires c κs = search needs
+wide-selectors-run-requires : tie.Need-wide-selectors-run-requires
+wide-selectors-run-requires c κs = search needs
 
 predictors-requires : tie.Need-predictors-requires
 predictors-requires c κs = search needs
@@ -104,9 +104,9 @@ pub wide-run-spec : {M : Type 1} → statement M
 wide-run-spec =
     tie.close
     (tie.spec
-    wide-vector-requires
-    wide-weights-requires
-    wide-selectors-requires
+    wide-vector-run-requires
+    wide-weights-run-requires
+    wide-selectors-run-requires
     predictors-requires
     predictors-requires-2
     slice-aggregate-places-run

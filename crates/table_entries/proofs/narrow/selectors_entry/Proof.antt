@@ -14,8 +14,8 @@ use Rattle.table_entries.proofs.narrow.selectors_entry.Tie as tie
 returns : tie.Need-returns
 returns c = sym (grid-past 32 5 (narrowBook .selectors) (narrow-shaped .selectors) (c .before .args .place) noEntry (c .if1 .taken))
 
-narrow-selectors-requires : tie.Need-narrow-selectors-requires
-narrow-selectors-requires c κs = search needs
+narrow-selectors-run-requires : tie.Need-narrow-selectors-run-requires
+narrow-selectors-run-requires c κs = search needs
 
 array-read-byte : tie.Need-array-read-byte
 array-read-byte c = search needs
@@ -28,10 +28,10 @@ returns-2 c =
     let b = c .before .before in
     let i = b .before .args .place in
     c .byte .ensures
-    ∙ ap (λ (r : List ℕ). getD r (i % 5) 0) (c .before .narrow-selectors .ensures)
+    ∙ ap (λ (r : List ℕ). getD r (i % 5) 0) (c .before .narrow-selectors-run .ensures)
     ∙ grid-inside 32 5 (narrowBook .selectors) (narrow-shaped .selectors) (lit< tt) i 0 noEntry (b .if1 .left)
 
 pub selectors-entry-spec : {M : Type 1} → statement M
 selectors-entry-spec =
     tie.close
-    (tie.spec returns narrow-selectors-requires array-read-byte byte-requires returns-2)
+    (tie.spec returns narrow-selectors-run-requires array-read-byte byte-requires returns-2)

@@ -14,8 +14,8 @@ use Rattle.table_entries.proofs.narrow.weights_entry.Tie as tie
 returns : tie.Need-returns
 returns c = sym (grid-past 32 10 (narrowBook .weights) (narrow-shaped .weights) (c .before .args .place) noEntry (c .if1 .taken))
 
-narrow-weights-requires : tie.Need-narrow-weights-requires
-narrow-weights-requires c κs = search needs
+narrow-weights-run-requires : tie.Need-narrow-weights-run-requires
+narrow-weights-run-requires c κs = search needs
 
 mul-word : tie.Need-mul-word
 mul-word c = search needs
@@ -31,10 +31,10 @@ returns-2 c =
     let b = c .before .before in
     let i = b .before .args .place in
     c .word .ensures
-    ∙ ap (λ (r : List ℕ). getD r (i % 10) 0) (c .before .narrow-weights .ensures)
+    ∙ ap (λ (r : List ℕ). getD r (i % 10) 0) (c .before .narrow-weights-run .ensures)
     ∙ grid-inside 32 10 (narrowBook .weights) (narrow-shaped .weights) (lit< tt) i 0 noEntry (b .if1 .left)
 
 pub weights-entry-spec : {M : Type 1} → statement M
 weights-entry-spec =
     tie.close
-    (tie.spec returns narrow-weights-requires mul-word array-read-word word-requires returns-2)
+    (tie.spec returns narrow-weights-run-requires mul-word array-read-word word-requires returns-2)

@@ -14,8 +14,8 @@ use Rattle.table_entries.proofs.wide.selectors_entry.Tie as tie
 returns : tie.Need-returns
 returns c = sym (grid-past 32 8 (wideBook .selectors) (wide-shaped .selectors) (c .before .args .place) noEntry (c .if1 .taken))
 
-wide-selectors-requires : tie.Need-wide-selectors-requires
-wide-selectors-requires c κs = search needs
+wide-selectors-run-requires : tie.Need-wide-selectors-run-requires
+wide-selectors-run-requires c κs = search needs
 
 array-read-byte : tie.Need-array-read-byte
 array-read-byte c = search needs
@@ -28,10 +28,10 @@ returns-2 c =
     let b = c .before .before in
     let i = b .before .args .place in
     c .byte .ensures
-    ∙ ap (λ (r : List ℕ). getD r (i % 8) 0) (c .before .wide-selectors .ensures)
+    ∙ ap (λ (r : List ℕ). getD r (i % 8) 0) (c .before .wide-selectors-run .ensures)
     ∙ grid-inside 32 8 (wideBook .selectors) (wide-shaped .selectors) (lit< tt) i 0 noEntry (b .if1 .left)
 
 pub selectors-entry-spec : {M : Type 1} → statement M
 selectors-entry-spec =
     tie.close
-    (tie.spec returns wide-selectors-requires array-read-byte byte-requires returns-2)
+    (tie.spec returns wide-selectors-run-requires array-read-byte byte-requires returns-2)

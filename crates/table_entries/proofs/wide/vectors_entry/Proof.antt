@@ -14,8 +14,8 @@ use Rattle.table_entries.proofs.wide.vectors_entry.Tie as tie
 returns : tie.Need-returns
 returns c = sym (grid-past 32 16 (wideBook .vectors) (wide-shaped .vectors) (c .before .args .place) noEntry (c .if1 .taken))
 
-wide-vector-requires : tie.Need-wide-vector-requires
-wide-vector-requires c κs = search needs
+wide-vector-run-requires : tie.Need-wide-vector-run-requires
+wide-vector-run-requires c κs = search needs
 
 array-read-byte : tie.Need-array-read-byte
 array-read-byte c = search needs
@@ -28,10 +28,10 @@ returns-2 c =
     let b = c .before .before in
     let i = b .before .args .place in
     c .byte .ensures
-    ∙ ap (λ (r : List ℕ). getD r (i % 16) 0) (c .before .wide-vector .ensures)
+    ∙ ap (λ (r : List ℕ). getD r (i % 16) 0) (c .before .wide-vector-run .ensures)
     ∙ grid-inside 32 16 (wideBook .vectors) (wide-shaped .vectors) (lit< tt) i 0 noEntry (b .if1 .left)
 
 pub vectors-entry-spec : {M : Type 1} → statement M
 vectors-entry-spec =
     tie.close
-    (tie.spec returns wide-vector-requires array-read-byte byte-requires returns-2)
+    (tie.spec returns wide-vector-run-requires array-read-byte byte-requires returns-2)

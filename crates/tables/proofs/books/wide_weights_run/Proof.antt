@@ -1,13 +1,13 @@
--- `narrow_selectors` meets its contract: each arm's row is the book's, by computation. Assumes nothing.
-use Rattle.sheet.specs.Books.{narrowBook}
+-- `wide_weights_run` meets its contract: each arm's row is the book's, by computation. Assumes nothing.
+use Rattle.sheet.specs.Books.{wideBook}
 use Rattle.tables.proofs.Arms.{row, last}
-use Rattle.tables.proofs.books.narrow_selectors.Statement.{statement}
-use Rattle.tables.proofs.books.narrow_selectors.Tie as tie
+use Rattle.tables.proofs.books.wide_weights_run.Statement.{statement}
+use Rattle.tables.proofs.books.wide_weights_run.Tie as tie
 
-pub narrow-selectors-spec : {M : Type 1} → statement M
-unfolding narrowBook
-narrow-selectors-spec =
-    let t = narrowBook .selectors in
+pub wide-weights-run-spec : {M : Type 1} → statement M
+unfolding wideBook
+wide-weights-run-spec =
+    let t = wideBook .weights in
     tie.close
     (tie.spec
     (λ c. row t (c .match .keys1))

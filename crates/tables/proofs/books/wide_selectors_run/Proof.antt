@@ -1,13 +1,13 @@
--- `narrow_weights` meets its contract: each arm's row is the book's, by computation. Assumes nothing.
-use Rattle.sheet.specs.Books.{narrowBook}
+-- `wide_selectors_run` meets its contract: each arm's row is the book's, by computation. Assumes nothing.
+use Rattle.sheet.specs.Books.{wideBook}
 use Rattle.tables.proofs.Arms.{row, last}
-use Rattle.tables.proofs.books.narrow_weights.Statement.{statement}
-use Rattle.tables.proofs.books.narrow_weights.Tie as tie
+use Rattle.tables.proofs.books.wide_selectors_run.Statement.{statement}
+use Rattle.tables.proofs.books.wide_selectors_run.Tie as tie
 
-pub narrow-weights-spec : {M : Type 1} → statement M
-unfolding narrowBook
-narrow-weights-spec =
-    let t = narrowBook .weights in
+pub wide-selectors-run-spec : {M : Type 1} → statement M
+unfolding wideBook
+wide-selectors-run-spec =
+    let t = wideBook .selectors in
     tie.close
     (tie.spec
     (λ c. row t (c .match .keys1))

@@ -1,13 +1,13 @@
--- `narrow_vector` meets its contract: each arm's row is the book's, by computation. Assumes nothing.
+-- `narrow_selectors_run` meets its contract: each arm's row is the book's, by computation. Assumes nothing.
 use Rattle.sheet.specs.Books.{narrowBook}
 use Rattle.tables.proofs.Arms.{row, last}
-use Rattle.tables.proofs.books.narrow_vector.Statement.{statement}
-use Rattle.tables.proofs.books.narrow_vector.Tie as tie
+use Rattle.tables.proofs.books.narrow_selectors_run.Statement.{statement}
+use Rattle.tables.proofs.books.narrow_selectors_run.Tie as tie
 
-pub narrow-vector-spec : {M : Type 1} → statement M
+pub narrow-selectors-run-spec : {M : Type 1} → statement M
 unfolding narrowBook
-narrow-vector-spec =
-    let t = narrowBook .vectors in
+narrow-selectors-run-spec =
+    let t = narrowBook .selectors in
     tie.close
     (tie.spec
     (λ c. row t (c .match .keys1))

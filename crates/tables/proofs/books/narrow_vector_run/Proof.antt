@@ -1,13 +1,13 @@
--- `wide_selectors` meets its contract: each arm's row is the book's, by computation. Assumes nothing.
-use Rattle.sheet.specs.Books.{wideBook}
+-- `narrow_vector_run` meets its contract: each arm's row is the book's, by computation. Assumes nothing.
+use Rattle.sheet.specs.Books.{narrowBook}
 use Rattle.tables.proofs.Arms.{row, last}
-use Rattle.tables.proofs.books.wide_selectors.Statement.{statement}
-use Rattle.tables.proofs.books.wide_selectors.Tie as tie
+use Rattle.tables.proofs.books.narrow_vector_run.Statement.{statement}
+use Rattle.tables.proofs.books.narrow_vector_run.Tie as tie
 
-pub wide-selectors-spec : {M : Type 1} → statement M
-unfolding wideBook
-wide-selectors-spec =
-    let t = wideBook .selectors in
+pub narrow-vector-run-spec : {M : Type 1} → statement M
+unfolding narrowBook
+narrow-vector-run-spec =
+    let t = narrowBook .vectors in
     tie.close
     (tie.spec
     (λ c. row t (c .match .keys1))

@@ -1,12 +1,12 @@
--- `wide_vector` meets its contract: each arm's row is the book's, by computation. Assumes nothing.
+-- `wide_vector_run` meets its contract: each arm's row is the book's, by computation. Assumes nothing.
 use Rattle.sheet.specs.Books.{wideBook}
 use Rattle.tables.proofs.Arms.{row, last}
-use Rattle.tables.proofs.books.wide_vector.Statement.{statement}
-use Rattle.tables.proofs.books.wide_vector.Tie as tie
+use Rattle.tables.proofs.books.wide_vector_run.Statement.{statement}
+use Rattle.tables.proofs.books.wide_vector_run.Tie as tie
 
-pub wide-vector-spec : {M : Type 1} → statement M
+pub wide-vector-run-spec : {M : Type 1} → statement M
 unfolding wideBook
-wide-vector-spec =
+wide-vector-run-spec =
     let t = wideBook .vectors in
     tie.close
     (tie.spec

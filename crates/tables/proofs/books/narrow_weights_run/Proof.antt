@@ -1,13 +1,13 @@
--- `wide_weights` meets its contract: each arm's row is the book's, by computation. Assumes nothing.
-use Rattle.sheet.specs.Books.{wideBook}
+-- `narrow_weights_run` meets its contract: each arm's row is the book's, by computation. Assumes nothing.
+use Rattle.sheet.specs.Books.{narrowBook}
 use Rattle.tables.proofs.Arms.{row, last}
-use Rattle.tables.proofs.books.wide_weights.Statement.{statement}
-use Rattle.tables.proofs.books.wide_weights.Tie as tie
+use Rattle.tables.proofs.books.narrow_weights_run.Statement.{statement}
+use Rattle.tables.proofs.books.narrow_weights_run.Tie as tie
 
-pub wide-weights-spec : {M : Type 1} → statement M
-unfolding wideBook
-wide-weights-spec =
-    let t = wideBook .weights in
+pub narrow-weights-run-spec : {M : Type 1} → statement M
+unfolding narrowBook
+narrow-weights-run-spec =
+    let t = narrowBook .weights in
     tie.close
     (tie.spec
     (λ c. row t (c .match .keys1))
