@@ -1,6 +1,6 @@
 -- The differences as the code reads them. Assumes nothing.
 use Prim.Native.Nat.{ℕ, zero, suc, _+_, _-_, _*_, _<_}
-use mathlib.Core.Path.{_≡_, sym, ap, subst, subst₂, _∙_}
+use mathlib.Core.Path.{_≡_, refl, sym, ap, subst, subst₂, _∙_}
 use mathlib.Core.Bool.{Bool, true, false}
 use mathlib.Core.List.{List, [], _∷_}
 use native.Mathlib.Omega.{arith}
@@ -8,7 +8,7 @@ use native.Mathlib.Nat.{not-suc-le-zero}
 use borrow.Author.Count.{below-more}
 use lib.IntN.{ℤ, pos, _+ℤ_, _-ℤ_, _*ℤ_}
 use lib.Signed.{ltZ, leZ, shrZ}
-use lib.ListN.{length}
+use lib.ListN.{length, take}
 use Rattle.ints.specs.Order.{ltZ-true, ltZ-false, leZ-true, leZ-false}
 use Rattle.ints.specs.Parts.{up, down}
 use Rattle.ints.specs.Quotients.{shr-low, shr-high}
@@ -17,7 +17,7 @@ use Rattle.spectrum.proofs.Extremes.{le-leZ, lt-leZ}
 use Rattle.spectrum.proofs.FirstSmallest.{First, found, diff-first, diff-between, diff-last}
 use Rattle.spectrum.proofs.MoveBounds.{length-diffs}
 use Rattle.spectrum.specs.Distances.{diffs, place}
-use Rattle.spectrum.specs.Values.{at, top, _≼_}
+use Rattle.spectrum.specs.Values.{at, top, total, _≼_}
 use Rattle.nlsf_stabilize.specs.Asked.{keyed, smallestKey}
 
 pub at-first : (v g : List ℤ) (i : ℕ) → i ≡ 0 → 0 < length v → length g ≡ suc (length v) → at (diffs (pos 0) v g) i ≡ at v 0 -ℤ (pos 0 +ℤ at g 0)
@@ -66,44 +66,49 @@ keyed-parts : (d : ℤ) (i : ℕ) → up (keyed d i) + down d * 32 ≡ up d * 32
 unfolding keyed
 keyed-parts d i = omega (arith, sum-parts (d *ℤ pos 32) (pos i), up-times d 32, down-times d 32)
 
--- the key z is that of the first smallest of the n numbers passed
-pub record Best (l : List ℤ) (n : ℕ) (z : ℤ) : Type 0 where
+-- the key z is that of the first smallest of the n numbers passed, and s the sum of the gaps before its place
+pub record Best (l g : List ℤ) (n : ℕ) (z s : ℤ) : Type 0 where
   pub place : ℕ
   pub first : First l n place
   pub key : z ≡ keyed (at l place) place
+  pub sum : s ≡ total (take place g)
 
-pub best-one : (l : List ℤ) (z : ℤ) → z ≡ keyed (at l 0) 0 → Best l 1 z
-best-one l z e = record { place = 0; first = first-one l; key = e }
+pub best-one : (l g : List ℤ) (z : ℤ) → z ≡ keyed (at l 0) 0 → Best l g 1 z (pos 0)
+unfolding total
+best-one l g z e = record { place = 0; first = first-one l; key = e; sum = refl }
 
-module _ (l : List ℤ) (i : ℕ) (z k : ℤ) (h : i < 32) (b : Best l i z) (e : k ≡ keyed (at l i) i) where
-  pub best-newer : ltZ k z ≡ true → Best l (i + 1) k
-  best-newer t =
+module _ (l g : List ℤ) (i : ℕ) (z s k : ℤ) (h : i < 32) (b : Best l g i z s) (e : k ≡ keyed (at l i) i) where
+  pub best-newer : (t : ℤ) → t ≡ total (take i g) → ltZ k z ≡ true → Best l g (i + 1) k t
+  best-newer t q r =
       let a = b .place in
-      let d = subst₂ (λ (x y : ℤ). up x + down y < up y + down x) e (b .key) (ltZ-true k z t) in
+      let d = subst₂ (λ (x y : ℤ). up x + down y < up y + down x) e (b .key) (ltZ-true k z r) in
       record {
         place = i;
         first = first-newer l i a (b .first) (omega (arith, d, keyed-parts (at l i) i, keyed-parts (at l a) a, b .first .within));
         key = e;
+        sum = q;
       }
 
-  pub best-older : ltZ k z ≡ false → Best l (i + 1) z
-  best-older t =
+  pub best-older : ltZ k z ≡ false → Best l g (i + 1) z s
+  best-older r =
       let a = b .place in
-      let d = subst₂ (λ (x y : ℤ). y ≼ x) e (b .key) (ltZ-false k z t) in
+      let d = subst₂ (λ (x y : ℤ). y ≼ x) e (b .key) (ltZ-false k z r) in
       record {
         place = a;
         first = first-older l i a (b .first) (omega (arith, d, keyed-parts (at l i) i, keyed-parts (at l a) a, b .first .within));
         key = b .key;
+        sum = b .sum;
       }
 
 -- the first smallest of the differences up to the last place, which is the order
-pub key-found : (v g : List ℤ) (i : ℕ) (z : ℤ) → i ≡ length v → length g ≡ suc (length v) → Best (diffs (pos 0) v g) (i + 1) z → z ≡ smallestKey g v
+pub key-found : (v g : List ℤ) (i : ℕ) (z s : ℤ) → i ≡ length v → length g ≡ suc (length v) → Best (diffs (pos 0) v g) g (i + 1) z s
+    → (z ≡ smallestKey g v) × (s ≡ total (take (place g v) g))
 unfolding place
-key-found v g i z e l b =
-    let s : i + 1 ≡ suc (length v) = omega arith in
+key-found v g i z s e l b =
+    let n : i + 1 ≡ suc (length v) = omega arith in
     let ds = diffs (pos 0) v g in
-    let f = found ds (length v) (b .place) (length-diffs (pos 0) v g l) (subst (λ (n : ℕ). First ds n (b .place)) s (b .first)) in
-    b .key ∙ ap (λ (n : ℕ). keyed (at ds n) n) (f .0)
+    let f = found ds (length v) (b .place) (length-diffs (pos 0) v g l) (subst (λ (m : ℕ). First ds m (b .place)) n (b .first)) in
+    (b .key ∙ ap (λ (m : ℕ). keyed (at ds m) m) (f .0), b .sum ∙ ap (λ (m : ℕ). total (take m g)) (f .0))
 
 -- what a key says: its place, and whether its difference is below 0
 pub key-place : (d : ℤ) (i : ℕ) → i < 32 → up (keyed d i -ℤ shrZ (keyed d i) 32 *ℤ pos 32) ≡ i

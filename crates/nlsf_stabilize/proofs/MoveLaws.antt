@@ -33,9 +33,6 @@ use Rattle.spectrum.specs.Values.{Mag, at, top, held, half, total}
 use Rattle.nlsf_stabilize.specs.Asked.{ruledSum, smallestKey, PairOk, MoveOk}
 use Rattle.nlsf_stabilize.proofs.DiffLaws.{key-place, key-sign}
 
-pub part-before : (g : List ℤ) (i : ℕ) → total (take (i - 0) (drop 0 g)) ≡ total (take i g)
-part-before g i = let e : i - 0 ≡ i = omega arith in ap (λ (n : ℕ). total (take n g)) e
-
 -- the sums of all gaps and of those before a gap lie within 32,768, and what they leave beside the gap is the sum of those behind it
 pub sums-near : (g v : List ℤ) (i : ℕ) → MoveOk g v i → i ≢ length v → Mag 32768 (total g) × Mag 32768 (total (take i g))
 sums-near g v i m n =

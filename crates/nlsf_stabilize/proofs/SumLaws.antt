@@ -30,6 +30,14 @@ sum-snoc (y ∷ a) x = ap (λ (z : ℤ). y +ℤ z) (sum-snoc a x) ∙ sym (+ℤ-
 pub sum-more : (s : List ℤ) (i : ℕ) → i < length s → total (take (i + 1) s) ≡ total (take i s) +ℤ at s i
 sum-more s i h = rw (add-one) (ap total (take-suc s i (pos 0) h) ∙ sum-snoc (take i s) (at s i))
 
+-- the first number alone
+pub near-one : (x : ℤ) → SFits w16 x → Near 1 x
+near-one x f = record { high = omega (arith, fits-up x f); low = omega (arith, fits-down x f) }
+
+pub sum-one : (s : List ℤ) → 0 < length s → total (take 1 s) ≡ at s 0
+unfolding total
+sum-one s h = sum-more s 0 h ∙ +ℤ-idl (at s 0)
+
 -- one turn: the number read, and the sum with it
 module _ (i : ℕ) (a x : ℤ) (near : Near i a) (l : i < 17) (f : SFits w16 x) where
   pub wide : SFits w32 x

@@ -3,9 +3,11 @@
 ghost use mathlib.Core.Path.{_≡_};
 ghost use Prim.Native.Nat.{suc, _<_, _≤_};
 ghost use lib.IntN.{pos, _+ℤ_, _-ℤ_, _*ℤ_};
-ghost use lib.ListN.{length};
+ghost use lib.ListN.{length, take};
 ghost use lib.Signed.{shrZ};
 ghost use Rattle.ints.specs.Parts.{up, down};
+ghost use Rattle.spectrum.specs.Distances.{place};
+ghost use Rattle.spectrum.specs.Values.{total};
 ghost use Rattle.nlsf_stabilize.specs.Asked.{keyed, keyAt, smallestKey};
 
 // The key of place i, where x lies above p and the gap g together.
@@ -41,25 +43,38 @@ fn key_last(v: &[i16], g: &[i16]) -> i32
     key(32768, v[n - 1], g[n], n)
 }
 
-// The smallest key. The first and the last place have one value each and stand outside the loop.
-pub fn smallest_run(v: &[i16], g: &[i16]) -> i32
+// The smallest key, with the sum of the gaps before its place.
+pub struct Least {
+    pub key: i32,
+    pub before: i32,
+}
+
+// The search. The first and the last place have one value each and stand outside the loop. The sum goes along: a loop of its own would end at a
+// place that can't be guessed ahead.
+pub fn smallest_run(v: &[i16], g: &[i16]) -> Least
     requires { ⌜ (0 < length (now v)) × ((length (now g) ≡ suc (length (now v))) × (length (now v) ≤ 16)) ⌝ }
-    ensures { λ r. ⌜ r ≡ smallestKey (now (g .entry)) (now (v .entry)) ⌝ }
+    ensures { λ r. ⌜ r .key ≡ smallestKey (now (g .entry)) (now (v .entry)) ⌝ }
+    ensures { λ r. ⌜ r .before ≡ total (take (place (now (g .entry)) (now (v .entry))) (now (g .entry))) ⌝ }
 {
     let mut least = key_first(v, g);
+    let mut before: i32 = 0;
+    let mut sum = g[0] as i32;
     let mut i: usize = 1;
     while i < v.len() {
         let k = key_between(v, g, i);
         if k < least {
             least = k;
+            before = sum;
         }
+        sum = sum + (g[i] as i32);
         i += 1;
     }
     let last = key_last(v, g);
     if last < least {
-        return last;
+        least = last;
+        before = sum;
     }
-    least
+    Least { key: least, before }
 }
 
 // The place of a key.

@@ -2,22 +2,7 @@
 ghost use mathlib.Core.Path.{_≡_};
 ghost use Prim.Native.Nat.{_+_, _≤_};
 ghost use lib.ListN.{length};
-ghost use Rattle.spectrum.specs.Values.{total};
 ghost use Rattle.nlsf_stabilize.specs.Asked.{ruledSum};
-
-// The sum of at most 17 gaps.
-pub fn gap_sum_run(s: &[i16]) -> i32
-    requires { ⌜ length (now s) ≤ 17 ⌝ }
-    ensures { λ r. ⌜ r ≡ total (now (s .entry)) ⌝ }
-{
-    let mut acc: i32 = 0;
-    let mut i: usize = 0;
-    while i < s.len() {
-        acc = acc + (s[i] as i32);
-        i += 1;
-    }
-    acc
-}
 
 // The sum of gaps that meet the gap set's rule for a vector of n values, and -1 of others.
 pub fn ruled_sum_run(g: &[i16], n: usize) -> i32

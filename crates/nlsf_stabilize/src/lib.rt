@@ -24,11 +24,11 @@ pub fn stabilise_run(v: &mut [i16], g: &[i16], sum: i32) -> u32
 {
     let mut m: u32 = 0;
     while m < 20 {
-        let k = smallest_run(v, g);
-        if k >= 0 {
+        let l = smallest_run(v, g);
+        if l.key >= 0 {
             return m;
         }
-        move_at_run(v, g, sum, place_of_run(k));
+        move_at_run(v, g, sum, l.before, place_of_run(l.key));
         m += 1;
     }
     fall_back_run(v, g);

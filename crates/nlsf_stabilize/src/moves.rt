@@ -1,11 +1,11 @@
 // One move: the first value, the last, or a pair about its centre (RFC 6716, section 4.2.7.5.4).
 ghost use mathlib.Core.Path.{_≡_};
 ghost use lib.IntN.{pos, _+ℤ_, _-ℤ_};
+ghost use lib.ListN.{take};
 ghost use Rattle.spectrum.specs.Values.{Mag, top, half, held, total};
 ghost use Rattle.spectrum.specs.Distances.{move};
 ghost use Rattle.spectrum.specs.Stabilising.{kept16};
 ghost use Rattle.nlsf_stabilize.specs.Asked.{PairOk, MoveOk};
-use crate::gaps::gap_sum_run;
 use wrapping::add16;
 
 // The middle of a and b, halved upward and held between the limits.
@@ -42,9 +42,9 @@ fn rest(sum: i32, before: i32, gap: i16) -> i32
     sum - before - (gap as i32)
 }
 
-// The move at place i; sum is that of all gaps.
-pub fn move_at_run(v: &mut [i16], g: &[i16], sum: i32, i: usize)
-    requires { ⌜ MoveOk (now g) (now v) i × (sum ≡ total (now g)) ⌝ }
+// The move at place i; `sum` is that of all gaps, `before` that of the gaps before the place.
+pub fn move_at_run(v: &mut [i16], g: &[i16], sum: i32, before: i32, i: usize)
+    requires { ⌜ MoveOk (now g) (now v) i × ((sum ≡ total (now g)) × (before ≡ total (take i (now g)))) ⌝ }
     ensures { λ _. ⌜ now (v .exit) ≡ move kept16 (now (g .entry)) (now (v .entry)) i ⌝ }
 {
     let n = v.len();
@@ -56,7 +56,6 @@ pub fn move_at_run(v: &mut [i16], g: &[i16], sum: i32, i: usize)
         v[i - 1] = (32768 - (g[i] as i32)) as i16;
         return;
     }
-    let before = gap_sum_run(&g[0..i]);
     let behind = rest(sum, before, g[i]);
     let a = pair_low(v[i - 1], v[i], g[i], before, behind);
     let b = add16(a, g[i]);

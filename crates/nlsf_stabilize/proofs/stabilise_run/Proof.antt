@@ -1,13 +1,13 @@
 -- `stabilise_run` meets its contract. The invariant: what is still to be run from here, with the moves made, is the whole answer.
 -- Assumes nothing.
-use Prim.Native.Nat.{ℕ, _-_, _≤_, _<_}
-use mathlib.Core.Path.{_≡_, refl, sym, ap, subst, _∙_}
+use Prim.Native.Nat.{_-_, _≤_, _<_}
+use mathlib.Core.Path.{_≡_, refl, ap, _∙_}
 use mathlib.Core.Bool.{true, false}
 use native.Mathlib.Omega.{arith}
-use borrow.Author.Needs.{needs, sfits-of}
+use borrow.Author.Needs.{needs}
 use lib.ListN.{length}
 use mir.Syntax.{w32}
-use mir.Val.{toZ, ofZ}
+use mir.Val.{SFits, toZ, ofZ}
 use mir.Facts.{toZ-ofZ}
 use Rattle.spectrum.proofs.FirstSmallest.{after}
 use Rattle.spectrum.proofs.Kept.{length-move}
@@ -30,11 +30,12 @@ loop-holds c = (omega arith, (refl, run-start (c .args .g .now) (c .args .v .now
 
 -- the smallest key of the loop's vector
 key-is : (c : tie.After-smallest-run Inv-loop μ-loop) → let b = c .before .before .before in
-    (toZ w32 (ofZ w32 (c .smallest-run .result)) ≡ smallestKey (b .before .args .g .now) (b .loop .v)) × (place (b .before .args .g .now) (b .loop .v) ≤ length (b .loop .v))
+    (toZ w32 (ofZ w32 (c .smallest-run .result .key)) ≡ smallestKey (b .before .args .g .now) (b .loop .v)) × (place (b .before .args .g .now) (b .loop .v) ≤ length (b .loop .v))
 key-is c =
     let b = c .before .before .before in
     let o = keep-ok (b .before .args .g .now) (b .before .args .v .now) (b .loop .v) 0 0 (b .before .pre .0) (b .loop .inv .1 .0) (omega arith) in
-    (toZ-ofZ {w = w32} (sfits-of (c .smallest-run .ok)) ∙ c .smallest-run .ensures, place-most (b .loop .v) (b .before .args .g .now) (o .long))
+    let f : SFits w32 (c .smallest-run .result .key) = search needs in
+    (toZ-ofZ {w = w32} f ∙ c .smallest-run .ensures .0, place-most (b .loop .v) (b .before .args .g .now) (o .long))
 
 few : (c : tie.After-smallest-run Inv-loop μ-loop) → let b = c .before .before .before in place (b .before .args .g .now) (b .loop .v) < 32
 few c = let b = c .before .before .before in omega (arith, key-is c .1, b .loop .inv .1 .0, b .before .pre .0 .few)
@@ -45,15 +46,16 @@ smallest-run-requires c κs =
     let o = keep-ok (b .before .args .g .now) (b .before .args .v .now) (b .loop .v) 0 0 (b .before .pre .0) (b .loop .inv .1 .0) (omega arith) in (o .some, (o .long, o .few))
 
 same-length : tie.Need-same-length Inv-loop μ-loop
-same-length c = c .before .before .before .before .loop .inv .1 .0
+same-length c = c .before .before .before .before .before .before .loop .inv .1 .0
 
 returns : tie.Need-returns Inv-loop μ-loop
 returns c =
-    let b = c .before .before .before .before in
+    let t = c .before .before .before in
+    let b = t .before .before .before in
     let g = b .before .args .g .now in
-    let k = toZ w32 (ofZ w32 (c .before .smallest-run .result)) in
+    let k = toZ w32 (ofZ w32 (t .smallest-run .result .key)) in
     run-stop g (b .loop .v) (b .loop .m) (stabilise kept16 g (b .before .args .v .now)) (omega arith)
-    (tested g (b .loop .v) k (key-is (c .before) .0) (few (c .before)) true (c .if1 .taken))
+    (tested g (b .loop .v) k (key-is t .0) (few t) true (c .if1 .taken))
     (b .loop .inv .1 .1)
 
 place-of-run-requires : tie.Need-place-of-run-requires Inv-loop μ-loop
@@ -61,13 +63,15 @@ place-of-run-requires c κs = search needs
 
 move-at-run-requires : tie.Need-move-at-run-requires Inv-loop μ-loop
 move-at-run-requires c κs =
-    let t = c .before .before .before in
+    let t = c .before .before .before .before .before .before .before in
     let b = t .before .before .before in
     let g = b .before .args .g .now in
     let v = b .loop .v in
+    let i = c .before .place-of-run .result in
     let o = keep-ok g (b .before .args .v .now) v 0 0 (b .before .pre .0) (b .loop .inv .1 .0) (omega arith) in
-    let p = placed g v (toZ w32 (ofZ w32 (t .smallest-run .result))) (key-is t .0) (few t) (c .place-of-run .result) (c .place-of-run .ensures) in
-    rw (toZ-ofZ (b .before .fits .sum)) (keep-ok g v v 0 (c .place-of-run .result) o refl (subst (λ (n : ℕ). n ≤ length v) (sym p) (key-is t .1)), b .before .pre .1)
+    let p = placed g v (toZ w32 (ofZ w32 (t .smallest-run .result .key))) (key-is t .0) (few t) i (c .before .place-of-run .ensures) in
+    let f : SFits w32 (t .smallest-run .result .before) = search needs in
+    rw (toZ-ofZ (b .before .fits .sum), toZ-ofZ f, p) (keep-ok g v v 0 (place g v) o refl (key-is t .1), (b .before .pre .1, t .smallest-run .ensures .1))
 
 add-m : tie.Need-add-m Inv-loop μ-loop
 add-m c = search needs
@@ -77,18 +81,18 @@ loop-less c = omega arith
 
 loop-again : tie.Need-loop-again Inv-loop μ-loop
 loop-again c =
-    let q = c .before .before in
-    let t = q .before .before .before in
+    let q = c .before .before .before in
+    let t = q .before .before .before .before .before .before in
     let b = t .before .before .before in
     let g = b .before .args .g .now in
     let v = b .loop .v in
-    let k = toZ w32 (ofZ w32 (t .smallest-run .result)) in
+    let k = toZ w32 (ofZ w32 (t .smallest-run .result .key)) in
     let i = q .place-of-run .result in (
       omega arith,
       (
         ap length (c .before .move-at-run .ensures) ∙ length-move kept16 g v i ∙ b .loop .inv .1 .0,
         run-on g v (c .before .move-at-run .last .0) i (b .loop .m) (stabilise kept16 g (b .before .args .v .now)) (omega arith)
-            (tested g v k (key-is t .0) (few t) false (q .before .before .if1 .left))
+            (tested g v k (key-is t .0) (few t) false (q .before .before .before .if1 .left))
             (placed g v k (key-is t .0) (few t) i (q .place-of-run .ensures))
             (c .before .move-at-run .ensures)
             (b .loop .inv .1 .1),

@@ -10,28 +10,21 @@ use mir.Val.{SFits, toZ, ofZ}
 use mir.Facts.{toZ-ofZ}
 use Rattle.ints.specs.Wrap.{wrap16}
 use Rattle.spectrum.specs.Values.{at, top, held, half, total}
-use Rattle.nlsf_stabilize.proofs.MoveLaws.{part-before, sums-near, part-behind, pair-ok, move-first, last-fits, move-last, move-between}
+use Rattle.nlsf_stabilize.proofs.MoveLaws.{sums-near, part-behind, pair-ok, move-first, last-fits, move-last, move-between}
 use Rattle.nlsf_stabilize.proofs.Widened.{wide}
 use Rattle.nlsf_stabilize.proofs.moves.move_at_run.Statement.{statement}
 use Rattle.nlsf_stabilize.proofs.moves.move_at_run.Tie as tie
 
--- the sum before the gap, and the one behind it
-before-is : (q : tie.After-gap-sum-run) → let b = q .before .before .before .before in
-    toZ w32 (ofZ w32 (q .gap-sum-run .result)) ≡ total (take (b .args .i) (b .args .g .now))
-before-is q =
-    let b = q .before .before .before .before in
-    toZ-ofZ {w = w32} (sfits-of (q .gap-sum-run .ok)) ∙ q .gap-sum-run .ensures ∙ part-before (b .args .g .now) (b .args .i)
-
-behind-is : (r : tie.After-rest) → let b = r .before .before .before .before .before .before in
+-- the sum behind the gap
+behind-is : (r : tie.After-rest) → let b = r .before .before .before .before in
     toZ w32 (ofZ w32 (r .rest .result)) ≡ total (drop (suc (b .args .i)) (b .args .g .now))
 behind-is r =
-    let q = r .before .before in
-    let d = q .before .before in
+    let d = r .before .before in
     let b = d .before .before in
     let g = b .args .g .now in
     let i = b .args .i in
     let k : SFits w16 (at g i) = sfits-of (r .before .rest-arg .given) in
-    let e : r .rest .result ≡ (total g -ℤ total (take i g)) -ℤ at g i = rw (toZ-ofZ (b .fits .sum), before-is q, b .pre .1, toZ-ofZ k) at (r .rest .ensures) in
+    let e : r .rest .result ≡ (total g -ℤ total (take i g)) -ℤ at g i = rw (toZ-ofZ (b .fits .sum), toZ-ofZ (b .fits .before), b .pre .1 .0, b .pre .1 .1, toZ-ofZ k) at (r .rest .ensures) in
     toZ-ofZ {w = w32} (sfits-of (r .rest .ok)) ∙ e ∙ part-behind g (b .args .v .now) i (b .pre .0) (d .if2 .left)
 
 shared-slice-copy-out-v : tie.Need-shared-slice-copy-out-v
@@ -92,18 +85,6 @@ returns-2 c =
     let o = last-fits (b .args .g .now) (b .args .v .now) (b .args .i) (c .before .if2 .taken) (b .pre .0) in
     rw (toZ-ofZ k, toZ-ofZ (wide k), toZ-ofZ (wide o), toZ-ofZ o) (move-last (b .args .g .now) (b .args .v .now) (b .args .i) (c .before .if2 .taken) (omega arith) (b .pre .0))
 
-sub-gap-sum-run : tie.Need-sub-gap-sum-run
-sub-gap-sum-run c = search needs
-
-part-gap-sum-run-start : tie.Need-part-gap-sum-run-start
-part-gap-sum-run-start c = search needs
-
-part-gap-sum-run-end : tie.Need-part-gap-sum-run-end
-part-gap-sum-run-end c = search needs
-
-gap-sum-run-requires : tie.Need-gap-sum-run-requires
-gap-sum-run-requires c κs = search needs
-
 mul-rest : tie.Need-mul-rest
 mul-rest c = search needs
 
@@ -112,9 +93,9 @@ shared-slice-copy-out-rest c = search needs
 
 rest-requires : tie.Need-rest-requires
 rest-requires c κs =
-    let d = c .before .before .before in
+    let d = c .before in
     let b = d .before .before in
-    rw (toZ-ofZ (b .fits .sum), before-is (c .before), b .pre .1) (sums-near (b .args .g .now) (b .args .v .now) (b .args .i) (b .pre .0) (d .if2 .left))
+    rw (toZ-ofZ (b .fits .sum), toZ-ofZ (b .fits .before), b .pre .1 .0, b .pre .1 .1) (sums-near (b .args .g .now) (b .args .v .now) (b .args .i) (b .pre .0) (d .if2 .left))
 
 sub-pair-low : tie.Need-sub-pair-low
 sub-pair-low c = search needs
@@ -139,13 +120,13 @@ shared-slice-copy-out-pair-low c = search needs
 
 pair-low-requires : tie.Need-pair-low-requires
 pair-low-requires c κs =
-    let d = c .before .before .before .before .before .before .before in
+    let d = c .before .before .before .before .before in
     let b = d .before .before in
     let g = b .args .g .now in
     let v = b .args .v .now in
     let i = b .args .i in
     let k : SFits w16 (at g i) = sfits-of (c .pair-low-arg3 .given) in
-    rw (toZ-ofZ k, before-is (c .before .before .before .before .before), behind-is (c .before .before .before)) (pair-ok g v i (b .pre .0) (d .if2 .left))
+    rw (toZ-ofZ k, toZ-ofZ (b .fits .before), b .pre .1 .1, behind-is (c .before .before .before)) (pair-ok g v i (b .pre .0) (d .if2 .left))
 
 mul-add16 : tie.Need-mul-add16
 mul-add16 c = search needs
@@ -170,7 +151,7 @@ mul-b c = search needs
 
 slice-set-from-b : tie.Need-slice-set-from-b
 slice-set-from-b c =
-    let d = c .before .before .before .before .before .before .before .before .before .before in
+    let d = c .before .before .before .before .before .before .before .before in
     let b = d .before .before in rw length-set (omega (arith, b .pre .0 .place))
 
 same-length-3 : tie.Need-same-length-3
@@ -178,7 +159,7 @@ same-length-3 c = search needs
 
 returns-3 : tie.Need-returns-3
 returns-3 c =
-    let d = c .before .before .before .before .before .before .before .before .before .before in
+    let d = c .before .before .before .before .before .before .before .before in
     let b = d .before .before in
     let g = b .args .g .now in
     let v = b .args .v .now in
@@ -188,12 +169,9 @@ returns-3 c =
     let k2 : SFits w16 (at g i) = sfits-of (c .before .add16-arg .given) in
     let f1 : SFits w16 (at v i) = sfits-of (p .before .before .pair-low-arg2 .given) in
     let f0 : SFits w16 (at v (i - 1)) = sfits-of (p .before .before .before .pair-low-arg .given) in
-    let q = p .before .before .before .before in
-    let s1 = before-is (q .before .before) in
-    let s2 = behind-is q in
     let x : SFits w16 (p .pair-low .result) = sfits-of (p .pair-low .ok) in
     let y : SFits w16 (c .add16 .result) = sfits-of (c .add16 .ok) in
-    let e : p .pair-low .result ≡ held (total (take i g) +ℤ half (at g i)) ((top -ℤ total (drop (suc i) g)) -ℤ half (at g i)) (half (at v (i - 1) +ℤ at v i +ℤ pos 1)) -ℤ half (at g i) = rw (toZ-ofZ k, toZ-ofZ f0, toZ-ofZ f1, s1, s2) at (p .pair-low .ensures) in
+    let e : p .pair-low .result ≡ held (total (take i g) +ℤ half (at g i)) ((top -ℤ total (drop (suc i) g)) -ℤ half (at g i)) (half (at v (i - 1) +ℤ at v i +ℤ pos 1)) -ℤ half (at g i) = rw (toZ-ofZ k, toZ-ofZ f0, toZ-ofZ f1, toZ-ofZ (b .fits .before), b .pre .1 .1, behind-is (p .before .before .before .before)) at (p .pair-low .ensures) in
     let w : c .add16 .result ≡ wrap16 (p .pair-low .result +ℤ at g i) = rw (toZ-ofZ x, toZ-ofZ k2) at (c .add16 .ensures) in
     rw (toZ-ofZ x, toZ-ofZ y) (move-between g v i (p .pair-low .result) (c .add16 .result) (d .if2 .left) (omega arith) (b .pre .0) e w)
 
@@ -215,10 +193,6 @@ move-at-run-spec =
     slice-set-from-v-2
     same-length-2
     returns-2
-    sub-gap-sum-run
-    part-gap-sum-run-start
-    part-gap-sum-run-end
-    gap-sum-run-requires
     mul-rest
     shared-slice-copy-out-rest
     rest-requires
