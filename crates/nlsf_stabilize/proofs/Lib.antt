@@ -5,4 +5,5 @@ pub mod Upward
 pub mod PairLaws
 pub mod MoveLaws
 pub mod Widened
+pub mod StayLaws
 pub mod SumLaws

@@ -10,12 +10,12 @@ use lib.ListN.{length, take}
 use lib.Seq.{take-suc}
 use mir.Syntax.{w16, w32}
 use mir.Val.{SFits, toZ, ofZ}
-use mir.Facts.{toZ-ofZ, sfits-widen}
 use Rattle.ints.specs.Parts.{up, down}
 use Rattle.ints.specs.Sums.{up-sum, down-sum}
 use Rattle.ints.specs.Widths.{fits-up, fits-down, parts-fit}
 use Rattle.lists.specs.Every.{every}
 use Rattle.spectrum.specs.Values.{at, total}
+use Rattle.nlsf_stabilize.proofs.Widened.{read16}
 
 -- after i numbers of 16 bits
 pub record Near (i : ℕ) (z : ℤ) : Type 0 where
@@ -40,11 +40,8 @@ sum-one s h = sum-more s 0 h ∙ +ℤ-idl (at s 0)
 
 -- one turn: the number read, and the sum with it
 module _ (i : ℕ) (a x : ℤ) (near : Near i a) (l : i < 17) (f : SFits w16 x) where
-  pub wide : SFits w32 x
-  wide = sfits-widen {w = w16} tt f
-
   pub read : toZ w32 (ofZ w32 (toZ w16 (ofZ w16 x))) ≡ x
-  read = simp (toZ-ofZ f, toZ-ofZ {w = w32} wide)
+  read = read16 f
 
   pub nearer : Near (i + 1) (a +ℤ x)
   nearer =

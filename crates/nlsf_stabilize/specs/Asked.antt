@@ -1,18 +1,22 @@
 -- What the inner functions of the stabiliser ask of gaps and vectors. Assumes nothing.
 use Prim.Native.Nat.{ℕ, suc, _+_, _≤_, _<_}
 use mathlib.Core.Path.{_≡_}
-use mathlib.Core.Bool.{cond}
+use mathlib.Core.Bool.{Bool, _&&_, cond}
 use mathlib.Core.List.{List}
 use lib.IntN.{ℤ, pos, negsuc, _+ℤ_, _*ℤ_}
 use lib.ListN.{length}
 use Rattle.ints.specs.Parts.{up, down}
-use Rattle.spectrum.specs.Distances.{diffs, place}
+use Rattle.spectrum.specs.Distances.{diffs, keeps, place}
 use Rattle.spectrum.specs.Gaps.{goodGaps, Ruled}
 use Rattle.spectrum.specs.Values.{at, total}
 
 -- the sum of gaps that meet the gap set's rule for n values, and -1 of others
 unfoldable pub ruledSum : ℕ → List ℤ → ℤ
 ruledSum n g = cond (goodGaps n g) (total g) (negsuc 0)
+
+-- the gaps meet the rule, and the vector keeps every one
+abbrev pub stays : List ℤ → List ℤ → Bool
+stays g v = goodGaps (length v) g && keeps g v
 
 -- a difference and its place in one number: the smallest of these keys has the smallest difference, and of equal ones the first place
 unfoldable pub keyed : ℤ → ℕ → ℤ

@@ -10,12 +10,14 @@ use fallback::fall_back_run;
 use gaps::ruled_sum_run;
 use moves::move_at_run;
 use spectrum::Moves;
+use stays::stays_run;
 
 mod distances; // distances.rt: which gap is mended
 mod fallback; // fallback.rt: what follows the last move
 mod gaps; // gaps.rt: the gap set's rule
 mod moves; // moves.rt: one move
 mod sort; // sort.rt: sorting
+mod stays; // stays.rt: vectors that keep every gap
 
 // Stabilised, with the number of moves; sum is that of the gaps.
 pub fn stabilise_run(v: &mut [i16], g: &[i16], sum: i32) -> u32
@@ -53,6 +55,12 @@ pub fn silk_NLSF_stabilize(vector: &mut [i16], gaps: &[i16]) -> Moves
     ensures { λ a. ⌜ record { vector = now (vector .exit); answer = a } ≡ stabiliseCall (now (vector .entry)) (now (gaps .entry)) ⌝ }
 {
     if lengths_ok(vector, gaps) {
+        if stays_run(vector, gaps) {
+            return Moves {
+                refusal: 0,
+                moves: 0,
+            };
+        }
         let sum = ruled_sum_run(gaps, vector.len());
         if sum >= 0 {
             let m = stabilise_run(vector, gaps, sum);

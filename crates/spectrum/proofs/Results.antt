@@ -1,7 +1,7 @@
 -- The laws of stabilising as document 01 and RFC 6716, section 4.2.7.5.4, put them: over the test of the gap set, place by place.
 -- Assumes nothing.
 use Prim.Native.Nat.{ℕ, zero, suc, _≤_, _<_, suc-le-suc}
-use mathlib.Core.Path.{_≡_, refl, sym, ap, _∙_}
+use mathlib.Core.Path.{_≡_, refl, sym, ap, subst⁻¹, _∙_}
 use mathlib.Core.Bool.{true, _&&_}
 use mathlib.Core.List.{List, [], _∷_}
 use native.Mathlib.Omega.{arith}
@@ -49,38 +49,33 @@ ruled n g l e =
 
 -- ---- place by place
 
-kept-between : (p : ℤ) (v g : List ℤ) → Kept p v g → (i : ℕ) → suc i < length v → (at v i +ℤ at g (suc i)) ≼ at v (suc i)
+pub kept-at : (p : ℤ) (v g : List ℤ) → Kept p v g → (i : ℕ) → i < length v → (at (p ∷ v) i +ℤ at g i) ≼ at v i
 unfolding Kept
-kept-between p [] g k i h = absurd (not-suc-le-zero h)
-kept-between p (x ∷ []) g k i h = absurd (not-suc-le-zero (le-of-suc-le-suc h))
-kept-between p (x ∷ (y ∷ v)) [] k i h = absurd k
-kept-between p (x ∷ (y ∷ v)) (a ∷ []) k i h = absurd (k .1)
-kept-between p (x ∷ (y ∷ v)) (a ∷ (b ∷ g)) k zero h = k .1 .0
-kept-between p (x ∷ (y ∷ v)) (a ∷ (b ∷ g)) k (suc i) h = kept-between x (y ∷ v) (b ∷ g) (k .1) i (le-of-suc-le-suc h)
+kept-at p [] g k i h = absurd (not-suc-le-zero h)
+kept-at p (x ∷ v) [] k i h = absurd k
+kept-at p (x ∷ v) (a ∷ g) k zero h = k .0
+kept-at p (x ∷ v) (a ∷ g) k (suc i) h = kept-at x v g (k .1) i (le-of-suc-le-suc h)
 
-kept-last : (p : ℤ) (v g : List ℤ) → Kept p v g → (i : ℕ) → suc i ≡ length v → (at v i +ℤ at g (suc i)) ≼ top
+pub kept-end : (p : ℤ) (v g : List ℤ) → Kept p v g → (at (p ∷ v) (length v) +ℤ at g (length v)) ≼ top
 unfolding Kept
-kept-last p [] g k i e = absurd (omega arith)
-kept-last p (x ∷ v) [] k i e = absurd k
-kept-last p (x ∷ []) (a ∷ []) k i e = absurd (k .1)
-kept-last p (x ∷ []) (a ∷ (b ∷ g)) k zero e = k .1
-kept-last p (x ∷ []) (a ∷ (b ∷ g)) k (suc i) e = absurd (omega arith)
-kept-last p (x ∷ (y ∷ v)) (a ∷ g) k zero e = absurd (omega arith)
-kept-last p (x ∷ (y ∷ v)) (a ∷ g) k (suc i) e = kept-last x (y ∷ v) g (k .1) i (suc-inj e)
+kept-end p [] [] k = absurd k
+kept-end p [] (a ∷ g) k = k
+kept-end p (x ∷ v) [] k = absurd k
+kept-end p (x ∷ v) (a ∷ g) k = kept-end x v g (k .1)
 
 pub kept-every : (v g : List ℤ) → 0 < length v → Kept (pos 0) v g → EveryGap g v
-unfolding Kept
-kept-every [] g h k = absurd (not-suc-le-zero h)
-kept-every (x ∷ v) [] h k = absurd k
-kept-every (x ∷ v) (a ∷ g) h k =
+kept-every v g h k =
+    let each = kept-at (pos 0) v g k in
     record {
-      first = parts-le a x (let f : (pos 0 +ℤ a) ≼ x = k .0 in omega (arith, sum-parts (pos 0) a));
-      between = λ i l. parts-le (at (x ∷ v) i +ℤ at (a ∷ g) (suc i)) (at (x ∷ v) (suc i)) (kept-between (pos 0) (x ∷ v) (a ∷ g) k i l);
-      last = λ i l. parts-le (at (x ∷ v) i +ℤ at (a ∷ g) (suc i)) top (kept-last (pos 0) (x ∷ v) (a ∷ g) k i l);
+      first = parts-le (at g 0) (at v 0) (omega (arith, sum-parts (pos 0) (at g 0), each 0 h));
+      between = λ i l. parts-le (at v i +ℤ at g (suc i)) (at v (suc i)) (each (suc i) l);
+      last = λ i l.
+          parts-le (at v i +ℤ at g (suc i)) top
+          (subst⁻¹ (λ (n : ℕ). (at (pos 0 ∷ v) n +ℤ at g n) ≼ top) l (kept-end (pos 0) v g k));
     }
 
 -- and back: each value lies a gap above the one before it, and the last a gap below 32,768
-kept-by : (p : ℤ) (v g : List ℤ) → length g ≡ suc (length v) → ((i : ℕ) → i < length v → (at (p ∷ v) i +ℤ at g i) ≼ at v i)
+pub kept-by : (p : ℤ) (v g : List ℤ) → length g ≡ suc (length v) → ((i : ℕ) → i < length v → (at (p ∷ v) i +ℤ at g i) ≼ at v i)
     → (at (p ∷ v) (length v) +ℤ at g (length v)) ≼ top → Kept p v g
 unfolding Kept
 kept-by p [] [] l f e = absurd (omega arith)

@@ -13,6 +13,7 @@ use Rattle.spectrum.proofs.CallLaws.{lengths-are, stabilise-answers}
 use Rattle.spectrum.specs.Calls.{lengthsOk}
 use Rattle.spectrum.specs.Gaps.{goodGaps}
 use Rattle.nlsf_stabilize.proofs.MoveLaws.{ruled-sum, ruled-total, refused-lengths, refused-gaps, accepted, move-ok}
+use Rattle.nlsf_stabilize.proofs.StayLaws.{stays-answers}
 use Rattle.nlsf_stabilize.proofs.silk_NLSF_stabilize.Statement.{statement}
 use Rattle.nlsf_stabilize.proofs.silk_NLSF_stabilize.Tie as tie
 
@@ -20,55 +21,75 @@ use Rattle.nlsf_stabilize.proofs.silk_NLSF_stabilize.Tie as tie
 lengths-right : (c : tie.Then1) → let a = c .before .before .before .args in lengthsOk (a .vector .now) (a .gaps .now) ≡ true
 lengths-right c = sym (c .before .lengths-ok .ensures) ∙ c .if1 .taken
 
-rule-is : (r : tie.After-ruled-sum-run) (t : Bool) → leZ (pos 0) (toZ w32 (ofZ w32 (r .ruled-sum-run .result))) ≡ t → let a = r .before .before .before .before .args in
+-- that test, from behind the sum
+abbrev measured : tie.After-ruled-sum-run → tie.Then1
+measured r = r .before .before .before .before
+
+rule-is : (r : tie.After-ruled-sum-run) (t : Bool) → leZ (pos 0) (toZ w32 (ofZ w32 (r .ruled-sum-run .result))) ≡ t → let a = measured r .before .before .before .args in
     goodGaps (length (a .vector .now)) (a .gaps .now) ≡ t
 rule-is r t e =
-    let a = r .before .before .before .before .args in
-    let l = lengths-are (a .vector .now) (a .gaps .now) (lengths-right (r .before)) in
+    let a = measured r .before .before .before .args in
+    let l = lengths-are (a .vector .now) (a .gaps .now) (lengths-right (measured r)) in
     ruled-sum (length (a .vector .now)) (a .gaps .now) _ (omega (arith, l .one-more)) (toZ-ofZ {w = w32} (sfits-of (r .ruled-sum-run .ok)) ∙ r .ruled-sum-run .ensures) t e
 
 lengths-ok-requires : tie.Need-lengths-ok-requires
 lengths-ok-requires c κs = search needs
 
-ruled-sum-run-requires : tie.Need-ruled-sum-run-requires
-ruled-sum-run-requires c κs =
-    let a = c .before .before .before .args in
-    let l = lengths-are (a .vector .now) (a .gaps .now) (lengths-right c) in (l .one-more, l .most)
-
-stabilise-run-requires : tie.Need-stabilise-run-requires
-stabilise-run-requires c κs =
-    let r = c .before .before in
-    let a = r .before .before .before .before .args in
-    let t = rule-is r true (c .before .if2 .taken) in (
-      move-ok (a .vector .now) (a .gaps .now) (accepted (a .vector .now) (a .gaps .now) (lengths-right (r .before)) t),
-      ruled-total (length (a .vector .now)) (a .gaps .now) _ (toZ-ofZ {w = w32} (sfits-of (r .ruled-sum-run .ok)) ∙ r .ruled-sum-run .ensures) t,
-    )
+stays-run-requires : tie.Need-stays-run-requires
+stays-run-requires c κs =
+    let q = c .before in
+    let a = q .before .before .before .args in
+    let l = lengths-are (a .vector .now) (a .gaps .now) (lengths-right q) in omega (arith, l .one-more)
 
 same-length : tie.Need-same-length
 same-length c = search needs
 
 returns : tie.Need-returns
 returns c =
-    let r = c .before .before .before .before in
-    let a = r .before .before .before .before .args in
-    stabilise-answers (a .vector .now) (a .gaps .now) (c .before .stabilise-run .last .0) (c .before .stabilise-run .result)
-    (accepted (a .vector .now) (a .gaps .now) (lengths-right (r .before)) (rule-is r true (c .before .before .before .if2 .taken)))
-    (c .before .stabilise-run .ensures)
+    let q = c .before .before .before in
+    let a = q .before .before .before .args in
+    stays-answers (a .vector .now) (a .gaps .now) (lengths-right q) (sym (c .before .stays-run .ensures) ∙ c .if2 .taken)
+
+ruled-sum-run-requires : tie.Need-ruled-sum-run-requires
+ruled-sum-run-requires c κs =
+    let q = c .before .before .before in
+    let a = q .before .before .before .args in
+    let l = lengths-are (a .vector .now) (a .gaps .now) (lengths-right q) in (l .one-more, l .most)
+
+stabilise-run-requires : tie.Need-stabilise-run-requires
+stabilise-run-requires c κs =
+    let r = c .before .before in
+    let a = measured r .before .before .before .args in
+    let t = rule-is r true (c .before .if3 .taken) in (
+      move-ok (a .vector .now) (a .gaps .now) (accepted (a .vector .now) (a .gaps .now) (lengths-right (measured r)) t),
+      ruled-total (length (a .vector .now)) (a .gaps .now) _ (toZ-ofZ {w = w32} (sfits-of (r .ruled-sum-run .ok)) ∙ r .ruled-sum-run .ensures) t,
+    )
 
 same-length-2 : tie.Need-same-length-2
 same-length-2 c = search needs
 
 returns-2 : tie.Need-returns-2
 returns-2 c =
-    let r = c .before in
-    let a = r .before .before .before .before .args in
-    refused-gaps (a .vector .now) (a .gaps .now) (lengths-right (r .before)) (rule-is r false (c .if2 .left))
+    let r = c .before .before .before .before in
+    let a = measured r .before .before .before .args in
+    stabilise-answers (a .vector .now) (a .gaps .now) (c .before .stabilise-run .last .0) (c .before .stabilise-run .result)
+    (accepted (a .vector .now) (a .gaps .now) (lengths-right (measured r)) (rule-is r true (c .before .before .before .if3 .taken)))
+    (c .before .stabilise-run .ensures)
 
 same-length-3 : tie.Need-same-length-3
 same-length-3 c = search needs
 
 returns-3 : tie.Need-returns-3
 returns-3 c =
+    let r = c .before in
+    let a = measured r .before .before .before .args in
+    refused-gaps (a .vector .now) (a .gaps .now) (lengths-right (measured r)) (rule-is r false (c .if3 .left))
+
+same-length-4 : tie.Need-same-length-4
+same-length-4 c = search needs
+
+returns-4 : tie.Need-returns-4
+returns-4 c =
     let a = c .before .before .before .args in
     refused-lengths (a .vector .now) (a .gaps .now) (sym (c .before .lengths-ok .ensures) ∙ c .if1 .left)
 
@@ -77,11 +98,14 @@ silk-NLSF-stabilize-spec =
     tie.close
     (tie.spec
     lengths-ok-requires
-    ruled-sum-run-requires
-    stabilise-run-requires
+    stays-run-requires
     same-length
     returns
+    ruled-sum-run-requires
+    stabilise-run-requires
     same-length-2
     returns-2
     same-length-3
-    returns-3)
+    returns-3
+    same-length-4
+    returns-4)

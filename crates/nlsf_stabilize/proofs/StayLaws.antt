@@ -1,0 +1,122 @@
+-- A vector that stays, place by place, and what the call answers for it. Assumes nothing.
+use Prim.Native.Nat.{ℕ, suc, _<_}
+use mathlib.Core.Path.{_≡_, refl, sym, subst, subst⁻¹}
+use mathlib.Core.Bool.{Bool, true, false, _&&_, _||_}
+use mathlib.Core.List.{List, [], _∷_}
+use native.Mathlib.Omega.{arith}
+use native.Mathlib.Nat.{suc-inj}
+use borrow.Author.Count.{below-more}
+use lib.Dec.{T}
+use lib.IntN.{ℤ, pos, _+ℤ_, _-ℤ_}
+use lib.Signed.{ltZ, leZ}
+use lib.ListN.{length}
+use Rattle.ints.specs.Order.{leZ-true, ltZ-true, ltZ-false}
+use Rattle.ints.specs.Sums.{sum-parts, diff-parts}
+use Rattle.lists.specs.Every.{every, every-at, at-every}
+use Rattle.tests.specs.Both.{and-both, both-and}
+use Rattle.tests.specs.Decides.{Decides, decides-alike}
+use Rattle.spectrum.proofs.CallLaws.{lengths-are, stabilise-answers}
+use Rattle.spectrum.proofs.Extremes.{le-leZ}
+use Rattle.spectrum.proofs.Kept.{Kept, kept-keeps, keeps-kept}
+use Rattle.spectrum.proofs.Results.{kept-at, kept-end, kept-by, unmoved}
+use Rattle.spectrum.specs.Calls.{called, lengthsOk, stabiliseCall}
+use Rattle.spectrum.specs.Distances.{keeps}
+use Rattle.spectrum.specs.Gaps.{goodGaps}
+use Rattle.spectrum.specs.Stabilising.{kept16}
+use Rattle.spectrum.specs.Values.{at, top, _≼_, total}
+use Rattle.nlsf_stabilize.specs.Asked.{stays}
+use Rattle.nlsf_stabilize.proofs.MoveLaws.{accepted}
+
+-- ---- one place: the gap is not negative, and x keeps it from p
+
+pub record Place (p g x : ℤ) : Type 0 where
+  pub nat : pos 0 ≼ g
+  pub kept : (p +ℤ g) ≼ x
+
+module _ (p g x : ℤ) where
+  pub place-kept : ltZ g (pos 0) || ltZ (x -ℤ p) g ≡ false → Place p g x
+  place-kept = go (ltZ g (pos 0)) (ltZ (x -ℤ p) g) refl refl
+    where
+      go : (a b : Bool) → ltZ g (pos 0) ≡ a → ltZ (x -ℤ p) g ≡ b → a || b ≡ false → Place p g x
+      go true b q r e = absurd (subst T e tt)
+      go false true q r e = absurd (subst T e tt)
+      go false false q r e =
+          record { nat = ltZ-false g (pos 0) q; kept = omega (arith, ltZ-false (x -ℤ p) g r, diff-parts x p, sum-parts p g) }
+
+  pub place-lost : ltZ g (pos 0) || ltZ (x -ℤ p) g ≡ true → Place p g x → ⊥
+  place-lost = go (ltZ g (pos 0)) (ltZ (x -ℤ p) g) refl refl
+    where
+      go : (a b : Bool) → ltZ g (pos 0) ≡ a → ltZ (x -ℤ p) g ≡ b → a || b ≡ true → Place p g x → ⊥
+      go true b q r e k = omega (arith, ltZ-true g (pos 0) q, k .nat)
+      go false true q r e k = omega (arith, ltZ-true (x -ℤ p) g r, k .kept, diff-parts x p, sum-parts p g)
+      go false false q r e k = subst T (sym e) tt
+
+-- ---- all places: the first i, and the last, whose gap is 1 or more
+
+abbrev pub Passed : List ℤ → List ℤ → ℕ → Type 0
+Passed g v i = (k : ℕ) → k < i → Place (at (pos 0 ∷ v) k) (at g k) (at v k)
+
+abbrev Ended : List ℤ → List ℤ → ℕ → Type 0
+Ended g v i = (pos 1 ≼ at g i) × ((at (pos 0 ∷ v) i +ℤ at g i) ≼ top)
+
+-- the gaps lie side by side between p and 32,768
+kept-total : (p : ℤ) (v g : List ℤ) → length g ≡ suc (length v) → Kept p v g → (p +ℤ total g) ≼ top
+unfolding Kept total
+kept-total p [] [] l k = absurd k
+kept-total p [] (a ∷ []) l k = omega (arith, sum-parts p (a +ℤ pos 0), sum-parts a (pos 0), sum-parts p a)
+kept-total p [] (a ∷ (b ∷ g)) l k = absurd (omega arith)
+kept-total p (x ∷ v) [] l k = absurd k
+kept-total p (x ∷ v) (a ∷ g) l k =
+    let f : (p +ℤ a) ≼ x = k .0 in
+    let s = total g in
+    omega (arith, kept-total x v g (suc-inj l) (k .1), sum-parts p (a +ℤ s), sum-parts a s, sum-parts p a, sum-parts x s)
+
+module _ (g v : List ℤ) (l : length g ≡ suc (length v)) where
+  stays-decides : Decides (stays g v) (Passed g v (length v) × Ended g v (length v))
+  unfolding goodGaps
+  stays-decides =
+      let n = length v in
+      let none = every (leZ (pos 0)) g in
+      let some = leZ (pos 1) (at g n) in
+      let few = leZ (total g) top in
+      record {
+        sure = λ e.
+            let a = and-both (none && (some && few)) (keeps g v) e in
+            let b = and-both none (some && few) (a .0) in
+            let k = keeps-kept v g l (a .1) in (
+              λ i h. record { nat = leZ-true (pos 0) (at g i) (every-at (leZ (pos 0)) g (pos 0) (b .0) i (omega arith)); kept = kept-at (pos 0) v g k i h },
+              (leZ-true (pos 1) (at g n) (and-both some few (b .1) .0), kept-end (pos 0) v g k),
+            );
+        seen = λ q.
+            let k = kept-by (pos 0) v g l (λ i h. q .0 i h .kept) (q .1 .1) in
+            let nat = below-more (λ i. pos 0 ≼ at g i) n (λ i h. q .0 i h .nat) (omega (arith, q .1 .0)) in
+            both-and (none && (some && few)) (keeps g v)
+            (both-and none (some && few) (at-every (leZ (pos 0)) g (pos 0) (λ i h. le-leZ (pos 0) (at g i) (nat i (omega arith))))
+            (both-and some few (le-leZ (pos 1) (at g n) (q .1 .0)) (le-leZ (total g) top (omega (arith, kept-total (pos 0) v g l k, sum-parts (pos 0) (total g))))))
+            (kept-keeps v g k);
+      }
+
+  -- a place that fails, and the last after all others passed
+  pub stays-not : (i : ℕ) → i < length v → ltZ (at g i) (pos 0) || ltZ (at v i -ℤ at (pos 0 ∷ v) i) (at g i) ≡ true → false ≡ stays g v
+  stays-not i h e =
+      decides-alike (record { sure = λ f. absurd (subst T (sym f) tt); seen = λ q. absurd (place-lost (at (pos 0 ∷ v) i) (at g i) (at v i) e (q .0 i h)) })
+      stays-decides
+
+  pub stays-last : (i : ℕ) → i ≡ length v → Passed g v i → leZ (pos 1) (at g i) && leZ (at (pos 0 ∷ v) i +ℤ at g i) top ≡ stays g v
+  stays-last i e p =
+      let some = leZ (pos 1) (at g i) in
+      let most = leZ (at (pos 0 ∷ v) i +ℤ at g i) top in
+      decides-alike {P = Passed g v i × Ended g v i}
+      (record {
+        sure = λ h.
+            let b = and-both some most h in (p, (leZ-true (pos 1) (at g i) (b .0), leZ-true (at (pos 0 ∷ v) i +ℤ at g i) top (b .1)));
+        seen = λ q. both-and some most (le-leZ (pos 1) (at g i) (q .1 .0)) (le-leZ (at (pos 0 ∷ v) i +ℤ at g i) top (q .1 .1));
+      })
+      (subst⁻¹ (λ (n : ℕ). Decides (stays g v) (Passed g v n × Ended g v n)) e stays-decides)
+
+-- a vector that stays is left as it is, with 0 moves
+pub stays-answers : (v g : List ℤ) → lengthsOk v g ≡ true → stays g v ≡ true → called v 0 0 ≡ stabiliseCall v g
+stays-answers v g l e =
+    let a = and-both (goodGaps (length v) g) (keeps g v) e in
+    let h : length g ≡ suc (length v) = omega (arith, lengths-are v g l .one-more) in
+    stabilise-answers v g v 0 (accepted v g l (a .0)) (sym (unmoved kept16 g v h (a .0) (a .1)))
