@@ -1,7 +1,7 @@
 -- The rows that a book has for one vector: what placing asks, and that placing by them is placing by the book. Assumes nothing.
-use Prim.Native.Nat.{ℕ, suc, _-_, _≤_}
+use Prim.Native.Nat.{ℕ, suc, _+_, _*_, _/_, _≤_, _<_}
 use mathlib.Core.Path.{_≡_, refl, sym, ap, ap₂, subst, subst⁻¹, _∙_}
-use mathlib.Core.List.{List, [], _∷_, map}
+use mathlib.Core.List.{List, [], map}
 use native.Mathlib.Omega.{arith}
 use borrow.Author.Tests.{eq-eqb, ne-eqb}
 use lib.IntN.{ℤ, pos, negsuc, natAbs}
@@ -9,50 +9,60 @@ use lib.ListN.{length, getD, take, drop, length-drop}
 use lib.Seq.{length-take-le}
 use Rattle.ints.specs.Parts.{up, down}
 use Rattle.sheet.specs.Books.{Book, narrowBook, wideBook}
+use Rattle.tables.specs.PredictorRow.{predictorRow, predictor-row-length, predictor-row-at}
 use Rattle.spectrum.proofs.BookLaws.{Usable, gaps-long}
 use Rattle.spectrum.proofs.CallLaws.{Accepted}
+use Rattle.spectrum.proofs.PlaceLaws.{residuals-alike}
 use Rattle.spectrum.proofs.Results.{ruled}
 use Rattle.spectrum.specs.Calls.{bookOf, decoded}
 use Rattle.spectrum.specs.Places.{placedAll, places}
-use Rattle.spectrum.specs.Residuals.{residuals, predictorIn}
+use Rattle.spectrum.specs.Residuals.{residuals, listOf, predictorIn}
 use Rattle.spectrum.specs.Stabilising.{Stable, stabilise, kept16}
 use Rattle.spectrum.specs.Values.{at, Within}
 use Rattle.nlsf_stabilize.specs.Asked.{MoveOk}
-use Rattle.nlsf_places.specs.Asked.{Rows, predictorBy, residualsBy, placesBy, PlacesOk}
+use Rattle.nlsf_places.specs.Asked.{Rows, predictorAt, predictorBy, residualsBy, placesBy, PlacesOk}
 use Rattle.nlsf_decode.specs.Asked.{Indexed}
 
 pub record RowsOf (b : Book) (v : ℕ) (t : Rows) : Type 0 where
   pub step : t .step ≡ b .step
   pub selectors : t .selectors ≡ getD (b .selectors) v []
-  pub predictors : t .first ∷ t .second ∷ [] ≡ b .predictors
+  pub lists : t .lists ≡ predictorRow b
   pub values : t .values ≡ getD (b .vectors) v []
   pub weights : t .weights ≡ getD (b .weights) v []
 
--- two lists are the first and the second
-pub both-lists : (l : List (List ℕ)) → length l ≡ 2 → getD l 0 [] ∷ getD l 1 [] ∷ [] ≡ l
-both-lists [] h = absurd (omega arith)
-both-lists (p ∷ []) h = absurd (omega arith)
-both-lists (p ∷ q ∷ []) h = refl
-both-lists (p ∷ q ∷ r ∷ l) h = absurd (omega arith)
+module _ (b : Book) (v : ℕ) (t : Rows) (r : RowsOf b v t) (u : Usable b) where
+  some : 1 ≤ b .order
+  some = omega (arith, u .some)
 
-module _ (b : Book) (v : ℕ) (t : Rows) (r : RowsOf b v t) where
-  places-by : (xs : List ℤ) → placesBy t xs ≡ places b v xs
+  lists-long : length (predictorRow b) ≡ 2 * b .order
+  lists-long = predictor-row-length b (b .order) (u .shaped) some
+
+  -- of each place, the predictor in the row is the book's
+  predictors-by : (i : ℕ) → i < b .order → predictorBy t i ≡ predictorIn (getD (b .selectors) v []) (b .predictors) i
+  unfolding predictorAt predictorIn
+  predictors-by i h =
+      let l = listOf (getD (getD (b .selectors) v []) (i / 2) 0) i in
+      let half : length (predictorRow b) / 2 ≡ b .order = omega (arith, lists-long) in
+      ap₂ (λ (e : List ℕ) (p : List ℕ). predictorAt e p i) (r .selectors) (r .lists)
+      ∙ ap (λ (n : ℕ). getD (predictorRow b) (l * n + i) 0) half
+      ∙ predictor-row-at b (b .order) (u .shaped) some l i h
+
+  places-by : (xs : List ℤ) → length xs ≡ b .order → placesBy t xs ≡ places b v xs
   unfolding places
-  places-by xs =
+  places-by xs h =
       ap₂ (λ (l : List ℕ) (m : List ℕ). placedAll l m (residualsBy t xs)) (r .values) (r .weights)
       ∙ ap (λ (n : ℕ). placedAll (getD (b .vectors) v []) (getD (b .weights) v []) (residuals n (predictorBy t) 0 xs)) (r .step)
-      ∙ ap₂ (λ (e : List ℕ) (l : List (List ℕ)). placedAll (getD (b .vectors) v []) (getD (b .weights) v []) (residuals (b .step) (predictorIn e l) 0 xs)) (r .selectors) (r .predictors)
+      ∙ ap (placedAll (getD (b .vectors) v []) (getD (b .weights) v []))
+      (residuals-alike (b .step) (predictorBy t) (predictorIn (getD (b .selectors) v []) (b .predictors)) (b .order) predictors-by 0 xs (omega arith))
 
   -- what the stabiliser leaves of the places by these rows, under the book's gaps
-  pub stabilised-by : (xs : List ℤ) {s : Stable} {g w : List ℤ} → s ≡ stabilise kept16 g w → g ≡ map pos (b .gaps) → w ≡ placesBy t xs
-      → s ≡ stabilise kept16 (map pos (b .gaps)) (places b v xs)
-  stabilised-by xs e f h = e ∙ ap₂ (stabilise kept16) f (h ∙ places-by xs)
+  pub stabilised-by : (xs : List ℤ) → length xs ≡ b .order → {s : Stable} {g w : List ℤ} → s ≡ stabilise kept16 g w → g ≡ map pos (b .gaps)
+      → w ≡ placesBy t xs → s ≡ stabilise kept16 (map pos (b .gaps)) (places b v xs)
+  stabilised-by xs l e f h = e ∙ ap₂ (stabilise kept16) f (h ∙ places-by xs l)
 
-  pub places-ok : Usable b → (w xs : List ℤ) → Indexed (b .order) w v xs → PlacesOk t w xs
-  places-ok u w xs i =
+  pub places-ok : (w xs : List ℤ) → Indexed (b .order) w v xs → PlacesOk t w xs
+  places-ok w xs i =
       let s = u .shaped in
-      let first : length (t .first) ≡ b .order - 1 = ap (λ (l : List (List ℕ)). length (getD l 0 [])) (r .predictors) ∙ s .predictors .width 0 (omega arith) in
-      let second : length (t .second) ≡ b .order - 1 = ap (λ (l : List (List ℕ)). length (getD l 1 [])) (r .predictors) ∙ s .predictors .width 1 (omega arith) in
       let ws : length (getD (b .weights) v []) ≡ b .order = s .weights .width v (i .row) in
       record {
         few = omega (arith, i .long, u .few);
@@ -60,8 +70,7 @@ module _ (b : Book) (v : ℕ) (t : Rows) (r : RowsOf b v t) where
         tens = i .tens;
         small = omega (arith, r .step, u .sized .small);
         pairs = omega (arith, i .long, u .even, ap length (r .selectors), s .selectors .width v (i .row));
-        lists = first ∙ sym second;
-        bytes = λ k. subst⁻¹ (λ (l : List (List ℕ)). predictorIn (t .selectors) l k ≤ 256) (r .predictors) (u .sized .bytes (t .selectors) k);
+        lists = omega (arith, ap length (r .lists), lists-long, i .long);
         book = ap length (r .values) ∙ s .vectors .width v (i .row) ∙ sym (i .long);
         weighed = ap length (r .weights) ∙ ws ∙ sym (i .long);
         heavy = λ k h.

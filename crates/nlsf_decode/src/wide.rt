@@ -1,9 +1,7 @@
 // Decoding under the wide book (16 kHz): its rows for one vector, then the places, then the stabiliser.
 ghost use mathlib.Core.Path.{_≡_};
-ghost use Prim.Native.Nat.{_<_};
-ghost use mathlib.Core.List.{[], map};
+ghost use mathlib.Core.List.{map};
 ghost use lib.IntN.{pos};
-ghost use lib.ListN.{getD};
 ghost use Rattle.sheet.specs.Books.{wideBook};
 ghost use Rattle.spectrum.specs.Places.{places};
 ghost use Rattle.spectrum.specs.Stabilising.{kept16, stabilise};
@@ -19,14 +17,6 @@ use tables::books::wide_weights_run;
 // The sum of the book's gaps.
 const GAP_SUM: i32 = 583;
 
-fn predictors(l: usize) -> [u8; 15]
-    requires { ⌜ l < 2 ⌝ }
-    ensures { λ r. ⌜ r ≡ getD (wideBook .predictors) l [] ⌝ }
-{
-    let t = wide_predictors();
-    t[l]
-}
-
 // The spectrum of vector v and the indices of its places, stabilised, with the number of moves.
 pub fn wide_run(vector: &mut [i16], v: usize, xs: &[i8]) -> u32
     requires { ⌜ Indexed 16 (now vector) v (now xs) ⌝ }
@@ -35,18 +25,8 @@ pub fn wide_run(vector: &mut [i16], v: usize, xs: &[i8]) -> u32
     let value = wide_vector_run(v);
     let weight = wide_weights_run(v);
     let selector = wide_selectors_run(v);
-    let first = predictors(0);
-    let second = predictors(1);
-    places_run(
-        vector,
-        xs,
-        9830,
-        &selector,
-        &first,
-        &second,
-        &value,
-        &weight,
-    );
+    let lists = wide_predictors();
+    places_run(vector, xs, 9830, &selector, &lists, &value, &weight);
     let gaps = wide_gaps();
     stabilise_run(vector, &gaps, GAP_SUM)
 }

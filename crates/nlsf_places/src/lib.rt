@@ -1,17 +1,14 @@
 // Residuals and places of a line spectrum (RFC 6716, sections 4.2.7.5.2 and 4.2.7.5.3): the first half of the crate's NLSF_decode.rs, with the
 // predictors of its NLSF_unpack.rs.
 ghost use mathlib.Core.Path.{_≡_};
-ghost use mathlib.Core.Bool.{cond};
 ghost use Prim.Native.Nat.{_*_, _/_, _≤_, _<_};
-ghost use mathlib.Core.List.{[], _∷_};
-ghost use lib.Dec.{eqb};
 ghost use lib.ListN.{length};
 ghost use lib.IntN.{pos, _+ℤ_, _*ℤ_};
 ghost use lib.Signed.{quotZ};
 ghost use Rattle.spectrum.specs.Values.{Mag};
-ghost use Rattle.spectrum.specs.Residuals.{nudged, scaled, predicted, listOf, predictorIn};
+ghost use Rattle.spectrum.specs.Residuals.{nudged, scaled, predicted, listOf};
 ghost use Rattle.spectrum.specs.Places.{placed};
-ghost use Rattle.nlsf_places.specs.Asked.{towardZero, rows, placesBy, PlacesOk};
+ghost use Rattle.nlsf_places.specs.Asked.{towardZero, predictorAt, rows, placesBy, PlacesOk};
 
 // ---- predictors
 
@@ -22,25 +19,15 @@ fn list_of(e: u8, i: usize) -> u8
     if i % 2 == 0 { e % 2 } else { e / 16 % 2 }
 }
 
-// Byte l of two, through memory: which of them it is can't be guessed ahead, and a choice or a shift would be compiled to a jump.
-fn pick(l: u8, a: u8, b: u8) -> u8
-    requires { ⌜ l < 2 ⌝ }
-    ensures { λ r. ⌜ r ≡ cond (eqb l 0) a b ⌝ }
+// The predictor of place i. Both lists stand in one row, since which of them it comes from can't be guessed ahead: a choice of two loads would be
+// compiled to a jump.
+fn predictor(selectors: &[u8], lists: &[u8], i: usize) -> u8
+    requires { ⌜ (i / 2 < length (now selectors)) × (i < length (now lists) / 2) ⌝ }
+    ensures { λ p. ⌜ p ≡ predictorAt (now (selectors .entry)) (now (lists .entry)) i ⌝ }
 {
-    let both = [a, b];
-    both[l as usize]
-}
-
-// The predictor of place i, and 0 past the lists.
-fn predictor(selectors: &[u8], first: &[u8], second: &[u8], i: usize) -> u8
-    requires { ⌜ (i / 2 < length (now selectors)) × (length (now first) ≡ length (now second)) ⌝ }
-    ensures { λ p. ⌜ p ≡ predictorIn (now (selectors .entry)) (now (first .entry) ∷ now (second .entry) ∷ []) i ⌝ }
-{
-    if i >= first.len() {
-        return 0;
-    }
+    let n = lists.len() / 2;
     let l = list_of(selectors[i / 2], i);
-    pick(l, first[i], second[i])
+    lists[(l as usize) * n + i]
 }
 
 // ---- residuals
@@ -122,19 +109,18 @@ pub fn places_run(
     xs: &[i8],
     step: u16,
     selectors: &[u8],
-    first: &[u8],
-    second: &[u8],
+    lists: &[u8],
     values: &[u8],
     weights: &[u16],
 )
-    requires { ⌜ PlacesOk (rows step (now selectors) (now first) (now second) (now values) (now weights)) (now vector) (now xs) ⌝ }
-    ensures { λ _. ⌜ now (vector .exit) ≡ placesBy (rows step (now (selectors .entry)) (now (first .entry)) (now (second .entry)) (now (values .entry)) (now (weights .entry))) (now (xs .entry)) ⌝ }
+    requires { ⌜ PlacesOk (rows step (now selectors) (now lists) (now values) (now weights)) (now vector) (now xs) ⌝ }
+    ensures { λ _. ⌜ now (vector .exit) ≡ placesBy (rows step (now (selectors .entry)) (now (lists .entry)) (now (values .entry)) (now (weights .entry))) (now (xs .entry)) ⌝ }
 {
     let mut r: i32 = 0;
     let mut k: usize = values.len();
     while k > 0 {
         let j = k - 1;
-        let p = predictor(selectors, first, second, j);
+        let p = predictor(selectors, lists, j);
         r = residual(xs[j], step, p, r);
         vector[j] = place(values[j], weights[j], r);
         k = j;

@@ -1,8 +1,8 @@
 -- What decoding leans on of the two books, each by one computation over the whole book. Assumes nothing.
-use Prim.Native.Nat.{ℕ, zero, suc, _+_, _*_, _/_, _≤_, _<_}
+use Prim.Native.Nat.{ℕ, suc, _+_, _*_, _/_, _≤_, _<_}
 use mathlib.Core.Path.{_≡_, refl, sym, subst⁻¹, _∙_}
 use mathlib.Core.Bool.{Bool, true, _&&_}
-use mathlib.Core.List.{List, [], _∷_, map}
+use mathlib.Core.List.{List, [], map}
 use native.Mathlib.Omega.{arith}
 use borrow.Author.Tests.{leb-true}
 use lib.Dec.{eqb, leb}
@@ -17,49 +17,33 @@ use Rattle.spectrum.proofs.PlaceLaws.{length-residuals, length-placed}
 use Rattle.spectrum.specs.Calls.{bookOf}
 use Rattle.spectrum.specs.Gaps.{goodGaps}
 use Rattle.spectrum.specs.Places.{places}
-use Rattle.spectrum.specs.Residuals.{residuals, listOf, predictorIn}
+use Rattle.spectrum.specs.Residuals.{residuals, predictorIn}
 use Rattle.spectrum.specs.Values.{at, total}
 
--- a test at every element, and at the default: at any place
-every-any {ℓ} : {A : Type ℓ} (f : A → Bool) (xs : List A) (d : A) → every f xs ≡ true → f d ≡ true → (k : ℕ) → f (getD xs k d) ≡ true
-every-any f [] d e h k = h
-every-any f (x ∷ xs) d e h zero = and-both (f x) (every f xs) e .0
-every-any f (x ∷ xs) d e h (suc k) = every-any f xs d (and-both (f x) (every f xs) e .1) h k
-
--- a step of at most 11,796, weights above 0, predictors that are bytes, and the rule of gap sets, the last gap 2 or more
+-- a step of at most 11,796, weights above 0, and the rule of gap sets, the last gap 2 or more
 pub record Sized (b : Book) : Type 0 where
   pub small : b .step ≤ 11796
   pub heavy : (v i : ℕ) → v < length (b .weights) → i < length (getD (b .weights) v []) → 1 ≤ getD (getD (b .weights) v []) i 0
-  pub bytes : (e : List ℕ) (i : ℕ) → predictorIn e (b .predictors) i ≤ 256
   pub gaps : goodGaps (b .order) (map pos (b .gaps)) ≡ true
   pub last : 2 ≤ up (at (map pos (b .gaps)) (b .order))
 
 abbrev sizes : Book → Bool
 sizes b =
     leb (b .step) 11796 &&
-    (every (every (leb 1)) (b .weights) &&
-    (every (every (λ p. leb p 256)) (b .predictors) &&
-    (goodGaps (b .order) (map pos (b .gaps)) && leb 2 (up (at (map pos (b .gaps)) (b .order))))))
+    (every (every (leb 1)) (b .weights) && (goodGaps (b .order) (map pos (b .gaps)) && leb 2 (up (at (map pos (b .gaps)) (b .order)))))
 
 sized : (b : Book) → sizes b ≡ true → Sized b
-unfolding predictorIn
 sized b e =
     let ws = every (every (leb 1)) (b .weights) in
-    let ps = every (every (λ p. leb p 256)) (b .predictors) in
     let gs = goodGaps (b .order) (map pos (b .gaps)) in
     let z = leb 2 (up (at (map pos (b .gaps)) (b .order))) in
-    let p = and-both (leb (b .step) 11796) (ws && (ps && (gs && z))) e in
-    let q = and-both ws (ps && (gs && z)) (p .1) in
-    let r = and-both ps (gs && z) (q .1) in
-    let t = and-both gs z (r .1) in
+    let p = and-both (leb (b .step) 11796) (ws && (gs && z)) e in
+    let q = and-both ws (gs && z) (p .1) in
+    let t = and-both gs z (q .1) in
     record {
       small = leb-true (b .step) 11796 (p .0);
       heavy = λ v i h k.
           leb-true 1 (getD (getD (b .weights) v []) i 0) (every-at (leb 1) (getD (b .weights) v []) 0 (every-at (every (leb 1)) (b .weights) [] (q .0) v h) i k);
-      bytes = λ s i.
-          let n = listOf (getD s (i / 2) 0) i in
-          leb-true (getD (getD (b .predictors) n []) i 0) 256
-          (every-any (λ x. leb x 256) (getD (b .predictors) n []) 0 (every-any (every (λ x. leb x 256)) (b .predictors) [] (r .0) refl n) refl i);
       gaps = t .0;
       last = leb-true 2 (up (at (map pos (b .gaps)) (b .order))) (t .1);
     }

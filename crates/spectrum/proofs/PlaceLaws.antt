@@ -1,5 +1,5 @@
 -- Residuals and places, place by place, as a loop from the last place down computes them. Assumes nothing.
-use Prim.Native.Nat.{ℕ, zero, suc, _+_, _*_, _<_}
+use Prim.Native.Nat.{ℕ, zero, suc, _+_, _*_, _≤_, _<_}
 use mathlib.Core.Path.{_≡_, refl, sym, ap, ap₂, _∙_}
 use mathlib.Core.List.{List, [], _∷_}
 use native.Mathlib.Omega.{arith}
@@ -52,6 +52,16 @@ residual-at step predictor xs i h =
     let e : 0 + i ≡ i = omega arith in
     residual-from step predictor 0 xs i h
     ∙ ap (λ (n : ℕ). predicted (predictor n) (at (residuals step predictor 0 xs) (suc i)) +ℤ scaled step (at xs i)) e
+
+-- the predictors of the places alone matter
+pub residuals-alike : (step : ℕ) (f g : ℕ → ℕ) (n : ℕ) → ((i : ℕ) → i < n → f i ≡ g i) → (k : ℕ) (xs : List ℤ) → k + length xs ≤ n
+    → residuals step f k xs ≡ residuals step g k xs
+unfolding residuals
+residuals-alike step f g n e k [] h = refl
+residuals-alike step f g n e k (x ∷ []) h = refl
+residuals-alike step f g n e k (x ∷ y ∷ xs) h =
+    ap₂ (λ (p : ℕ) (rs : List ℤ). (predicted p (leading rs) +ℤ scaled step x) ∷ rs) (e k (omega arith))
+    (residuals-alike step f g n e (suc k) (y ∷ xs) (omega arith))
 
 -- ---- places
 

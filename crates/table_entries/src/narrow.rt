@@ -45,6 +45,7 @@ fn selectors_entry(place: usize) -> u32
     byte(t[place % 5])
 }
 
+// The 0 behind each list is no entry.
 fn predictors_entry(place: usize) -> u32
     ensures { λ r. ⌜ r ≡ getD (flatten (narrowBook .predictors)) place noEntry ⌝ }
 {
@@ -52,7 +53,7 @@ fn predictors_entry(place: usize) -> u32
         return NO_ENTRY;
     }
     let t = narrow_predictors();
-    byte(t[place / 9][place % 9])
+    byte(t[place / 9 * 10 + place % 9])
 }
 
 fn gaps_entry(place: usize) -> u32

@@ -45,6 +45,7 @@ fn selectors_entry(place: usize) -> u32
     byte(t[place % 8])
 }
 
+// The 0 behind each list is no entry.
 fn predictors_entry(place: usize) -> u32
     ensures { λ r. ⌜ r ≡ getD (flatten (wideBook .predictors)) place noEntry ⌝ }
 {
@@ -52,7 +53,7 @@ fn predictors_entry(place: usize) -> u32
         return NO_ENTRY;
     }
     let t = wide_predictors();
-    byte(t[place / 15][place % 15])
+    byte(t[place / 15 * 16 + place % 15])
 }
 
 fn gaps_entry(place: usize) -> u32

@@ -6,6 +6,7 @@ ghost use mathlib.Core.List.{[], map};
 ghost use lib.IntN.{pos};
 ghost use lib.ListN.{getD};
 ghost use Rattle.sheet.specs.Books.{narrowBook, wideBook};
+ghost use Rattle.tables.specs.PredictorRow.{predictorRow};
 
 // Vector v, in 256ths.
 pub fn narrow_vector_run(v: usize) -> [u8; 10]
@@ -130,14 +131,32 @@ pub fn narrow_selectors_run(v: usize) -> [u8; 5]
     }
 }
 
-const NARROW_PREDICTORS: [[u8; 9]; 2] = [
-    [179, 138, 140, 148, 151, 149, 153, 151, 163],
-    [116, 67, 82, 59, 92, 72, 100, 89, 92],
+const NARROW_PREDICTORS: [u8; 20] = [
+    179,
+    138,
+    140,
+    148,
+    151,
+    149,
+    153,
+    151,
+    163,
+    0,
+    116,
+    67,
+    82,
+    59,
+    92,
+    72,
+    100,
+    89,
+    92,
+    0,
 ];
 
-// The two lists of predictors.
-pub fn narrow_predictors() -> [[u8; 9]; 2]
-    ensures { λ r. ⌜ r ≡ narrowBook .predictors ⌝ }
+// Both lists of predictors, each with a 0 for the last place: one load then picks from either.
+pub fn narrow_predictors() -> [u8; 20]
+    ensures { λ r. ⌜ r ≡ predictorRow narrowBook ⌝ }
 {
     NARROW_PREDICTORS
 }
@@ -1362,46 +1381,44 @@ pub fn wide_selectors_run(v: usize) -> [u8; 8]
     }
 }
 
-const WIDE_PREDICTORS: [[u8; 15]; 2] = [
-    [
-        175,
-        148,
-        160,
-        176,
-        178,
-        173,
-        174,
-        164,
-        177,
-        174,
-        196,
-        182,
-        198,
-        192,
-        182,
-    ],
-    [
-        68,
-        62,
-        66,
-        60,
-        72,
-        117,
-        85,
-        90,
-        118,
-        136,
-        151,
-        142,
-        160,
-        142,
-        155,
-    ],
+const WIDE_PREDICTORS: [u8; 32] = [
+    175,
+    148,
+    160,
+    176,
+    178,
+    173,
+    174,
+    164,
+    177,
+    174,
+    196,
+    182,
+    198,
+    192,
+    182,
+    0,
+    68,
+    62,
+    66,
+    60,
+    72,
+    117,
+    85,
+    90,
+    118,
+    136,
+    151,
+    142,
+    160,
+    142,
+    155,
+    0,
 ];
 
-// The two lists of predictors.
-pub fn wide_predictors() -> [[u8; 15]; 2]
-    ensures { λ r. ⌜ r ≡ wideBook .predictors ⌝ }
+// Both lists of predictors, each with a 0 for the last place.
+pub fn wide_predictors() -> [u8; 32]
+    ensures { λ r. ⌜ r ≡ predictorRow wideBook ⌝ }
 {
     WIDE_PREDICTORS
 }

@@ -1,6 +1,6 @@
 -- `places_run` meets its contract. The invariant: from k on stand the places, before it the old values, and r is the residual of place k.
 -- Assumes nothing.
-use Prim.Native.Nat.{ℕ, suc, _-_, _≤_, _<_}
+use Prim.Native.Nat.{ℕ, suc, _+_, _-_, _*_, _/_, _≤_, _<_}
 use mathlib.Core.Path.{_≡_, sym, subst, ap, _∙_}
 use mathlib.Core.List.{List}
 use native.Mathlib.Omega.{arith}
@@ -15,9 +15,9 @@ use Rattle.spectrum.proofs.PlaceLaws.{length-residuals, residual-at, length-pla
 use Rattle.spectrum.proofs.ResidualBounds.{residuals-within}
 use Rattle.spectrum.proofs.WholeMoves.{within-at}
 use Rattle.spectrum.specs.Places.{placed}
-use Rattle.spectrum.specs.Residuals.{scaled, predicted}
+use Rattle.spectrum.specs.Residuals.{scaled, predicted, listOf}
 use Rattle.spectrum.specs.Values.{at, Mag}
-use Rattle.nlsf_places.specs.Asked.{Rows, rows, predictorBy, residualsBy, placesBy, PlacesOk}
+use Rattle.nlsf_places.specs.Asked.{Rows, rows, predictorAt, predictorBy, residualsBy, placesBy, PlacesOk}
 use Rattle.nlsf_places.proofs.places_run.Statement.{statement}
 use Rattle.nlsf_places.proofs.places_run.Tie as tie
 
@@ -26,10 +26,10 @@ module _ (t : Rows) (v xs : List ℤ) (o : PlacesOk t v xs) where
   many = length-residuals (t .step) (predictorBy t) 0 xs ∙ o .indices
 
   -- each residual fits, and behind the last stands 0
-  near : (k : ℕ) → Mag 29200 (at (residualsBy t xs) k)
-  near k =
+  near : ((i : ℕ) → predictorBy t i ≤ 256) → (k : ℕ) → Mag 29200 (at (residualsBy t xs) k)
+  near y k =
       let l : length xs ≤ 16 = omega (arith, o .indices, o .few) in
-      let w = within-at 29200 29200 (residualsBy t xs) (residuals-within (t .step) (predictorBy t) (o .small) (o .bytes) 0 xs l (o .tens)) k in
+      let w = within-at 29200 29200 (residualsBy t xs) (residuals-within (t .step) (predictorBy t) (o .small) y 0 xs l (o .tens)) k in
       (w .1, w .0)
 
   none-behind : at (residualsBy t xs) (length v) ≡ pos 0
@@ -50,26 +50,36 @@ module _ (t : Rows) (v xs : List ℤ) (o : PlacesOk t v xs) where
   full = length-placed (t .values) (t .weights) (residualsBy t xs) (o .book ∙ sym many) (o .weighed ∙ sym many) ∙ many
 
 abbrev Inv-loop : tie.InvT-loop
-Inv-loop v₀ xs step e p q b w r₀ k₀ v r k =
-    let t = rows step e p q b w in
+Inv-loop v₀ xs step e p b w r₀ k₀ v r k =
+    let t = rows step e p b w in
     (k ≤ length v₀) × Down (placesBy t xs) v₀ v k × (toZ w32 r ≡ at (residualsBy t xs) k)
 
 abbrev μ-loop : tie.MeasureT-loop
-μ-loop v₀ xs step s p q bs ws r₀ k₀ v r k = k
+μ-loop v₀ xs step s p bs ws r₀ k₀ v r k = k
 
 -- the rows that are lent
 abbrev lent : tie.Start Inv-loop μ-loop → Rows
 lent c =
     let a = c .args in
-    rows (a .step) (a .selectors .now) (a .first .now) (a .second .now) (a .values .now) (a .weights .now)
+    rows (a .step) (a .selectors .now) (a .lists .now) (a .values .now) (a .weights .now)
+
+-- predictors are bytes, so each residual fits
+fitting : (c : tie.After-shared-slice-known4 Inv-loop μ-loop) → let s = c .before .before .before .before in
+    (k : ℕ) → Mag 29200 (at (residualsBy (lent s) (s .args .xs .now)) k)
+unfolding predictorAt
+fitting c =
+    let s = c .before .before .before .before in
+    let p = s .args .lists .now in
+    near (lent s) (s .args .vector .now) (s .args .xs .now) (s .pre)
+    (λ i. omega (arith, c .before .before .shared-slice-known2 .given (listOf (getD (s .args .selectors .now) (i / 2) 0) i * (length p / 2) + i)))
 
 -- the residual that the machine has at j = k - 1
 residual-is : (c : tie.After-residual Inv-loop μ-loop) → let b = c .before .before .before .before in
-    let s = b .before .before .before .before .before .before in
+    let s = b .before .before .before .before .before in
     toZ w32 (ofZ w32 (c .residual .result)) ≡ at (residualsBy (lent s) (s .args .xs .now)) (b .loop .k - 1)
 residual-is c =
     let b = c .before .before .before .before in
-    let s = b .before .before .before .before .before .before in
+    let s = b .before .before .before .before .before in
     let j = b .loop .k - 1 in
     let k : b .loop .k ≡ suc j = omega arith in
     let x = at (s .args .xs .now) j in
@@ -82,7 +92,7 @@ residual-is c =
 
 loop-holds : tie.Need-loop-holds Inv-loop μ-loop
 loop-holds c =
-    let s = c .before .before .before .before .before in
+    let s = c .before .before .before .before in
     let v = s .args .vector .now in
     let f = placesBy (lent s) (s .args .xs .now) in
     let n = sym (s .pre .book) in
@@ -93,8 +103,8 @@ sub-j c = search needs
 
 predictor-requires : tie.Need-predictor-requires Inv-loop μ-loop
 predictor-requires c κs =
-    let s = c .before .before .before .before .before .before .before in
-    (omega (arith, s .pre .pairs, c .before .loop .inv .0), s .pre .lists)
+    let s = c .before .before .before .before .before .before in
+    (omega (arith, s .pre .pairs, c .before .loop .inv .0), omega (arith, s .pre .lists, c .before .loop .inv .0))
 
 shared-slice-copy-out-residual : tie.Need-shared-slice-copy-out-residual Inv-loop μ-loop
 shared-slice-copy-out-residual c = search needs
@@ -102,11 +112,11 @@ shared-slice-copy-out-residual c = search needs
 residual-requires : tie.Need-residual-requires Inv-loop μ-loop
 residual-requires c κs =
     let b = c .before .before .before in
-    let s = b .before .before .before .before .before .before in
+    let s = b .before .before .before .before .before in
     let x = at (s .args .xs .now) (b .loop .k - 1) in
     let f : SFits w8 x = sfits-of (c .residual-arg .given) in
     let w = within-at 10 10 (s .args .xs .now) (s .pre .tens) (b .loop .k - 1) in
-    let n : Mag 29200 (toZ w32 (b .loop .r)) = rw (b .loop .inv .2) (near (lent s) (s .args .vector .now) (s .args .xs .now) (s .pre) (b .loop .k)) in
+    let n : Mag 29200 (toZ w32 (b .loop .r)) = rw (b .loop .inv .2) (fitting (b .before) (b .loop .k)) in
     rw (toZ-ofZ f) (((w .1, w .0), s .pre .small), n)
 
 shared-slice-read-place : tie.Need-shared-slice-read-place Inv-loop μ-loop
@@ -121,13 +131,13 @@ shared-slice-read-place-2 c = search needs
 place-requires : tie.Need-place-requires Inv-loop μ-loop
 place-requires c κs =
     let b = c .before .before .before .before .before .before in
-    let s = b .before .before .before .before .before .before in (
-      rw (residual-is (c .before .before)) (near (lent s) (s .args .vector .now) (s .args .xs .now) (s .pre) (b .loop .k - 1)),
+    let s = b .before .before .before .before .before in (
+      rw (residual-is (c .before .before)) (fitting (b .before) (b .loop .k - 1)),
       s .pre .heavy (b .loop .k - 1) (omega arith),
     )
 
-mul-t22 : tie.Need-mul-t22 Inv-loop μ-loop
-mul-t22 c = search needs
+mul-t21 : tie.Need-mul-t21 Inv-loop μ-loop
+mul-t21 c = search needs
 
 slice-set-from-vector : tie.Need-slice-set-from-vector Inv-loop μ-loop
 slice-set-from-vector c = search needs
@@ -138,7 +148,7 @@ loop-less c = search needs
 loop-again : tie.Need-loop-again Inv-loop μ-loop
 loop-again c =
     let b = c .before .before .before .before .before .before .before in
-    let s = b .before .before .before .before .before .before in
+    let s = b .before .before .before .before .before in
     let j = b .loop .k - 1 in
     let v = s .args .vector .now in
     let xs = s .args .xs .now in
@@ -152,7 +162,7 @@ same-length c = search needs
 
 returns : tie.Need-returns Inv-loop μ-loop
 returns c =
-    let s = c .before .before .before .before .before .before .before in
+    let s = c .before .before .before .before .before .before in
     let e : c .before .loop .k ≡ 0 = omega arith in
     down-end (placesBy (lent s) (s .args .xs .now)) (s .args .vector .now) (c .before .loop .vector)
     (full (lent s) (s .args .vector .now) (s .args .xs .now) (s .pre))
@@ -173,7 +183,7 @@ places-run-spec =
     mul-place
     shared-slice-read-place-2
     place-requires
-    mul-t22
+    mul-t21
     slice-set-from-vector
     loop-less
     loop-again

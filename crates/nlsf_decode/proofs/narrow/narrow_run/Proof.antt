@@ -1,7 +1,7 @@
 -- `narrow_run` meets its contract. Assumes nothing.
 use Prim.Native.Nat.{ℕ}
-use mathlib.Core.Path.{_≡_, refl, sym, ap₂, subst⁻¹, _∙_}
-use mathlib.Core.List.{List, [], _∷_, map}
+use mathlib.Core.Path.{_≡_, refl, sym, subst⁻¹, _∙_}
+use mathlib.Core.List.{List, map}
 use borrow.Author.Needs.{needs}
 use lib.IntN.{ℤ, pos}
 use Rattle.sheet.specs.Books.{narrowBook, narrow-shaped}
@@ -9,28 +9,26 @@ use Rattle.spectrum.proofs.BookLaws.{narrow-usable}
 use Rattle.spectrum.specs.Values.{total}
 use Rattle.nlsf_stabilize.specs.Asked.{MoveOk}
 use Rattle.nlsf_places.specs.Asked.{Rows, rows}
-use Rattle.nlsf_decode.proofs.RowLaws.{RowsOf, both-lists, stabilised-by, places-ok, book-moves}
+use Rattle.nlsf_decode.proofs.RowLaws.{RowsOf, stabilised-by, places-ok, book-moves}
 use Rattle.nlsf_decode.specs.Asked.{Indexed}
 use Rattle.nlsf_decode.proofs.narrow.narrow_run.Statement.{statement}
 use Rattle.nlsf_decode.proofs.narrow.narrow_run.Tie as tie
 
 -- the rows that are lent, and that they are the book's
-abbrev lent : tie.After-predictors2 → Rows
+abbrev lent : tie.After-narrow-predictors → Rows
 lent d =
-    rows 11796 (d .before .before .narrow-selectors-run .result) (d .before .predictors .result) (d .predictors2 .result)
-    (d .before .before .before .before .narrow-vector-run .result) (d .before .before .before .narrow-weights-run .result)
+    rows 11796 (d .before .narrow-selectors-run .result) (d .narrow-predictors .result) (d .before .before .before .narrow-vector-run .result)
+    (d .before .before .narrow-weights-run .result)
 
-lent-are : (d : tie.After-predictors2) → RowsOf narrowBook (d .before .before .before .before .before .args .v) (lent d)
+lent-are : (d : tie.After-narrow-predictors) → RowsOf narrowBook (d .before .before .before .before .args .v) (lent d)
 unfolding narrowBook
 lent-are d =
     record {
       step = refl;
-      selectors = d .before .before .narrow-selectors-run .ensures;
-      predictors =
-          ap₂ (λ (p q : List ℕ). p ∷ q ∷ []) (d .before .predictors .ensures) (d .predictors2 .ensures)
-          ∙ both-lists (narrowBook .predictors) (narrow-shaped .predictors .count);
-      values = d .before .before .before .before .narrow-vector-run .ensures;
-      weights = d .before .before .before .narrow-weights-run .ensures;
+      selectors = d .before .narrow-selectors-run .ensures;
+      lists = d .narrow-predictors .ensures;
+      values = d .before .before .before .narrow-vector-run .ensures;
+      weights = d .before .before .narrow-weights-run .ensures;
     }
 
 gap-total : total (map pos (narrowBook .gaps)) ≡ pos 742
@@ -46,11 +44,8 @@ narrow-weights-run-requires c κs = search needs
 narrow-selectors-run-requires : tie.Need-narrow-selectors-run-requires
 narrow-selectors-run-requires c κs = search needs
 
-predictors-requires : tie.Need-predictors-requires
-predictors-requires c κs = search needs
-
-predictors-requires-2 : tie.Need-predictors-requires-2
-predictors-requires-2 c κs = search needs
+narrow-predictors-requires : tie.Need-narrow-predictors-requires
+narrow-predictors-requires c κs = search needs
 
 slice-aggregate-places-run : tie.Need-slice-aggregate-places-run
 slice-aggregate-places-run c = search needs
@@ -64,13 +59,10 @@ slice-aggregate-places-run-3 c = search needs
 slice-aggregate-places-run-4 : tie.Need-slice-aggregate-places-run-4
 slice-aggregate-places-run-4 c = search needs
 
-slice-aggregate-places-run-5 : tie.Need-slice-aggregate-places-run-5
-slice-aggregate-places-run-5 c = search needs
-
 places-run-requires : tie.Need-places-run-requires
 places-run-requires c κs =
-    let d = c .before .before .before .before .before .before in
-    let s = d .before .before .before .before .before in
+    let d = c .before .before .before .before .before in
+    let s = d .before .before .before .before in
     places-ok narrowBook (s .args .v) (lent d) (lent-are d) narrow-usable (s .args .vector .now) (s .args .xs .now)
     (subst⁻¹ (λ (n : ℕ). Indexed n (s .args .vector .now) (s .args .v) (s .args .xs .now)) (narrow-shaped .order) (s .pre))
 
@@ -83,7 +75,7 @@ slice-aggregate-stabilise-run c = search needs
 stabilise-run-requires : tie.Need-stabilise-run-requires
 stabilise-run-requires c κs =
     let p = c .before .before .before .before in
-    let s = p .before .before .before .before .before .before .before .before .before .before .before .before in
+    let s = p .before .before .before .before .before .before .before .before .before .before in
     let u = p .places-run .last .0 in
     subst⁻¹ (λ (g : List ℤ). MoveOk g u 0 × (pos 742 ≡ total g)) (c .before .before .narrow-gaps .ensures)
     (book-moves narrowBook narrow-usable u (p .places-run .kept .0 ∙ s .pre .long ∙ sym (narrow-shaped .order)), sym gap-total)
@@ -94,9 +86,9 @@ same-length c = search needs
 returns : tie.Need-returns
 returns c =
     let p = c .before .before .before .before .before .before in
-    let d = p .before .before .before .before .before .before .before in
-    let s = d .before .before .before .before .before in
-    stabilised-by narrowBook (s .args .v) (lent d) (lent-are d) (s .args .xs .now) (c .before .stabilise-run .ensures)
+    let d = p .before .before .before .before .before .before in
+    let s = d .before .before .before .before in
+    stabilised-by narrowBook (s .args .v) (lent d) (lent-are d) narrow-usable (s .args .xs .now) (s .pre .many ∙ sym (narrow-shaped .order)) (c .before .stabilise-run .ensures)
     (c .before .before .before .before .narrow-gaps .ensures)
     (p .places-run .ensures)
 
@@ -107,13 +99,11 @@ narrow-run-spec =
     narrow-vector-run-requires
     narrow-weights-run-requires
     narrow-selectors-run-requires
-    predictors-requires
-    predictors-requires-2
+    narrow-predictors-requires
     slice-aggregate-places-run
     slice-aggregate-places-run-2
     slice-aggregate-places-run-3
     slice-aggregate-places-run-4
-    slice-aggregate-places-run-5
     places-run-requires
     narrow-gaps-requires
     slice-aggregate-stabilise-run

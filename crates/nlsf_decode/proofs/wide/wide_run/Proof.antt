@@ -1,7 +1,7 @@
 -- `wide_run` meets its contract. Assumes nothing.
 use Prim.Native.Nat.{ℕ}
-use mathlib.Core.Path.{_≡_, refl, sym, ap₂, subst⁻¹, _∙_}
-use mathlib.Core.List.{List, [], _∷_, map}
+use mathlib.Core.Path.{_≡_, refl, sym, subst⁻¹, _∙_}
+use mathlib.Core.List.{List, map}
 use borrow.Author.Needs.{needs}
 use lib.IntN.{ℤ, pos}
 use Rattle.sheet.specs.Books.{wideBook, wide-shaped}
@@ -9,28 +9,26 @@ use Rattle.spectrum.proofs.BookLaws.{wide-usable}
 use Rattle.spectrum.specs.Values.{total}
 use Rattle.nlsf_stabilize.specs.Asked.{MoveOk}
 use Rattle.nlsf_places.specs.Asked.{Rows, rows}
-use Rattle.nlsf_decode.proofs.RowLaws.{RowsOf, both-lists, stabilised-by, places-ok, book-moves}
+use Rattle.nlsf_decode.proofs.RowLaws.{RowsOf, stabilised-by, places-ok, book-moves}
 use Rattle.nlsf_decode.specs.Asked.{Indexed}
 use Rattle.nlsf_decode.proofs.wide.wide_run.Statement.{statement}
 use Rattle.nlsf_decode.proofs.wide.wide_run.Tie as tie
 
 -- the rows that are lent, and that they are the book's
-abbrev lent : tie.After-predictors2 → Rows
+abbrev lent : tie.After-wide-predictors → Rows
 lent d =
-    rows 9830 (d .before .before .wide-selectors-run .result) (d .before .predictors .result) (d .predictors2 .result)
-    (d .before .before .before .before .wide-vector-run .result) (d .before .before .before .wide-weights-run .result)
+    rows 9830 (d .before .wide-selectors-run .result) (d .wide-predictors .result) (d .before .before .before .wide-vector-run .result)
+    (d .before .before .wide-weights-run .result)
 
-lent-are : (d : tie.After-predictors2) → RowsOf wideBook (d .before .before .before .before .before .args .v) (lent d)
+lent-are : (d : tie.After-wide-predictors) → RowsOf wideBook (d .before .before .before .before .args .v) (lent d)
 unfolding wideBook
 lent-are d =
     record {
       step = refl;
-      selectors = d .before .before .wide-selectors-run .ensures;
-      predictors =
-          ap₂ (λ (p q : List ℕ). p ∷ q ∷ []) (d .before .predictors .ensures) (d .predictors2 .ensures)
-          ∙ both-lists (wideBook .predictors) (wide-shaped .predictors .count);
-      values = d .before .before .before .before .wide-vector-run .ensures;
-      weights = d .before .before .before .wide-weights-run .ensures;
+      selectors = d .before .wide-selectors-run .ensures;
+      lists = d .wide-predictors .ensures;
+      values = d .before .before .before .wide-vector-run .ensures;
+      weights = d .before .before .wide-weights-run .ensures;
     }
 
 gap-total : total (map pos (wideBook .gaps)) ≡ pos 583
@@ -46,11 +44,8 @@ wide-weights-run-requires c κs = search needs
 wide-selectors-run-requires : tie.Need-wide-selectors-run-requires
 wide-selectors-run-requires c κs = search needs
 
-predictors-requires : tie.Need-predictors-requires
-predictors-requires c κs = search needs
-
-predictors-requires-2 : tie.Need-predictors-requires-2
-predictors-requires-2 c κs = search needs
+wide-predictors-requires : tie.Need-wide-predictors-requires
+wide-predictors-requires c κs = search needs
 
 slice-aggregate-places-run : tie.Need-slice-aggregate-places-run
 slice-aggregate-places-run c = search needs
@@ -64,13 +59,10 @@ slice-aggregate-places-run-3 c = search needs
 slice-aggregate-places-run-4 : tie.Need-slice-aggregate-places-run-4
 slice-aggregate-places-run-4 c = search needs
 
-slice-aggregate-places-run-5 : tie.Need-slice-aggregate-places-run-5
-slice-aggregate-places-run-5 c = search needs
-
 places-run-requires : tie.Need-places-run-requires
 places-run-requires c κs =
-    let d = c .before .before .before .before .before .before in
-    let s = d .before .before .before .before .before in
+    let d = c .before .before .before .before .before in
+    let s = d .before .before .before .before in
     places-ok wideBook (s .args .v) (lent d) (lent-are d) wide-usable (s .args .vector .now) (s .args .xs .now)
     (subst⁻¹ (λ (n : ℕ). Indexed n (s .args .vector .now) (s .args .v) (s .args .xs .now)) (wide-shaped .order) (s .pre))
 
@@ -83,7 +75,7 @@ slice-aggregate-stabilise-run c = search needs
 stabilise-run-requires : tie.Need-stabilise-run-requires
 stabilise-run-requires c κs =
     let p = c .before .before .before .before in
-    let s = p .before .before .before .before .before .before .before .before .before .before .before .before in
+    let s = p .before .before .before .before .before .before .before .before .before .before in
     let u = p .places-run .last .0 in
     subst⁻¹ (λ (g : List ℤ). MoveOk g u 0 × (pos 583 ≡ total g)) (c .before .before .wide-gaps .ensures)
     (book-moves wideBook wide-usable u (p .places-run .kept .0 ∙ s .pre .long ∙ sym (wide-shaped .order)), sym gap-total)
@@ -94,9 +86,9 @@ same-length c = search needs
 returns : tie.Need-returns
 returns c =
     let p = c .before .before .before .before .before .before in
-    let d = p .before .before .before .before .before .before .before in
-    let s = d .before .before .before .before .before in
-    stabilised-by wideBook (s .args .v) (lent d) (lent-are d) (s .args .xs .now) (c .before .stabilise-run .ensures)
+    let d = p .before .before .before .before .before .before in
+    let s = d .before .before .before .before in
+    stabilised-by wideBook (s .args .v) (lent d) (lent-are d) wide-usable (s .args .xs .now) (s .pre .many ∙ sym (wide-shaped .order)) (c .before .stabilise-run .ensures)
     (c .before .before .before .before .wide-gaps .ensures)
     (p .places-run .ensures)
 
@@ -107,13 +99,11 @@ wide-run-spec =
     wide-vector-run-requires
     wide-weights-run-requires
     wide-selectors-run-requires
-    predictors-requires
-    predictors-requires-2
+    wide-predictors-requires
     slice-aggregate-places-run
     slice-aggregate-places-run-2
     slice-aggregate-places-run-3
     slice-aggregate-places-run-4
-    slice-aggregate-places-run-5
     places-run-requires
     wide-gaps-requires
     slice-aggregate-stabilise-run
