@@ -130,6 +130,7 @@ pub fn dec_open(packet: &[u8]) -> Answer<Reader> {
     unsafe { raw::tg_dec_open(packet.as_ptr(), packet.len()) }
 }
 
+#[inline(always)]
 pub fn dec_account(packet: &[u8], r: Reader) -> Answer<Reader> {
     unsafe { raw::tg_dec_account(packet.as_ptr(), packet.len(), r) }
 }

@@ -8,6 +8,7 @@ mod counting;
 mod encoder;
 mod frames;
 mod growth;
+mod handed;
 #[cfg(libopus)]
 mod libopus;
 mod measured;
@@ -78,11 +79,14 @@ fn main() {
         longest,
     } = growth(&mut Rng::new(2));
     rows.extend(grown);
+    rows.push(handed::row());
     match words.iter().map(String::as_str).collect::<Vec<_>>()[..] {
         [counting::WORD] => counting::run(&mut rows),
         [folder] => {
             let mut rows = measured::measure(&mut rows, timing::rounds());
+            let handed = rows.pop().expect("the row that was put last");
             let results = Results {
+                handed,
                 growth: symbols.into_iter().zip(rows.split_off(listed)).collect(),
                 rows,
                 longest,

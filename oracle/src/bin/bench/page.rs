@@ -5,12 +5,14 @@ use crate::measured::{ratios, Line, Measured};
 use crate::plot::Series;
 use crate::side::SIDES;
 use crate::spectra::VECTORS;
-use crate::symbols::{SYMBOLS, TEXTS};
+use crate::symbols::{GROUP, SYMBOLS, TEXTS};
 use crate::timing::{rounds, PARTS};
 use std::fs;
 
 pub struct Results {
     pub rows: Vec<Measured>,
+    /// A state handed over and back.
+    pub handed: Measured,
     /// The symbols of a frame, and what was measured of it.
     pub growth: Vec<(usize, Measured)>,
     /// A packet of the most symbols.
@@ -84,9 +86,26 @@ here passes or fails. In {} of {} rows ours takes longer than the faster of the 
 
 Nanoseconds of ours, and that as a ratio to the others': below 1 ours is faster.
 
-{}",
-            self.table(vec!["ours, ns".to_string()], cells)
+{}
+A symbol's call gets the state by value and gives it back, 44 bytes each way. The account of a reader, which tests the state,
+changes nothing and gives it back, takes {:.1} ns, {}.
+",
+            self.table(vec!["ours, ns".to_string()], cells),
+            self.handed.times[0],
+            self.beside_handed()
         )
+    }
+
+    /// The symbols that the crate does in less than half of what handing a state over and back takes.
+    fn beside_handed(&self) -> String {
+        let handed = self.handed.times[0];
+        let symbols = self.rows.iter().filter(|row| row.group == GROUP);
+        let short = symbols.filter(|row| handed > 2.0 * row.times[1]);
+        let short: Vec<&str> = short.map(|row| row.name.as_str()).collect();
+        match short[..] {
+            [] => "less than twice the crate's time for any symbol".to_string(),
+            _ => format!("more than twice the crate's time for: {}", short.join("; ")),
+        }
     }
 
     fn counts(&self) -> String {
