@@ -4,7 +4,7 @@ ghost use Prim.Native.Nat.{ℕ, _-_, _*_, _^_, _<_};
 ghost use lib.IntN.{ℤ, pos, natAbs};
 ghost use lib.ListN.{getD};
 ghost use Rattle.entcode.specs.Flat.{out};
-ghost use Rattle.tree.specs.Told.{Told};
+ghost use Rattle.tree.specs.Told.{Told, Midway};
 ghost use Rattle.silk.specs.IndexRows.{Writing, Rate, Subframes, contourSize};
 ghost use Rattle.silk.specs.IndexSyntax.{absoluteLag, lag, contour, filters, period, scale, pitch};
 ghost use Rattle.silk.specs.IndexParts.{Upto};
@@ -32,17 +32,25 @@ fn absolute_lag_tell(buf: &mut [u8], w: Enc, rows: &[u8], x: Indices, khz: u32) 
     ec_enc_icdf8_run(buf, h, value % half, &rows[start..end])
 }
 
-// Always absolute: after delta symbol 0 where one is due.
+// Delta symbol 0 where a delta is due: what is left to say of the lag is then absolute.
+fn delta_tell(buf: &mut [u8], w: Enc, rows: &[u8], relative: bool) -> Enc
+    requires { ⌜ Writing (out (now buf) w) (now rows) (2 ^ 28) ⌝ }
+    ensures { λ r. ⌜ ((khz : ℕ) (before : ℤ) (x : Indices) → Midway (out (now (buf .entry)) w) x (lag relative khz before x) 16 (out (now (buf .exit)) r) x (absoluteLag khz x)) ⌝ }
+{
+    if relative {
+        return ec_enc_icdf8_run(buf, w, 0, &rows[387..408]);
+    }
+    w
+}
+
+// Always absolute, by one call after a delta or without: with two it is not inlined, and the state goes through memory.
 fn lag_tell(buf: &mut [u8], w: Enc, rows: &[u8], x: Indices, relative: bool, khz: u32) -> Enc
     requires { ⌜ Writing (out (now buf) w) (now rows) (2 ^ 28) ⌝ }
     requires { ⌜ Rate khz × Upto (16 * khz - 1) (x .lag) ⌝ }
     ensures { λ r. ⌜ ((before : ℤ) → Told (out (now (buf .entry)) w) x (lag relative khz before x) 48 (out (now (buf .exit)) r)) ⌝ }
 {
-    if relative {
-        let q = ec_enc_icdf8_run(buf, w, 0, &rows[387..408]);
-        return absolute_lag_tell(buf, q, rows, x, khz);
-    }
-    absolute_lag_tell(buf, w, rows, x, khz)
+    let q = delta_tell(buf, w, rows, relative);
+    absolute_lag_tell(buf, q, rows, x, khz)
 }
 
 // ---- contour
