@@ -10,7 +10,7 @@ ghost use Rattle.sheet.specs.Directory.{rowOf};
 ghost use Rattle.entcode.specs.Flat.{out};
 ghost use Rattle.tree.specs.Told.{Told};
 ghost use Rattle.silk.specs.IndexRows.{Writing, Rate};
-ghost use Rattle.silk.specs.IndexSyntax.{extensionSaid, residual, residuals, spectrum};
+ghost use Rattle.silk.specs.IndexSyntax.{bookOf, selectorsOf, residualPick, extensionSaid, residual, residuals, spectrum};
 ghost use Rattle.silk.specs.IndexSays.{WritesSpectrum};
 use entcode::Enc;
 use entenc_run::ec_enc_icdf8_run;
@@ -88,6 +88,26 @@ fn residuals_tell(
     q
 }
 
+// The number of places.
+fn order_of(khz: u32) -> usize
+    ensures { λ n. ⌜ n ≡ bookOf khz .order ⌝ }
+{
+    if khz == 16 { 16 } else { 10 }
+}
+
+// The selectors of vector v, in a row as long for either book: one call writes the residuals of both, and so is inlined. Those of the narrow book end
+// after 5 bytes, which serve its 10 places.
+fn selectors_of(khz: u32, v: u32) -> [u8; 8]
+    requires { ⌜ v < 32 ⌝ }
+    ensures { λ r. ⌜ ((i : ℕ) → i < bookOf khz .order → residualPick r i ≡ residualPick (selectorsOf khz v) i) ⌝ }
+{
+    if khz == 16 {
+        return wide_selectors_run(v);
+    }
+    let t = narrow_selectors_run(v);
+    [t[0], t[1], t[2], t[3], t[4], 0, 0, 0]
+}
+
 pub fn spectrum_tell_run(
     buf: &mut [u8],
     w: Enc,
@@ -105,10 +125,6 @@ pub fn spectrum_tell_run(
     let end = start + 32;
     let v = x.nlsf[0] as u32;
     let q = ec_enc_icdf8_run(buf, w, v, &rows[start..end]);
-    if khz == 16 {
-        let s = wide_selectors_run(v);
-        return residuals_tell(buf, q, rows, x, &s, khz, 16);
-    }
-    let s = narrow_selectors_run(v);
-    residuals_tell(buf, q, rows, x, &s, khz, 10)
+    let s = selectors_of(khz, v);
+    residuals_tell(buf, q, rows, x, &s, khz, order_of(khz))
 }

@@ -3,16 +3,14 @@ use borrow.Author.Needs.{needs}
 use Prim.Native.Nat.{_+_, _*_, _/_, _<_}
 use mathlib.Core.Path.{_≡_, ap}
 use native.Mathlib.Omega.{arith}
-use borrow.Author.Tests.{eq-eqb, ne-eqb}
 use lib.IntN.{ℤ, pos, natAbs}
 use lib.ListN.{length, getD}
 use mir.Syntax.{w8}
 use mir.Val.{toZ, ofZ}
-use Rattle.sheet.specs.Books.{narrow-shaped, wide-shaped}
 use Rattle.silk.specs.IndexRows.{rate-most, first-index-row}
 use Rattle.silk.specs.IndexSyntax.{bookOf}
-use Rattle.silk.specs.IndexParts.{upto-fits, abs-kept}
-use Rattle.silk.specs.IndexTold.{spectrum-told}
+use Rattle.silk.specs.IndexParts.{upto-fits, abs-kept, order-most}
+use Rattle.silk.specs.IndexTold.{residuals-picked, spectrum-told}
 use Rattle.index_spectrum.proofs.tell.spectrum_tell_run.Statement.{statement}
 use Rattle.index_spectrum.proofs.tell.spectrum_tell_run.Tie as tie
 
@@ -75,21 +73,24 @@ ec-enc-icdf8-run-requires c κs =
     let t = first-index-row (z .pre .0 .rows) _ (below-four z) in
     rw (index-is z) (z .pre .0 .core, (omega (arith, z .pre .0 .few), (t .good, t .writable _ (omega (arith, z .pre .1 .2 .index .most)))))
 
-wide-selectors-run-requires : tie.Need-wide-selectors-run-requires
-wide-selectors-run-requires c κs = index-below (c .before .before .before .before .before .before .before .before .before)
+selectors-of-requires : tie.Need-selectors-of-requires
+selectors-of-requires c κs = index-below (c .before .before .before .before .before .before .before .before)
 
 slice-aggregate-residuals-tell : tie.Need-slice-aggregate-residuals-tell
 slice-aggregate-residuals-tell c = search needs
+
+order-of-requires : tie.Need-order-of-requires
+order-of-requires c κs = search needs
 
 residuals-tell-requires : tie.Need-residuals-tell-requires
 residuals-tell-requires c κs =
     let z = c .before .before .before .before .before .before .before .before .before .before .before .before in
     let a = c .before .before .before .before .before .before .ec-enc-icdf8-run in
-    let w = c .before .before .wide-selectors-run in
-    let o : bookOf (z .args .khz) .order ≡ 16 = rw (eq-eqb _ _ (c .before .before .before .if1 .taken)) (wide-shaped .order) in (
+    let s : length (c .before .before .before .selectors-of .result) ≡ 8 = search needs in
+    let o = c .order-of .ensures in (
       record { core = a .ensures .core; few = omega (arith, a .ensures .most, z .pre .0 .few); rows = z .pre .0 .rows },
       (
-        (z .pre .1 .0, omega (arith, ap length (w .ensures), wide-shaped .selectors .width _ (index-below z)), omega arith),
+        (z .pre .1 .0, omega (arith, o, order-most (z .args .khz)), omega (arith, o, order-most (z .args .khz))),
         λ k p q. z .pre .1 .2 .residuals k p (omega (arith, o)),
       ),
     )
@@ -101,43 +102,12 @@ returns : tie.Need-returns
 returns c =
     let z = c .before .before .before .before .before .before .before .before .before .before .before .before .before .before .before in
     let a = c .before .before .before .before .before .before .before .before .before .ec-enc-icdf8-run in
-    let w = c .before .before .before .before .before .wide-selectors-run in
+    let s = c .before .before .before .before .before .before .selectors-of in
     let f = c .before .before .residuals-tell in
+    let e = residuals-picked (z .args .khz) (s .result) _ (bookOf (z .args .khz) .order) 0 (z .args .t4) (λ j l. s .ensures j (omega arith)) in
     spectrum-told {n = 512} (z .args .khz) (z .args .signal) (z .args .t4) (nlsf-size z) (z .pre .1 .2 .index)
     (first-index-row (z .pre .0 .rows) _ (below-four z) .is) (ap natAbs (index-is z)) (a .ensures)
-    (rw (eq-eqb _ _ (c .before .before .before .before .before .before .if1 .taken), wide-shaped .order) (rw (w .ensures) at (f .ensures)))
-
-narrow-selectors-run-requires : tie.Need-narrow-selectors-run-requires
-narrow-selectors-run-requires c κs = index-below (c .before .before .before .before .before .before .before .before .before)
-
-slice-aggregate-residuals-tell-2 : tie.Need-slice-aggregate-residuals-tell-2
-slice-aggregate-residuals-tell-2 c = search needs
-
-residuals-tell-requires-2 : tie.Need-residuals-tell-requires-2
-residuals-tell-requires-2 c κs =
-    let z = c .before .before .before .before .before .before .before .before .before .before .before .before in
-    let a = c .before .before .before .before .before .before .ec-enc-icdf8-run in
-    let w = c .before .before .narrow-selectors-run in
-    let o : bookOf (z .args .khz) .order ≡ 10 = rw (ne-eqb _ _ (c .before .before .before .if1 .left)) (narrow-shaped .order) in (
-      record { core = a .ensures .core; few = omega (arith, a .ensures .most, z .pre .0 .few); rows = z .pre .0 .rows },
-      (
-        (z .pre .1 .0, omega (arith, ap length (w .ensures), narrow-shaped .selectors .width _ (index-below z)), omega arith),
-        λ k p q. z .pre .1 .2 .residuals k p (omega (arith, o)),
-      ),
-    )
-
-same-length-2 : tie.Need-same-length-2
-same-length-2 c = search needs
-
-returns-2 : tie.Need-returns-2
-returns-2 c =
-    let z = c .before .before .before .before .before .before .before .before .before .before .before .before .before .before .before in
-    let a = c .before .before .before .before .before .before .before .before .before .ec-enc-icdf8-run in
-    let w = c .before .before .before .before .before .narrow-selectors-run in
-    let f = c .before .before .residuals-tell2 in
-    spectrum-told {n = 512} (z .args .khz) (z .args .signal) (z .args .t4) (nlsf-size z) (z .pre .1 .2 .index)
-    (first-index-row (z .pre .0 .rows) _ (below-four z) .is) (ap natAbs (index-is z)) (a .ensures)
-    (rw (ne-eqb _ _ (c .before .before .before .before .before .before .if1 .left), narrow-shaped .order) (rw (w .ensures) at (f .ensures)))
+    (rw (c .before .before .before .order-of .ensures, e) at (f .ensures))
 
 pub spectrum-tell-run-spec : {M : Type 1} → statement M
 spectrum-tell-run-spec =
@@ -155,13 +125,9 @@ spectrum-tell-run-spec =
     part-ec-enc-icdf8-run-start
     part-ec-enc-icdf8-run-end
     ec-enc-icdf8-run-requires
-    wide-selectors-run-requires
+    selectors-of-requires
     slice-aggregate-residuals-tell
+    order-of-requires
     residuals-tell-requires
     same-length
-    returns
-    narrow-selectors-run-requires
-    slice-aggregate-residuals-tell-2
-    residuals-tell-requires-2
-    same-length-2
-    returns-2)
+    returns)
