@@ -8,6 +8,7 @@ ghost use Rattle.spectrum.specs.Stabilising.{kept16, stabilise};
 ghost use Rattle.nlsf_decode.specs.Asked.{Indexed};
 use nlsf_places::places_run;
 use nlsf_stabilize::stabilise_run;
+use nlsf_stabilize::stays::stays_run;
 use tables::books::narrow_gaps;
 use tables::books::narrow_predictors;
 use tables::books::narrow_selectors_run;
@@ -28,5 +29,8 @@ pub fn narrow_run(vector: &mut [i16], v: usize, xs: &[i8]) -> u32
     let lists = narrow_predictors();
     places_run(vector, xs, 11796, &selector, &lists, &value, &weight);
     let gaps = narrow_gaps();
+    if stays_run(vector, &gaps) {
+        return 0;
+    }
     stabilise_run(vector, &gaps, GAP_SUM)
 }

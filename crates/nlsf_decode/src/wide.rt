@@ -8,6 +8,7 @@ ghost use Rattle.spectrum.specs.Stabilising.{kept16, stabilise};
 ghost use Rattle.nlsf_decode.specs.Asked.{Indexed};
 use nlsf_places::places_run;
 use nlsf_stabilize::stabilise_run;
+use nlsf_stabilize::stays::stays_run;
 use tables::books::wide_gaps;
 use tables::books::wide_predictors;
 use tables::books::wide_selectors_run;
@@ -28,5 +29,8 @@ pub fn wide_run(vector: &mut [i16], v: usize, xs: &[i8]) -> u32
     let lists = wide_predictors();
     places_run(vector, xs, 9830, &selector, &lists, &value, &weight);
     let gaps = wide_gaps();
+    if stays_run(vector, &gaps) {
+        return 0;
+    }
     stabilise_run(vector, &gaps, GAP_SUM)
 }

@@ -1,19 +1,18 @@
 -- The differences as the code reads them. Assumes nothing.
 use Prim.Native.Nat.{ℕ, zero, suc, _+_, _-_, _*_, _<_}
 use mathlib.Core.Path.{_≡_, refl, sym, ap, subst, subst₂, _∙_}
-use mathlib.Core.Bool.{Bool, true, false}
+use mathlib.Core.Bool.{true, false}
 use mathlib.Core.List.{List, [], _∷_}
 use native.Mathlib.Omega.{arith}
 use native.Mathlib.Nat.{not-suc-le-zero}
 use borrow.Author.Count.{below-more}
 use lib.IntN.{ℤ, pos, _+ℤ_, _-ℤ_, _*ℤ_}
-use lib.Signed.{ltZ, leZ, shrZ}
+use lib.Signed.{ltZ, shrZ}
 use lib.ListN.{length, take}
-use Rattle.ints.specs.Order.{ltZ-true, ltZ-false, leZ-true, leZ-false}
+use Rattle.ints.specs.Order.{ltZ-true, ltZ-false}
 use Rattle.ints.specs.Parts.{up, down}
 use Rattle.ints.specs.Quotients.{shr-low, shr-high}
 use Rattle.ints.specs.Sums.{sum-parts, up-diff, up-times, down-times}
-use Rattle.spectrum.proofs.Extremes.{le-leZ, lt-leZ}
 use Rattle.spectrum.proofs.FirstSmallest.{First, found, diff-first, diff-between, diff-last}
 use Rattle.spectrum.proofs.MoveBounds.{length-diffs}
 use Rattle.spectrum.specs.Distances.{diffs, place}
@@ -110,13 +109,9 @@ key-found v g i z s e l b =
     let f = found ds (length v) (b .place) (length-diffs (pos 0) v g l) (subst (λ (m : ℕ). First ds m (b .place)) n (b .first)) in
     (b .key ∙ ap (λ (m : ℕ). keyed (at ds m) m) (f .0), b .sum ∙ ap (λ (m : ℕ). total (take m g)) (f .0))
 
--- what a key says: its place, and whether its difference is below 0
+-- the place of a key
 pub key-place : (d : ℤ) (i : ℕ) → i < 32 → up (keyed d i -ℤ shrZ (keyed d i) 32 *ℤ pos 32) ≡ i
 key-place d i h =
     let z = keyed d i in
     let s = shrZ z 32 in
     omega (arith, keyed-parts d i, up-diff z (s *ℤ pos 32), up-times s 32, down-times s 32, shr-low z 32 (omega arith), shr-high z 32 (omega arith))
-
-pub key-sign : (d : ℤ) (i : ℕ) (t : Bool) → i < 32 → leZ (pos 0) (keyed d i) ≡ t → leZ (pos 0) d ≡ t
-key-sign d i true h e = le-leZ (pos 0) d (omega (arith, keyed-parts d i, leZ-true (pos 0) (keyed d i) e))
-key-sign d i false h e = lt-leZ (pos 0) d (omega (arith, keyed-parts d i, leZ-false (pos 0) (keyed d i) e))

@@ -19,7 +19,7 @@ use Rattle.ints.specs.Widths.{parts-fit}
 use Rattle.ints.specs.Wrap.{wrap16}
 use Rattle.spectrum.proofs.CallLaws.{lengths-are, stabilise-accepted, stabilise-refuses}
 use Rattle.spectrum.proofs.Extremes.{le-leZ}
-use Rattle.spectrum.proofs.FirstSmallest.{after, keeps-at, turn-stop, turn-move, turn-end}
+use Rattle.spectrum.proofs.FirstSmallest.{after, turn-stop, turn-move, turn-end}
 use Rattle.spectrum.proofs.Kept.{good-total}
 use Rattle.spectrum.proofs.MoveBounds.{good-at, cut, fits-nat, low-is}
 use Rattle.spectrum.proofs.Results.{ruled}
@@ -31,7 +31,7 @@ use Rattle.spectrum.specs.Gaps.{goodGaps, Good}
 use Rattle.spectrum.specs.Stabilising.{Stable, run, stabilise, kept16}
 use Rattle.spectrum.specs.Values.{Mag, at, top, held, half, total}
 use Rattle.nlsf_stabilize.specs.Asked.{ruledSum, smallestKey, PairOk, MoveOk}
-use Rattle.nlsf_stabilize.proofs.DiffLaws.{key-place, key-sign}
+use Rattle.nlsf_stabilize.proofs.DiffLaws.{key-place}
 
 -- the sums of all gaps and of those before a gap lie within 32,768, and what they leave beside the gap is the sum of those behind it
 pub sums-near : (g v : List ℤ) (i : ℕ) → MoveOk g v i → i ≢ length v → Mag 32768 (total g) × Mag 32768 (total (take i g))
@@ -61,7 +61,7 @@ move-first g v i e m =
     ap (set v 0) (sym (kept16-keeps (at g 0) (fits-nat (at g 0) (c .here0) (omega (arith, c .all, c .some, m .rule .most))))) ∙ ap (move kept16 g v) (sym e)
 
 -- the last gap is 1 or more
-last-gap : (g : List ℤ) (n : ℕ) → length g ≡ suc n → Good g → 1 ≤ up (at g n)
+pub last-gap : (g : List ℤ) (n : ℕ) → length g ≡ suc n → Good g → 1 ≤ up (at g n)
 unfolding Good
 last-gap [] n l r = absurd r
 last-gap (a ∷ []) zero l r = r .1
@@ -116,17 +116,12 @@ run-start g v =
     let s = run kept16 20 g v in
     let z : 0 + s .moves ≡ s .moves = omega arith in ap (λ (k : ℕ). record { vector = s .vector; moves = k }) z
 
--- what the smallest key k says: the test of its sign, and its place
-module _ (g v : List ℤ) (k : ℤ) (e : k ≡ smallestKey g v) (h : place g v < 32) where
-  pub tested : (t : Bool) → leZ (pos 0) k ≡ t → keeps g v ≡ t
-  tested t q = keeps-at v g ∙ key-sign (at (diffs (pos 0) v g) (place g v)) (place g v) t h (ap (leZ (pos 0)) (sym e) ∙ q)
+-- the place of the smallest key k
+pub placed : (g v : List ℤ) (k : ℤ) → k ≡ smallestKey g v → place g v < 32 → (i : ℕ) → i ≡ up (k -ℤ shrZ k 32 *ℤ pos 32) → i ≡ place g v
+placed g v k e h i f = f ∙ ap (λ (z : ℤ). up (z -ℤ shrZ z 32 *ℤ pos 32)) e ∙ key-place (at (diffs (pos 0) v g) (place g v)) (place g v) h
 
-  pub placed : (i : ℕ) → i ≡ up (k -ℤ shrZ k 32 *ℤ pos 32) → i ≡ place g v
-  placed i f = f ∙ ap (λ (z : ℤ). up (z -ℤ shrZ z 32 *ℤ pos 32)) e ∙ key-place (at (diffs (pos 0) v g) (place g v)) (place g v) h
-
-pub run-stop : (g v : List ℤ) (m : ℕ) (s : Stable) → m < 20 → keeps g v ≡ true → after m (run kept16 (20 - m) g v) ≡ s → record { vector = v; moves = m } ≡ s
-run-stop g v m s h k e =
-    sym (turn-stop kept16 m (20 - (m + 1)) g v k) ∙ ap (λ (n : ℕ). after m (run kept16 n g v)) (sym (left m h)) ∙ e
+pub run-stop : (g v : List ℤ) (m : ℕ) (s : Stable) → MoveOk g v 0 → keeps g v ≡ true → after m (run kept16 (20 - m) g v) ≡ s → record { vector = v; moves = m } ≡ s
+run-stop g v m s o k e = sym (turn-stop kept16 m (20 - m) g v (o .long) (o .rule .good) k) ∙ e
 
 pub run-on : (g v w : List ℤ) (i m : ℕ) (s : Stable) → m < 20 → keeps g v ≡ false → i ≡ place g v → w ≡ move kept16 g v i → after m (run kept16 (20 - m) g v) ≡ s
     → after (m + 1) (run kept16 (20 - (m + 1)) g w) ≡ s

@@ -1,6 +1,6 @@
--- A vector that stays, place by place, and what the call answers for it. Assumes nothing.
+-- A vector that stays, place by place, and what the stabiliser makes of it. Assumes nothing.
 use Prim.Native.Nat.{ℕ, suc, _<_}
-use mathlib.Core.Path.{_≡_, refl, sym, subst, subst⁻¹}
+use mathlib.Core.Path.{_≡_, refl, sym, ap, subst, subst⁻¹}
 use mathlib.Core.Bool.{Bool, true, false, _&&_, _||_}
 use mathlib.Core.List.{List, [], _∷_}
 use native.Mathlib.Omega.{arith}
@@ -18,14 +18,15 @@ use Rattle.tests.specs.Decides.{Decides, decides-alike}
 use Rattle.spectrum.proofs.CallLaws.{lengths-are, stabilise-answers}
 use Rattle.spectrum.proofs.Extremes.{le-leZ}
 use Rattle.spectrum.proofs.Kept.{Kept, kept-keeps, keeps-kept}
+use Rattle.spectrum.proofs.MoveBounds.{good-at}
 use Rattle.spectrum.proofs.Results.{kept-at, kept-end, kept-by, unmoved}
 use Rattle.spectrum.specs.Calls.{called, lengthsOk, stabiliseCall}
 use Rattle.spectrum.specs.Distances.{keeps}
 use Rattle.spectrum.specs.Gaps.{goodGaps}
-use Rattle.spectrum.specs.Stabilising.{kept16}
+use Rattle.spectrum.specs.Stabilising.{stabilise, kept16}
 use Rattle.spectrum.specs.Values.{at, top, _≼_, total}
-use Rattle.nlsf_stabilize.specs.Asked.{stays}
-use Rattle.nlsf_stabilize.proofs.MoveLaws.{accepted}
+use Rattle.nlsf_stabilize.specs.Asked.{stays, MoveOk}
+use Rattle.nlsf_stabilize.proofs.MoveLaws.{last-gap, accepted}
 
 -- ---- one place: the gap is not negative, and x keeps it from p
 
@@ -114,9 +115,26 @@ module _ (g v : List ℤ) (l : length g ≡ suc (length v)) where
       })
       (subst⁻¹ (λ (n : ℕ). Decides (stays g v) (Passed g v n × Ended g v n)) e stays-decides)
 
+-- ---- what staying says of the stabiliser
+
 -- a vector that stays is left as it is, with 0 moves
+pub stays-still : (v g : List ℤ) → length g ≡ suc (length v) → stays g v ≡ true → record { vector = v; moves = 0 } ≡ stabilise kept16 g v
+stays-still v g l e =
+    let a = and-both (goodGaps (length v) g) (keeps g v) e in sym (unmoved kept16 g v l (a .0) (a .1))
+
 pub stays-answers : (v g : List ℤ) → lengthsOk v g ≡ true → stays g v ≡ true → called v 0 0 ≡ stabiliseCall v g
 stays-answers v g l e =
-    let a = and-both (goodGaps (length v) g) (keeps g v) e in
     let h : length g ≡ suc (length v) = omega (arith, lengths-are v g l .one-more) in
-    stabilise-answers v g v 0 (accepted v g l (a .0)) (sym (unmoved kept16 g v h (a .0) (a .1)))
+    stabilise-answers v g v 0 (accepted v g l (and-both (goodGaps (length v) g) (keeps g v) e .0)) (stays-still v g h e)
+
+-- under the gap set's rule, the loop's test is the definition's
+pub stays-keeps : (g v : List ℤ) → MoveOk g v 0 → stays g v ≡ keeps g v
+unfolding goodGaps
+stays-keeps g v m =
+    let n = length v in
+    let r = m .rule .good in
+    let none = at-every (leZ (pos 0)) g (pos 0) (λ i h. le-leZ (pos 0) (at g i) (omega (arith, good-at g r i))) in
+    let some = le-leZ (pos 1) (at g n) (omega (arith, last-gap g n (m .long) r, good-at g r n)) in
+    let few = le-leZ (total g) top (omega (arith, m .rule .most)) in
+    ap (λ (t : Bool). t && keeps g v)
+    (both-and (every (leZ (pos 0)) g) (leZ (pos 1) (at g n) && leZ (total g) top) none (both-and (leZ (pos 1) (at g n)) (leZ (total g) top) some few))

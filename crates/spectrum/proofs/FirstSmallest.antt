@@ -7,16 +7,17 @@ use native.Mathlib.Omega.{arith}
 use native.Mathlib.Nat.{suc-inj, not-le-of-lt, not-suc-le-zero, le-of-suc-le-suc}
 use borrow.Author.Tests.{ltb-true, ltb-false}
 use lib.Dec.{ltb}
-use lib.IntN.{ℤ, pos, _+ℤ_, _-ℤ_}
+use lib.IntN.{ℤ, _+ℤ_, _-ℤ_}
 use lib.Signed.{leZ}
 use lib.ListN.{length}
 use Rattle.ints.specs.Order.{leZ-false}
 use Rattle.ints.specs.Parts.{up, down}
 use Rattle.spectrum.proofs.Extremes.{min-left, min-right}
-use Rattle.spectrum.proofs.Kept.{run-still}
 use Rattle.spectrum.proofs.MoveBounds.{first-most}
+use Rattle.spectrum.proofs.Settled.{run-settled}
 use Rattle.spectrum.specs.Distances.{diffs, least, firstLeast, keeps, place, move}
 use Rattle.spectrum.specs.Fallback.{fallback}
+use Rattle.spectrum.specs.Gaps.{Good}
 use Rattle.spectrum.specs.Stabilising.{Stable, oneMore, run}
 use Rattle.spectrum.specs.Values.{at, top, _≼_, minZ}
 
@@ -116,14 +117,10 @@ diff-last p (v ∷ (w ∷ vs)) (a ∷ (b ∷ g)) (suc i) l h = diff-last v (w �
 abbrev pub after : ℕ → Stable → Stable
 after m s = record { vector = s .vector; moves = m + s .moves }
 
--- the loop's test is of the difference at the place found
-pub keeps-at : (v g : List ℤ) → keeps g v ≡ leZ (pos 0) (at (diffs (pos 0) v g) (place g v))
-unfolding keeps place
-keeps-at v g = ap (leZ (pos 0)) (least-at (diffs (pos 0) v g))
-
-pub turn-stop : (store : ℤ → ℤ) (m n : ℕ) (g v : List ℤ) → keeps g v ≡ true → after m (run store (suc n) g v) ≡ record { vector = v; moves = m }
-turn-stop store m n g v e =
-    ap (after m) (run-still store n g v e) ∙ (let z : m + 0 ≡ m = omega arith in ap (λ (k : ℕ). record { vector = v; moves = k }) z)
+pub turn-stop : (store : ℤ → ℤ) (m n : ℕ) (g v : List ℤ) → length g ≡ suc (length v) → Good g → keeps g v ≡ true
+    → after m (run store n g v) ≡ record { vector = v; moves = m }
+turn-stop store m n g v l r e =
+    ap (after m) (run-settled store n g v l r e) ∙ (let z : m + 0 ≡ m = omega arith in ap (λ (k : ℕ). record { vector = v; moves = k }) z)
 
 pub turn-move : (store : ℤ → ℤ) (m n : ℕ) (g v : List ℤ) → keeps g v ≡ false → after m (run store (suc n) g v) ≡ after (m + 1) (run store n g (move store g v (place g v)))
 unfolding run

@@ -4,6 +4,7 @@ pub mod Results
 pub mod SameStores
 pub mod MoveBounds
 pub mod Sorting
+pub mod Settled
 pub mod FirstSmallest
 pub mod WholeMoves
 pub mod ResidualBounds

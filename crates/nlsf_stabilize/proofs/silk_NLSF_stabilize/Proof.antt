@@ -61,8 +61,11 @@ stabilise-run-requires c κs =
     let r = c .before .before in
     let a = measured r .before .before .before .args in
     let t = rule-is r true (c .before .if3 .taken) in (
-      move-ok (a .vector .now) (a .gaps .now) (accepted (a .vector .now) (a .gaps .now) (lengths-right (measured r)) t),
-      ruled-total (length (a .vector .now)) (a .gaps .now) _ (toZ-ofZ {w = w32} (sfits-of (r .ruled-sum-run .ok)) ∙ r .ruled-sum-run .ensures) t,
+      (
+        move-ok (a .vector .now) (a .gaps .now) (accepted (a .vector .now) (a .gaps .now) (lengths-right (measured r)) t),
+        ruled-total (length (a .vector .now)) (a .gaps .now) _ (toZ-ofZ {w = w32} (sfits-of (r .ruled-sum-run .ok)) ∙ r .ruled-sum-run .ensures) t,
+      ),
+      sym (r .before .before .stays-run .ensures) ∙ r .before .if2 .left,
     )
 
 same-length-2 : tie.Need-same-length-2

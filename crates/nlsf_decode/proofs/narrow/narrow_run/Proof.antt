@@ -1,12 +1,15 @@
 -- `narrow_run` meets its contract. Assumes nothing.
 use Prim.Native.Nat.{ℕ}
-use mathlib.Core.Path.{_≡_, refl, sym, subst⁻¹, _∙_}
+use mathlib.Core.Path.{_≡_, refl, sym, ap, subst⁻¹, _∙_}
 use mathlib.Core.List.{List, map}
 use borrow.Author.Needs.{needs}
 use lib.IntN.{ℤ, pos}
 use Rattle.sheet.specs.Books.{narrowBook, narrow-shaped}
 use Rattle.spectrum.proofs.BookLaws.{narrow-usable}
+use Rattle.spectrum.specs.Places.{places}
+use Rattle.spectrum.specs.Stabilising.{Stable, stabilise, kept16}
 use Rattle.spectrum.specs.Values.{total}
+use Rattle.nlsf_stabilize.proofs.StayLaws.{stays-still}
 use Rattle.nlsf_stabilize.specs.Asked.{MoveOk}
 use Rattle.nlsf_places.specs.Asked.{Rows, rows}
 use Rattle.nlsf_decode.proofs.RowLaws.{RowsOf, stabilised-by, places-ok, book-moves}
@@ -69,28 +72,52 @@ places-run-requires c κs =
 narrow-gaps-requires : tie.Need-narrow-gaps-requires
 narrow-gaps-requires c κs = search needs
 
-slice-aggregate-stabilise-run : tie.Need-slice-aggregate-stabilise-run
-slice-aggregate-stabilise-run c = search needs
-
-stabilise-run-requires : tie.Need-stabilise-run-requires
-stabilise-run-requires c κs =
-    let p = c .before .before .before .before in
+-- the places are what a move asks, with the book's gaps
+asked : (q : tie.After-narrow-gaps) → MoveOk (q .narrow-gaps .result) (q .before .before .places-run .last .0) 0
+asked q =
+    let p = q .before .before in
     let s = p .before .before .before .before .before .before .before .before .before .before in
     let u = p .places-run .last .0 in
-    subst⁻¹ (λ (g : List ℤ). MoveOk g u 0 × (pos 742 ≡ total g)) (c .before .before .narrow-gaps .ensures)
-    (book-moves narrowBook narrow-usable u (p .places-run .kept .0 ∙ s .pre .long ∙ sym (narrow-shaped .order)), sym gap-total)
+    subst⁻¹ (λ (g : List ℤ). MoveOk g u 0) (q .narrow-gaps .ensures)
+    (book-moves narrowBook narrow-usable u (p .places-run .kept .0 ∙ s .pre .long ∙ sym (narrow-shaped .order)))
+
+-- what the stabiliser leaves of them is the answer
+answered : (q : tie.After-narrow-gaps) {t : Stable} → t ≡ stabilise kept16 (q .narrow-gaps .result) (q .before .before .places-run .last .0) →
+    let a = q .before .before .before .before .before .before .before .before .before .before .before .before .args in t ≡ stabilise kept16 (map pos (narrowBook .gaps)) (places narrowBook (a .v) (a .xs .now))
+answered q e =
+    let p = q .before .before in
+    let d = p .before .before .before .before .before .before in
+    let s = d .before .before .before .before in
+    stabilised-by narrowBook (s .args .v) (lent d) (lent-are d) narrow-usable (s .args .xs .now) (s .pre .many ∙ sym (narrow-shaped .order)) e (q .narrow-gaps .ensures) (p .places-run .ensures)
+
+slice-aggregate-stays-run : tie.Need-slice-aggregate-stays-run
+slice-aggregate-stays-run c = search needs
+
+stays-run-requires : tie.Need-stays-run-requires
+stays-run-requires c κs = search needs
 
 same-length : tie.Need-same-length
 same-length c = search needs
 
 returns : tie.Need-returns
 returns c =
-    let p = c .before .before .before .before .before .before in
-    let d = p .before .before .before .before .before .before in
-    let s = d .before .before .before .before in
-    stabilised-by narrowBook (s .args .v) (lent d) (lent-are d) narrow-usable (s .args .xs .now) (s .pre .many ∙ sym (narrow-shaped .order)) (c .before .stabilise-run .ensures)
-    (c .before .before .before .before .narrow-gaps .ensures)
-    (p .places-run .ensures)
+    let q = c .before .before .before .before in
+    answered q (stays-still (q .before .before .places-run .last .0) (q .narrow-gaps .result) (asked q .long) (sym (c .before .stays-run .ensures) ∙ c .if1 .taken))
+
+slice-aggregate-stabilise-run : tie.Need-slice-aggregate-stabilise-run
+slice-aggregate-stabilise-run c = search needs
+
+stabilise-run-requires : tie.Need-stabilise-run-requires
+stabilise-run-requires c κs =
+    let t = c .before .before in
+    let q = t .before .before .before .before in
+    ((asked q, sym (ap total (q .narrow-gaps .ensures) ∙ gap-total)), sym (t .before .stays-run .ensures) ∙ t .if1 .left)
+
+same-length-2 : tie.Need-same-length-2
+same-length-2 c = search needs
+
+returns-2 : tie.Need-returns-2
+returns-2 c = answered (c .before .before .before .before .before .before .before .before) (c .before .stabilise-run .ensures)
 
 pub narrow-run-spec : {M : Type 1} → statement M
 narrow-run-spec =
@@ -106,7 +133,11 @@ narrow-run-spec =
     slice-aggregate-places-run-4
     places-run-requires
     narrow-gaps-requires
+    slice-aggregate-stays-run
+    stays-run-requires
+    same-length
+    returns
     slice-aggregate-stabilise-run
     stabilise-run-requires
-    same-length
-    returns)
+    same-length-2
+    returns-2)
