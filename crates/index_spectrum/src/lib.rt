@@ -7,12 +7,11 @@ ghost use lib.ListN.{length};
 ghost use Rattle.sheet.specs.Directory.{rowOf};
 ghost use Rattle.tree.specs.Ran.{Ran};
 ghost use Rattle.silk.specs.IndexRows.{Reading, Rate};
-ghost use Rattle.silk.specs.IndexSyntax.{residual, residuals, spectrum};
+ghost use Rattle.silk.specs.IndexSyntax.{bookOf, residual, residuals, spectrum};
 use entcode::Dec;
 use entdec_run::ec_dec_icdf8_run;
-use nlsf_unpack::narrow_selectors_run;
 use nlsf_unpack::residual_pick_run;
-use nlsf_unpack::wide_selectors_run;
+use nlsf_unpack::selectors_run;
 use silk::Indices;
 use silk::IndicesPart;
 
@@ -110,6 +109,13 @@ fn residual_indices(
     }
 }
 
+// The number of places.
+fn order_of(khz: u32) -> usize
+    ensures { λ n. ⌜ n ≡ bookOf khz .order ⌝ }
+{
+    if khz == 16 { 16 } else { 10 }
+}
+
 pub fn spectrum_run(
     packet: &[u8],
     d: Dec,
@@ -128,10 +134,6 @@ pub fn spectrum_run(
     let a = ec_dec_icdf8_run(packet, d, &rows[start..end]);
     let mut out = x;
     out.nlsf[0] = a.value as i8;
-    if khz == 16 {
-        let s = wide_selectors_run(a.value);
-        return residual_indices(packet, a.state, rows, out, &s, khz, 16);
-    }
-    let s = narrow_selectors_run(a.value);
-    residual_indices(packet, a.state, rows, out, &s, khz, 10)
+    let s = selectors_run(khz, a.value);
+    residual_indices(packet, a.state, rows, out, &s, khz, order_of(khz))
 }

@@ -10,13 +10,13 @@ ghost use Rattle.sheet.specs.Directory.{rowOf};
 ghost use Rattle.entcode.specs.Flat.{out};
 ghost use Rattle.tree.specs.Told.{Told};
 ghost use Rattle.silk.specs.IndexRows.{Writing, Rate};
-ghost use Rattle.silk.specs.IndexSyntax.{bookOf, selectorsOf, residualPick, extensionSaid, residual, residuals, spectrum};
+ghost use Rattle.silk.specs.IndexSyntax.{extensionSaid, residual, residuals, spectrum};
 ghost use Rattle.silk.specs.IndexSays.{WritesSpectrum};
+use crate::order_of;
 use entcode::Enc;
 use entenc_run::ec_enc_icdf8_run;
-use nlsf_unpack::narrow_selectors_run;
 use nlsf_unpack::residual_pick_run;
-use nlsf_unpack::wide_selectors_run;
+use nlsf_unpack::selectors_run;
 use silk::Indices;
 
 // ---- one residual
@@ -88,26 +88,6 @@ fn residuals_tell(
     q
 }
 
-// The number of places.
-fn order_of(khz: u32) -> usize
-    ensures { λ n. ⌜ n ≡ bookOf khz .order ⌝ }
-{
-    if khz == 16 { 16 } else { 10 }
-}
-
-// The selectors of vector v, in a row as long for either book: one call writes the residuals of both, and so is inlined. Those of the narrow book end
-// after 5 bytes, which serve its 10 places.
-fn selectors_of(khz: u32, v: u32) -> [u8; 8]
-    requires { ⌜ v < 32 ⌝ }
-    ensures { λ r. ⌜ ((i : ℕ) → i < bookOf khz .order → residualPick r i ≡ residualPick (selectorsOf khz v) i) ⌝ }
-{
-    if khz == 16 {
-        return wide_selectors_run(v);
-    }
-    let t = narrow_selectors_run(v);
-    [t[0], t[1], t[2], t[3], t[4], 0, 0, 0]
-}
-
 pub fn spectrum_tell_run(
     buf: &mut [u8],
     w: Enc,
@@ -125,6 +105,6 @@ pub fn spectrum_tell_run(
     let end = start + 32;
     let v = x.nlsf[0] as u32;
     let q = ec_enc_icdf8_run(buf, w, v, &rows[start..end]);
-    let s = selectors_of(khz, v);
+    let s = selectors_run(khz, v);
     residuals_tell(buf, q, rows, x, &s, khz, order_of(khz))
 }

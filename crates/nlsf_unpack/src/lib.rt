@@ -1,26 +1,23 @@
 // Which residual row each place of a spectrum reads, by the selectors of its first index (RFC 6716, section 4.2.7.5.2), as in the crate's
 // NLSF_unpack.rs: a byte of selectors serves two places.
 ghost use mathlib.Core.Path.{_≡_};
-ghost use mathlib.Core.List.{[]};
-ghost use Prim.Native.Nat.{_/_, _<_};
-ghost use lib.ListN.{length, getD};
-ghost use Rattle.sheet.specs.Books.{narrowBook, wideBook};
-ghost use Rattle.silk.specs.IndexSyntax.{residualPick};
+ghost use Prim.Native.Nat.{ℕ, _/_, _<_};
+ghost use lib.ListN.{length};
+ghost use Rattle.silk.specs.IndexSyntax.{bookOf, selectorsOf, residualPick};
+use tables::books::narrow_selectors_run;
+use tables::books::wide_selectors_run;
 
-// The selectors of vector v of the narrow book.
-pub fn narrow_selectors_run(v: u32) -> [u8; 5]
+// The selectors of vector v, in a row as long for either book: one call then reads or writes the residuals of both, and so is inlined. Those of the
+// narrow book end after 5 bytes, which serve its 10 places.
+pub fn selectors_run(khz: u32, v: u32) -> [u8; 8]
     requires { ⌜ v < 32 ⌝ }
-    ensures { λ r. ⌜ r ≡ getD (narrowBook .selectors) v [] ⌝ }
+    ensures { λ r. ⌜ ((i : ℕ) → i < bookOf khz .order → residualPick r i ≡ residualPick (selectorsOf khz v) i) ⌝ }
 {
-    tables::books::narrow_selectors_run(v as usize)
-}
-
-// The selectors of vector v of the wide book.
-pub fn wide_selectors_run(v: u32) -> [u8; 8]
-    requires { ⌜ v < 32 ⌝ }
-    ensures { λ r. ⌜ r ≡ getD (wideBook .selectors) v [] ⌝ }
-{
-    tables::books::wide_selectors_run(v as usize)
+    if khz == 16 {
+        return wide_selectors_run(v as usize);
+    }
+    let t = narrow_selectors_run(v as usize);
+    [t[0], t[1], t[2], t[3], t[4], 0, 0, 0]
 }
 
 // The residual row of place i.

@@ -1,7 +1,7 @@
 -- One turn of each loop over the side indices: the rest of its tree, run on what a turn left, gives what it gave before. Counted as code counts,
--- by k + 1. Assumes nothing.
-use Prim.Native.Nat.{ℕ, suc, _+_, _-_, _≤_, _<_}
-use mathlib.Core.Path.{_≡_, _∙_}
+-- by k + 1. For residuals also how much of their selectors matters, read or written. Assumes nothing.
+use Prim.Native.Nat.{ℕ, zero, suc, _+_, _-_, _≤_, _<_}
+use mathlib.Core.Path.{_≡_, refl, ap₂, fun-ext, _∙_}
 use mathlib.Core.List.{List}
 use native.Mathlib.Numerals.{add-one}
 use native.Mathlib.Omega.{arith}
@@ -12,7 +12,7 @@ use Rattle.entcode.specs.declared.Dec.{Dec}
 use Rattle.entcode.specs.declared.Decoded.{Decoded}
 use Rattle.entcode.specs.Models.{tab}
 use Rattle.entcode.specs.ReadLaws.{Took}
-use Rattle.tree.specs.Asks.{run, got, of}
+use Rattle.tree.specs.Asks.{Asks, run, got, then, of}
 use Rattle.tree.specs.AsksLaws.{run-of}
 use Rattle.tree.specs.Ran.{asked, ran-then}
 use Rattle.silk.specs.declared.Indices.{Indices}
@@ -22,6 +22,16 @@ use Rattle.silk.specs.IndexSyntax.{saidAt, moreGains, residualPick, resi
 -- a number that is not yet reached has a step to it
 pub less-suc : (n k : ℕ) → k < n → n - k ≡ suc (n - suc k)
 less-suc n k h = omega arith
+
+-- residuals look at no more of their selectors than the rows picked for their places
+pub residuals-picked : (khz : ℕ) (s t : List ℕ) (n i : ℕ) (x : Indices) → ((j : ℕ) → j < i + n → residualPick s j ≡ residualPick t j)
+    → residuals khz s n i x ≡ residuals khz t n i x
+unfolding residuals
+residuals-picked khz s t zero i x h = refl
+residuals-picked khz s t (suc n) i x h =
+    ap₂ (λ (k : ℕ) (g : ℤ → Asks Indices Indices). then (of (λ y. getD (y .nlsf) (suc i) (pos 0)) (residual (residualRow khz k))) g)
+    (h i (omega arith))
+    (fun-ext (λ z. residuals-picked khz s t n (suc i) (withNlsf x (suc i) z) (λ j l. h j (omega arith))))
 
 module _ (b : List ℕ) (d : Dec) (n k : ℕ) (x : Indices) where
   pub gains-end : n ≤ k → run b d (moreGains (n - k) k x) ≡ got x d

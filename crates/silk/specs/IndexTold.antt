@@ -1,7 +1,7 @@
 -- Writing side indices part by part, and one turn of each loop: what is left to say before a turn is what it writes, then what is left to say after
 -- it. Counted as code counts, by k + 1; the tree starts from the record itself, and stays at it. Assumes nothing.
-use Prim.Native.Nat.{ℕ, zero, suc, _+_, _-_, _*_, _/_, _≤_, _<_}
-use mathlib.Core.Path.{_≡_, refl, sym, ap, ap₂, fun-ext, subst, _∙_}
+use Prim.Native.Nat.{ℕ, suc, _+_, _-_, _*_, _/_, _≤_, _<_}
+use mathlib.Core.Path.{_≡_, refl, sym, ap, ap₂, subst, _∙_}
 use mathlib.Core.List.{List, [], _∷_, _++_}
 use native.Mathlib.Numerals.{add-one}
 use native.Mathlib.Omega.{arith}
@@ -11,7 +11,7 @@ use Rattle.sheet.specs.Directory.{deltaGainRow, firstIndexRow, residualRow, fil
 use Rattle.entcode.specs.Models.{Sym, tab}
 use Rattle.entcode.specs.Flat.{Out}
 use Rattle.entcode.specs.WriterFacts.{Wrote}
-use Rattle.tree.specs.Asks.{Asks, then, symbols, meant, of}
+use Rattle.tree.specs.Asks.{Asks, symbols, meant, of}
 use Rattle.tree.specs.AsksLaws.{symbols-then, symbols-of, meant-of}
 use Rattle.tree.specs.Says.{says-means}
 use Rattle.tree.specs.Told.{Told, told-ask}
@@ -31,16 +31,6 @@ writing-next k h p e = record { core = p .core; few = omega (arith, h .few, p .m
 -- a symbol of a row
 abbrev pub symbolOf : List ℕ → ℕ → Sym
 symbolOf r v = record { model = tab 8 r; value = v }
-
--- residuals look at no more of their selectors than the rows picked for their places
-pub residuals-picked : (khz : ℕ) (s t : List ℕ) (n i : ℕ) (x : Indices) → ((j : ℕ) → j < i + n → residualPick s j ≡ residualPick t j)
-    → residuals khz s n i x ≡ residuals khz t n i x
-unfolding residuals
-residuals-picked khz s t zero i x h = refl
-residuals-picked khz s t (suc n) i x h =
-    ap₂ (λ (k : ℕ) (g : ℤ → Asks Indices Indices). then (of (λ y. getD (y .nlsf) (suc i) (pos 0)) (residual (residualRow khz k))) g)
-    (h i (omega arith))
-    (fun-ext (λ z. residuals-picked khz s t n (suc i) (withNlsf x (suc i) z) (λ j l. h j (omega arith))))
 
 -- the first index v, by the row r that was lent, then the residuals by its selectors
 pub spectrum-told : {o p q : Out} {r : List ℕ} {v n : ℕ} (khz signal : ℕ) (x : Indices) → length (x .nlsf) ≡ 17 → Upto 31 (getD (x .nlsf) 0 (pos 0))

@@ -1,18 +1,19 @@
 -- `index_spectrum::spectrum_run` meets its contract: the first index, then a residual for each place of its book. Assumes nothing.
 use borrow.Author.Needs.{needs}
 use Prim.Native.Nat.{_+_, _*_, _/_, _<_}
-use mathlib.Core.Path.{_≡_, ap}
+use mathlib.Core.Path.{_≡_}
 use native.Mathlib.Omega.{arith}
-use borrow.Author.Tests.{eq-eqb, ne-eqb}
 use lib.IntN.{pos}
 use lib.ListN.{length}
 use mir.Syntax.{w8}
 use mir.Val.{toZ}
 use mir.Facts.{toZ-pos}
-use Rattle.sheet.specs.Books.{narrow-shaped, wide-shaped}
 use Rattle.tree.specs.Ran.{ran-ask}
+use Rattle.silk.specs.Record.{withNlsf}
 use Rattle.silk.specs.IndexRows.{rate-most, first-index-row}
-use Rattle.silk.specs.IndexSyntax.{spectrum}
+use Rattle.silk.specs.IndexSyntax.{bookOf, spectrum}
+use Rattle.silk.specs.IndexSteps.{residuals-picked}
+use Rattle.silk.specs.IndexParts.{order-most}
 use Rattle.index_spectrum.proofs.spectrum_run.Statement.{statement}
 use Rattle.index_spectrum.proofs.spectrum_run.Tie as tie
 
@@ -60,20 +61,23 @@ cast-out c = search needs
 element-set-from-out : tie.Need-element-set-from-out
 element-set-from-out c = search needs
 
-wide-selectors-run-requires : tie.Need-wide-selectors-run-requires
-wide-selectors-run-requires c κs = search needs
+selectors-run-requires : tie.Need-selectors-run-requires
+selectors-run-requires c κs = search needs
 
 slice-aggregate-residual-indices : tie.Need-slice-aggregate-residual-indices
 slice-aggregate-residual-indices c = search needs
+
+order-of-requires : tie.Need-order-of-requires
+order-of-requires c κs = search needs
 
 residual-indices-requires : tie.Need-residual-indices-requires
 residual-indices-requires c κs =
     let z = c .before .before .before .before .before .before .before .before in
     let a = c .before .before .before .before .ec-dec-icdf8-run in
-    let w = c .before .wide-selectors-run in
-    let v : a .result .value < 32 = omega (arith, a .ensures .inside, first-index-row (z .pre .0 .rows) _ (below-four z) .size) in (
+    let s : length (c .before .before .selectors-run .result) ≡ 8 = search needs in
+    let o = c .order-of .ensures in (
       record { core = a .ensures .core; few = omega (arith, a .ensures .most, z .pre .0 .few); rows = z .pre .0 .rows },
-      (z .pre .1 .0, omega (arith, ap length (w .ensures), wide-shaped .selectors .width _ v), omega arith),
+      (z .pre .1 .0, omega (arith, o, order-most (z .args .khz)), omega (arith, o, order-most (z .args .khz))),
     )
 
 returns : tie.Need-returns
@@ -81,38 +85,12 @@ unfolding spectrum
 returns c =
     let z = c .before .before .before .before .before .before .before .before .before in
     let a = c .before .before .before .before .before .ec-dec-icdf8-run in
-    let w = c .before .before .wide-selectors-run in
+    let s = c .before .before .before .selectors-run in
     let t = first-index-row (z .pre .0 .rows) _ (below-four z) in
-    let e : toZ w8 (a .result .value) ≡ pos (a .result .value) = toZ-pos w8 {n = a .result .value} (omega (arith, a .ensures .inside, t .size)) in
-    ran-ask {n = 512} (t .is) (a .ensures)
-    (rw (eq-eqb _ _ (c .before .before .before .if1 .taken), wide-shaped .order) (rw (e, w .ensures) at (c .residual-indices .ensures)))
-
-narrow-selectors-run-requires : tie.Need-narrow-selectors-run-requires
-narrow-selectors-run-requires c κs = search needs
-
-slice-aggregate-residual-indices-2 : tie.Need-slice-aggregate-residual-indices-2
-slice-aggregate-residual-indices-2 c = search needs
-
-residual-indices-requires-2 : tie.Need-residual-indices-requires-2
-residual-indices-requires-2 c κs =
-    let z = c .before .before .before .before .before .before .before .before in
-    let a = c .before .before .before .before .ec-dec-icdf8-run in
-    let w = c .before .narrow-selectors-run in
-    let v : a .result .value < 32 = omega (arith, a .ensures .inside, first-index-row (z .pre .0 .rows) _ (below-four z) .size) in (
-      record { core = a .ensures .core; few = omega (arith, a .ensures .most, z .pre .0 .few); rows = z .pre .0 .rows },
-      (z .pre .1 .0, omega (arith, ap length (w .ensures), narrow-shaped .selectors .width _ v), omega arith),
-    )
-
-returns-2 : tie.Need-returns-2
-unfolding spectrum
-returns-2 c =
-    let z = c .before .before .before .before .before .before .before .before .before in
-    let a = c .before .before .before .before .before .ec-dec-icdf8-run in
-    let w = c .before .before .narrow-selectors-run in
-    let t = first-index-row (z .pre .0 .rows) _ (below-four z) in
-    let e : toZ w8 (a .result .value) ≡ pos (a .result .value) = toZ-pos w8 {n = a .result .value} (omega (arith, a .ensures .inside, t .size)) in
-    ran-ask {n = 512} (t .is) (a .ensures)
-    (rw (ne-eqb _ _ (c .before .before .before .if1 .left), narrow-shaped .order) (rw (e, w .ensures) at (c .residual-indices2 .ensures)))
+    let w : toZ w8 (a .result .value) ≡ pos (a .result .value) = toZ-pos w8 {n = a .result .value} (omega (arith, a .ensures .inside, t .size)) in
+    let x = withNlsf (z .args .x) 0 (pos (a .result .value)) in
+    let e = residuals-picked (z .args .khz) (s .result) _ (bookOf (z .args .khz) .order) 0 x (λ j l. s .ensures j (omega arith)) in
+    ran-ask {n = 512} (t .is) (a .ensures) (rw (w, c .before .order-of .ensures, e) at (c .residual-indices .ensures))
 
 pub spectrum-run-spec : {M : Type 1} → statement M
 spectrum-run-spec =
@@ -130,11 +108,8 @@ spectrum-run-spec =
     ec-dec-icdf8-run-requires
     cast-out
     element-set-from-out
-    wide-selectors-run-requires
+    selectors-run-requires
     slice-aggregate-residual-indices
+    order-of-requires
     residual-indices-requires
-    returns
-    narrow-selectors-run-requires
-    slice-aggregate-residual-indices-2
-    residual-indices-requires-2
-    returns-2)
+    returns)

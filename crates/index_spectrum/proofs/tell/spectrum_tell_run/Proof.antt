@@ -9,8 +9,9 @@ use mir.Syntax.{w8}
 use mir.Val.{toZ, ofZ}
 use Rattle.silk.specs.IndexRows.{rate-most, first-index-row}
 use Rattle.silk.specs.IndexSyntax.{bookOf}
+use Rattle.silk.specs.IndexSteps.{residuals-picked}
 use Rattle.silk.specs.IndexParts.{upto-fits, abs-kept, order-most}
-use Rattle.silk.specs.IndexTold.{residuals-picked, spectrum-told}
+use Rattle.silk.specs.IndexTold.{spectrum-told}
 use Rattle.index_spectrum.proofs.tell.spectrum_tell_run.Statement.{statement}
 use Rattle.index_spectrum.proofs.tell.spectrum_tell_run.Tie as tie
 
@@ -73,8 +74,8 @@ ec-enc-icdf8-run-requires c κs =
     let t = first-index-row (z .pre .0 .rows) _ (below-four z) in
     rw (index-is z) (z .pre .0 .core, (omega (arith, z .pre .0 .few), (t .good, t .writable _ (omega (arith, z .pre .1 .2 .index .most)))))
 
-selectors-of-requires : tie.Need-selectors-of-requires
-selectors-of-requires c κs = index-below (c .before .before .before .before .before .before .before .before)
+selectors-run-requires : tie.Need-selectors-run-requires
+selectors-run-requires c κs = index-below (c .before .before .before .before .before .before .before .before)
 
 slice-aggregate-residuals-tell : tie.Need-slice-aggregate-residuals-tell
 slice-aggregate-residuals-tell c = search needs
@@ -86,7 +87,7 @@ residuals-tell-requires : tie.Need-residuals-tell-requires
 residuals-tell-requires c κs =
     let z = c .before .before .before .before .before .before .before .before .before .before .before .before in
     let a = c .before .before .before .before .before .before .ec-enc-icdf8-run in
-    let s : length (c .before .before .before .selectors-of .result) ≡ 8 = search needs in
+    let s : length (c .before .before .before .selectors-run .result) ≡ 8 = search needs in
     let o = c .order-of .ensures in (
       record { core = a .ensures .core; few = omega (arith, a .ensures .most, z .pre .0 .few); rows = z .pre .0 .rows },
       (
@@ -102,7 +103,7 @@ returns : tie.Need-returns
 returns c =
     let z = c .before .before .before .before .before .before .before .before .before .before .before .before .before .before .before in
     let a = c .before .before .before .before .before .before .before .before .before .ec-enc-icdf8-run in
-    let s = c .before .before .before .before .before .before .selectors-of in
+    let s = c .before .before .before .before .before .before .selectors-run in
     let f = c .before .before .residuals-tell in
     let e = residuals-picked (z .args .khz) (s .result) _ (bookOf (z .args .khz) .order) 0 (z .args .t4) (λ j l. s .ensures j (omega arith)) in
     spectrum-told {n = 512} (z .args .khz) (z .args .signal) (z .args .t4) (nlsf-size z) (z .pre .1 .2 .index)
@@ -125,7 +126,7 @@ spectrum-tell-run-spec =
     part-ec-enc-icdf8-run-start
     part-ec-enc-icdf8-run-end
     ec-enc-icdf8-run-requires
-    selectors-of-requires
+    selectors-run-requires
     slice-aggregate-residuals-tell
     order-of-requires
     residuals-tell-requires

@@ -1,9 +1,9 @@
--- `index_spectrum::tell::order_of` meets its contract. Assumes nothing.
+-- `index_spectrum::order_of` meets its contract. Assumes nothing.
 use mathlib.Core.Path.{sym}
 use borrow.Author.Tests.{eq-eqb, ne-eqb}
 use Rattle.sheet.specs.Books.{narrow-shaped, wide-shaped}
-use Rattle.index_spectrum.proofs.tell.order_of.Statement.{statement}
-use Rattle.index_spectrum.proofs.tell.order_of.Tie as tie
+use Rattle.index_spectrum.proofs.order_of.Statement.{statement}
+use Rattle.index_spectrum.proofs.order_of.Tie as tie
 
 returns : tie.Need-returns
 returns c = rw (eq-eqb _ _ (c .if1 .taken)) (sym (wide-shaped .order))

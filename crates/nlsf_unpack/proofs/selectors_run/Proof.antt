@@ -1,4 +1,4 @@
--- `index_spectrum::tell::selectors_of` meets its contract: the bytes behind a narrow row serve places past its order. Assumes nothing.
+-- `nlsf_unpack::selectors_run` meets its contract: the bytes behind a narrow row serve places past its order. Assumes nothing.
 use borrow.Author.Needs.{needs}
 use Prim.Native.Nat.{ℕ, zero, suc, _/_, _%_, _<_}
 use mathlib.Core.Path.{_≡_, refl, ap}
@@ -9,8 +9,8 @@ use borrow.Author.Tests.{eq-eqb, ne-eqb}
 use lib.Dec.{eqb}
 use lib.ListN.{getD}
 use Rattle.sheet.specs.Books.{narrowBook, narrow-shaped}
-use Rattle.index_spectrum.proofs.tell.selectors_of.Statement.{statement}
-use Rattle.index_spectrum.proofs.tell.selectors_of.Tie as tie
+use Rattle.nlsf_unpack.proofs.selectors_run.Statement.{statement}
+use Rattle.nlsf_unpack.proofs.selectors_run.Tie as tie
 
 -- a row's first five bytes, with others behind them
 first-five : (l m : List ℕ) (j : ℕ) → j < 5
@@ -31,20 +31,20 @@ returns c = rw (eq-eqb _ _ (c .before .if1 .taken), c .wide-selectors-run .ensur
 narrow-selectors-run-requires : tie.Need-narrow-selectors-run-requires
 narrow-selectors-run-requires c κs = search needs
 
-array-read-t8 : tie.Need-array-read-t8
-array-read-t8 c = search needs
+array-read-t10 : tie.Need-array-read-t10
+array-read-t10 c = search needs
 
-array-read-t11 : tie.Need-array-read-t11
-array-read-t11 c = search needs
+array-read-t13 : tie.Need-array-read-t13
+array-read-t13 c = search needs
 
-array-read-t14 : tie.Need-array-read-t14
-array-read-t14 c = search needs
+array-read-t16 : tie.Need-array-read-t16
+array-read-t16 c = search needs
 
-array-read-t17 : tie.Need-array-read-t17
-array-read-t17 c = search needs
+array-read-t19 : tie.Need-array-read-t19
+array-read-t19 c = search needs
 
-array-read-t20 : tie.Need-array-read-t20
-array-read-t20 c = search needs
+array-read-t22 : tie.Need-array-read-t22
+array-read-t22 c = search needs
 
 returns-2 : tie.Need-returns-2
 returns-2 c =
@@ -52,16 +52,16 @@ returns-2 c =
     rw (ne-eqb _ _ (c .before .if1 .left), c .narrow-selectors-run .ensures)
     (λ i h. ap (λ (b : ℕ). b / cond (eqb (i % 2) 0) 2 32 % 8) (first-five l (0 ∷ 0 ∷ 0 ∷ []) (i / 2) (omega (arith, narrow-shaped .order))))
 
-pub selectors-of-spec : {M : Type 1} → statement M
-selectors-of-spec =
+pub selectors-run-spec : {M : Type 1} → statement M
+selectors-run-spec =
     tie.close
     (tie.spec
     wide-selectors-run-requires
     returns
     narrow-selectors-run-requires
-    array-read-t8
-    array-read-t11
-    array-read-t14
-    array-read-t17
-    array-read-t20
+    array-read-t10
+    array-read-t13
+    array-read-t16
+    array-read-t19
+    array-read-t22
     returns-2)
