@@ -1,17 +1,17 @@
 -- A vector that stays, place by place, and what the stabiliser makes of it. Assumes nothing.
 use Prim.Native.Nat.{ℕ, suc, _<_}
 use mathlib.Core.Path.{_≡_, refl, sym, ap, subst, subst⁻¹}
-use mathlib.Core.Bool.{Bool, true, false, _&&_, _||_}
+use mathlib.Core.Bool.{Bool, true, false, not, _&&_, _||_}
 use mathlib.Core.List.{List, [], _∷_}
 use native.Mathlib.Omega.{arith}
 use native.Mathlib.Nat.{suc-inj}
 use borrow.Author.Count.{below-more}
 use lib.Dec.{T}
-use lib.IntN.{ℤ, pos, _+ℤ_, _-ℤ_}
+use lib.IntN.{ℤ, pos, _+ℤ_}
 use lib.Signed.{ltZ, leZ}
 use lib.ListN.{length}
 use Rattle.ints.specs.Order.{leZ-true, ltZ-true, ltZ-false}
-use Rattle.ints.specs.Sums.{sum-parts, diff-parts}
+use Rattle.ints.specs.Sums.{sum-parts}
 use Rattle.lists.specs.Every.{every, every-at, at-every}
 use Rattle.tests.specs.Both.{and-both, both-and}
 use Rattle.tests.specs.Decides.{Decides, decides-alike}
@@ -28,6 +28,16 @@ use Rattle.spectrum.specs.Values.{at, top, _≼_, total}
 use Rattle.nlsf_stabilize.specs.Asked.{stays, MoveOk}
 use Rattle.nlsf_stabilize.proofs.MoveLaws.{last-gap, accepted}
 
+-- ---- what one test or another says
+
+neither : (a b : Bool) → a || b ≡ false → (a ≡ false) × (b ≡ false)
+neither true b e = (e, cc)
+neither false b e = (refl, e)
+
+either : {A : Type 0} (a b : Bool) → a || b ≡ true → (a ≡ true → A) → (b ≡ true → A) → A
+either true b e f h = f refl
+either false b e f h = h e
+
 -- ---- one place: the gap is not negative, and x keeps it from p
 
 pub record Place (p g x : ℤ) : Type 0 where
@@ -35,27 +45,34 @@ pub record Place (p g x : ℤ) : Type 0 where
   pub kept : (p +ℤ g) ≼ x
 
 module _ (p g x : ℤ) where
-  pub place-kept : ltZ g (pos 0) || ltZ (x -ℤ p) g ≡ false → Place p g x
-  place-kept = go (ltZ g (pos 0)) (ltZ (x -ℤ p) g) refl refl
-    where
-      go : (a b : Bool) → ltZ g (pos 0) ≡ a → ltZ (x -ℤ p) g ≡ b → a || b ≡ false → Place p g x
-      go true b q r e = absurd (subst T e tt)
-      go false true q r e = absurd (subst T e tt)
-      go false false q r e =
-          record { nat = ltZ-false g (pos 0) q; kept = omega (arith, ltZ-false (x -ℤ p) g r, diff-parts x p, sum-parts p g) }
+  place-kept : ltZ g (pos 0) || ltZ x (p +ℤ g) ≡ false → Place p g x
+  place-kept e =
+      let b = neither (ltZ g (pos 0)) (ltZ x (p +ℤ g)) e in
+      record { nat = ltZ-false g (pos 0) (b .0); kept = ltZ-false x (p +ℤ g) (b .1) }
 
-  pub place-lost : ltZ g (pos 0) || ltZ (x -ℤ p) g ≡ true → Place p g x → ⊥
-  place-lost = go (ltZ g (pos 0)) (ltZ (x -ℤ p) g) refl refl
-    where
-      go : (a b : Bool) → ltZ g (pos 0) ≡ a → ltZ (x -ℤ p) g ≡ b → a || b ≡ true → Place p g x → ⊥
-      go true b q r e k = omega (arith, ltZ-true g (pos 0) q, k .nat)
-      go false true q r e k = omega (arith, ltZ-true (x -ℤ p) g r, k .kept, diff-parts x p, sum-parts p g)
-      go false false q r e k = subst T (sym e) tt
+  place-lost : ltZ g (pos 0) || ltZ x (p +ℤ g) ≡ true → Place p g x → ⊥
+  place-lost e k =
+      either (ltZ g (pos 0)) (ltZ x (p +ℤ g)) e (λ h. omega (arith, ltZ-true g (pos 0) h, k .nat)) (λ h. omega (arith, ltZ-true x (p +ℤ g) h, k .kept))
 
 -- ---- all places: the first i, and the last, whose gap is 1 or more
 
 abbrev pub Passed : List ℤ → List ℤ → ℕ → Type 0
 Passed g v i = (k : ℕ) → k < i → Place (at (pos 0 ∷ v) k) (at g k) (at v k)
+
+-- the tests of a place and of the last gap
+abbrev pub lostAt : List ℤ → List ℤ → ℕ → Bool
+lostAt g v i = ltZ (at g i) (pos 0) || ltZ (at v i) (at (pos 0 ∷ v) i +ℤ at g i)
+
+abbrev pub endsAt : List ℤ → List ℤ → ℕ → Bool
+endsAt g v i = leZ (pos 1) (at g i) && leZ (at (pos 0 ∷ v) i +ℤ at g i) top
+
+passed-one : (g v : List ℤ) (i : ℕ) → Passed g v i → lostAt g v i ≡ false → Passed g v (suc i)
+passed-one g v i p e k h =
+    below-more (λ j. Place (at (pos 0 ∷ v) j) (at g j) (at v j)) i p (place-kept (at (pos 0 ∷ v) i) (at g i) (at v i) e) k (omega arith)
+
+pub passed-two : (g v : List ℤ) (i : ℕ) → Passed g v i → lostAt g v i || lostAt g v (suc i) ≡ false → Passed g v (suc (suc i))
+passed-two g v i p e =
+    let b = neither (lostAt g v i) (lostAt g v (suc i)) e in passed-one g v (suc i) (passed-one g v i p (b .0)) (b .1)
 
 abbrev Ended : List ℤ → List ℤ → ℕ → Type 0
 Ended g v i = (pos 1 ≼ at g i) × ((at (pos 0 ∷ v) i +ℤ at g i) ≼ top)
@@ -97,13 +114,16 @@ module _ (g v : List ℤ) (l : length g ≡ suc (length v)) where
             (kept-keeps v g k);
       }
 
-  -- a place that fails, and the last after all others passed
-  pub stays-not : (i : ℕ) → i < length v → ltZ (at g i) (pos 0) || ltZ (at v i -ℤ at (pos 0 ∷ v) i) (at g i) ≡ true → false ≡ stays g v
-  stays-not i h e =
+  -- a place that fails, one of two that fails, the last gap after all places passed, and the last place with the last gap
+  lost-not : (i : ℕ) → i < length v → lostAt g v i ≡ true → false ≡ stays g v
+  lost-not i h e =
       decides-alike (record { sure = λ f. absurd (subst T (sym f) tt); seen = λ q. absurd (place-lost (at (pos 0 ∷ v) i) (at g i) (at v i) e (q .0 i h)) })
       stays-decides
 
-  pub stays-last : (i : ℕ) → i ≡ length v → Passed g v i → leZ (pos 1) (at g i) && leZ (at (pos 0 ∷ v) i +ℤ at g i) top ≡ stays g v
+  pub stays-not : (i : ℕ) → suc i < length v → lostAt g v i || lostAt g v (suc i) ≡ true → false ≡ stays g v
+  stays-not i h e = either (lostAt g v i) (lostAt g v (suc i)) e (lost-not i (omega arith)) (lost-not (suc i) h)
+
+  pub stays-last : (i : ℕ) → i ≡ length v → Passed g v i → endsAt g v i ≡ stays g v
   stays-last i e p =
       let some = leZ (pos 1) (at g i) in
       let most = leZ (at (pos 0 ∷ v) i +ℤ at g i) top in
@@ -114,6 +134,13 @@ module _ (g v : List ℤ) (l : length g ≡ suc (length v)) where
         seen = λ q. both-and some most (le-leZ (pos 1) (at g i) (q .1 .0)) (le-leZ (at (pos 0 ∷ v) i +ℤ at g i) top (q .1 .1));
       })
       (subst⁻¹ (λ (n : ℕ). Decides (stays g v) (Passed g v n × Ended g v n)) e stays-decides)
+
+  pub stays-odd : (i : ℕ) → suc i ≡ length v → Passed g v i → not (lostAt g v i) && endsAt g v (suc i) ≡ stays g v
+  stays-odd i n p = go (lostAt g v i) refl
+    where
+      go : (t : Bool) → lostAt g v i ≡ t → not t && endsAt g v (suc i) ≡ stays g v
+      go true e = lost-not i (omega arith) e
+      go false e = stays-last (suc i) n (passed-one g v i p e)
 
 -- ---- what staying says of the stabiliser
 
