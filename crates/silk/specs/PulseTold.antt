@@ -2,16 +2,13 @@
 -- Assumes nothing.
 use Prim.Native.Nat.{ℕ, zero, suc, _+_, _-_, _*_, _/_, _%_, _^_, _<_, _≤_}
 use mathlib.Core.Path.{_≡_, refl, sym, subst, _∙_}
-use mathlib.Core.Bool.{cond}
 use mathlib.Core.List.{List, [], _∷_, _++_, map}
 use native.Mathlib.Numerals.{add-one}
 use native.Mathlib.Omega.{arith}
 use borrow.Author.Tests.{lt-ltb, le-ltb, ne-eqb}
 use lib.Dec.{ltb}
-use lib.IntN.{ℤ, pos, negsuc, natAbs}
 use lib.ListN.{length, getD, take, drop, drop-of-length-le}
 use lib.Seq.{drop-cons}
-use lib.Signed.{ltZ}
 use Rattle.tests.specs.Choice.{chosen}
 use Rattle.icdf.specs.Rule.{Writable}
 use Rattle.sheet.specs.Directory.{countRow, shellRow, lowBitRow}
@@ -21,14 +18,14 @@ use Rattle.entcode.specs.WriterFacts.{Core, Wrote}
 use Rattle.tree.specs.Asks.{Asks, ask, symbols}
 use Rattle.tree.specs.AsksLaws.{symbols-cons}
 use Rattle.tree.specs.Told.{Told, told-done, told-ask, told-within, Midway, midway-start, midway-next, midway-asked, midway-end}
-use Rattle.silk.specs.PulseSyntax.{row, Block, headOf, tailOf, each, laterRow, countSaid, lowCounts, count, counts, total, split, lowBits, sign}
+use Rattle.silk.specs.PulseSyntax.{row, Block, headOf, tailOf, each, laterRow, countSaid, lowCounts, count, counts, total, split, lowBits}
 use Rattle.silk.specs.PulseSteps.{less-suc, blockAt, blocksFrom}
 use Rattle.silk.specs.PulseRowLaws.{count-writable, later-writable}
 use Rattle.silk.specs.PulseWritten.{next-bit}
 
 -- ---- lists of trees
 
-each-said : {P Q A : Type 0} (e : Q) (f : P → Asks Q A) (y : Q) (ys : List Q) (p : P) (ps : List P)
+pub each-said : {P Q A : Type 0} (e : Q) (f : P → Asks Q A) (y : Q) (ys : List Q) (p : P) (ps : List P)
     → symbols (y ∷ ys) (each e f (p ∷ ps)) ≡ symbols y (f p) ++ symbols ys (each e f ps)
 unfolding each
 each-said e f y ys p ps = symbols-cons (y ∷ ys) (headOf e) (f p) tailOf (each e f ps)
@@ -116,20 +113,3 @@ no-lows-said ys (v ∷ vs) = symbols-cons ys (headOf 0) (lowBits 0 v) tailOf (ea
 -- a block with no low bits says none
 pub no-lows-told : {o : Out} {m : ℕ} (n : ℕ) (ys vs : List ℕ) → n ≡ 0 → Core o → Told o ys (each 0 (lowBits n) vs) m o
 no-lows-told n ys vs e h = rw e (midway-end (midway-start h) (no-lows-said ys vs))
-
--- ---- signs
-
-pub sign-untold : {o : Out} (r : List ℕ) (z : ℤ) → z ≡ pos 0 → Core o → Told o z (sign r (natAbs z)) 16 o
-unfolding sign
-sign-untold r z e h = rw e (told-within (omega arith) (told-done h))
-
-pub sign-told : {o q : Out} {v : ℕ} (r : List ℕ) (z : ℤ) → (z ≡ pos 0 → ⊥) → v ≡ cond (ltZ z (pos 0)) 0 1
-    → Wrote o (record { model = tab 8 r; value = v }) q → Told o z (sign r (natAbs z)) 16 q
-unfolding sign
-sign-told r (pos zero) n e h = absurd (n refl)
-sign-told r (pos (suc m)) n e h = told-ask refl e h (told-done (h .core))
-sign-told r (negsuc m) n e h = told-ask refl e h (told-done (h .core))
-
--- a sign may be written where both may
-pub sign-writable : {r : List ℕ} {v : ℕ} (z : ℤ) → v ≡ cond (ltZ z (pos 0)) 0 1 → Writable 8 r 0 × Writable 8 r 1 → Writable 8 r v
-sign-writable {r = r} z e h = rw e (chosen (λ (v : ℕ). Writable 8 r v) (ltZ z (pos 0)) (λ t. h .0) (λ t. h .1))

@@ -1,62 +1,95 @@
--- `silk_encode_signs_run` meets its contract. The invariant: the signs of k places are told. Assumes nothing.
-use borrow.Author.Needs.{needs, sfits-of}
-use Prim.Native.Nat.{ℕ, _-_, _≤_}
+-- `silk_encode_signs_run` meets its contract. The invariant: the first k symbols are told. Assumes nothing.
+use borrow.Author.Needs.{needs}
+use Prim.Native.Nat.{ℕ, zero, suc, _-_, _<_, _≤_}
 use native.Mathlib.Omega.{arith}
-use mathlib.Core.Path.{_≡_, refl, _∙_}
+use mathlib.Core.Path.{_≡_, refl, sym, ap, _∙_}
 use mathlib.Core.List.{List}
-use lib.IntN.{ℤ, pos, natAbs}
+use lib.IntN.{ℤ}
 use lib.ListN.{length, getD}
-use mir.Facts.{toZ-ofZ}
-use mir.Syntax.{w16}
-use mir.Val.{SFits}
+use lib.Seq.{length-take-le, getD-take}
+use Rattle.icdf.specs.Rule.{Writable}
 use Rattle.entcode.specs.Flat.{Out, out}
-use Rattle.tree.specs.Told.{midway-start, told-within}
-use Rattle.silk.specs.PulseSyntax.{sign}
-use Rattle.silk.specs.PulseTold.{ToldTo, place-told, places-told}
+use Rattle.tree.specs.Told.{told-within}
+use Rattle.code_signs.specs.Said.{signsSaid}
+use Rattle.code_signs.specs.SaidLaws.{signs-bits, SignsTo, signs-start, sign-more, signs-end}
 use Rattle.code_signs.proofs.encode.silk_encode_signs_run.Statement.{statement}
 use Rattle.code_signs.proofs.encode.silk_encode_signs_run.Tie as tie
 
-record Telling (row : List ℕ) (s : List ℤ) (o p : Out) (k : ℕ) : Type 0 where
-  pub told : ToldTo (pos 0) (sign row) natAbs 16 o s p k
-  pub to : k ≤ 16
+record Telling (row : List ℕ) (s : List ℤ) (n : ℕ) (o p : Out) (k : ℕ) : Type 0 where
+  pub told : SignsTo row s o p k
+  pub to : k ≤ n
   pub kept : length (p .buf) ≡ length (o .buf)
 
 abbrev Inv-loop : tie.InvT-loop
-Inv-loop buf₀ row pulses w₀ k₀ buf w k = Telling row pulses (out buf₀ w₀) (out buf w) k
+Inv-loop buf₀ row pulses symbols count w₀ k₀ buf w k = Telling row pulses count (out buf₀ w₀) (out buf w) k
 
 abbrev μ-loop : tie.MeasureT-loop
-μ-loop buf₀ row pulses w₀ k₀ buf w k = 16 - k
+μ-loop buf₀ row pulses symbols count w₀ k₀ buf w k = count - k
+
+bit-writable : {r : List ℕ} (v : ℕ) → v ≤ 1 → Writable 8 r 0 × Writable 8 r 1 → Writable 8 r v
+bit-writable zero l h = h .0
+bit-writable (suc zero) l h = h .1
+bit-writable (suc (suc v)) l h = absurd (omega arith)
+
+-- what was gathered
+counted : (c : tie.After-signs-said Inv-loop μ-loop) → length (signsSaid (c .before .before .before .before .args .pulses .now)) ≡ c .signs-said .result
+counted c =
+    let s = c .signs-said in
+    ap length (sym (s .ensures .1)) ∙ length-take-le (s .result) (s .last .0) (omega (arith, s .ensures .0, s .kept .0))
+
+symbol : (c : tie.After-signs-said Inv-loop μ-loop) (k : ℕ) → k < c .signs-said .result
+    → getD (c .signs-said .last .0) k 0 ≡ getD (signsSaid (c .before .before .before .before .args .pulses .now)) k 0
+symbol c k h =
+    let s = c .signs-said in
+    sym (getD-take (s .result) (s .last .0) k 0 h) ∙ ap (λ (l : List ℕ). getD l k 0) (s .ensures .1)
+
+slice-aggregate-signs-said : tie.Need-slice-aggregate-signs-said Inv-loop μ-loop
+slice-aggregate-signs-said c = search needs
+
+signs-said-requires : tie.Need-signs-said-requires Inv-loop μ-loop
+signs-said-requires c κs = search needs
 
 loop-holds : tie.Need-loop-holds Inv-loop μ-loop
-loop-holds c = record { told = midway-start (c .before .before .pre .0); to = omega arith; kept = refl }
+loop-holds c =
+    let b = c .before .before .before .before .before in
+    record { told = signs-start _ _ _ (b .pre .0); to = omega arith; kept = refl }
 
-mul-pulse : tie.Need-mul-pulse Inv-loop μ-loop
-mul-pulse c = search needs
+array-read-ec-enc-icdf-run : tie.Need-array-read-ec-enc-icdf-run Inv-loop μ-loop
+array-read-ec-enc-icdf-run c = omega (arith, c .before .before .before .before .signs-said .ensures .0)
 
-shared-slice-copy-out-pulse : tie.Need-shared-slice-copy-out-pulse Inv-loop μ-loop
-shared-slice-copy-out-pulse c = search needs
+cast-ec-enc-icdf-run : tie.Need-cast-ec-enc-icdf-run Inv-loop μ-loop
+cast-ec-enc-icdf-run c =
+    let l = c .before .before .loop in
+    let s = c .before .before .before .before in
+    omega (arith, symbol s (l .k) (omega arith), signs-bits (s .before .before .before .before .args .pulses .now) (l .k))
 
-encode-sign-requires : tie.Need-encode-sign-requires Inv-loop μ-loop
-encode-sign-requires c κs =
-    let z = c .before .before .before .before .before .before in
-    let t = c .before .before .before .loop .inv .told in
-    (t .core, (omega (arith, t .most, z .pre .1 .0), (z .pre .1 .1 .0, z .pre .1 .1 .1 .0)))
+ec-enc-icdf-run-requires : tie.Need-ec-enc-icdf-run-requires Inv-loop μ-loop
+ec-enc-icdf-run-requires c κs =
+    let l = c .before .before .loop in
+    let s = c .before .before .before .before in
+    let b = s .before .before .before .before in
+    let t = l .inv .told in
+    let few = signs-bits (b .args .pulses .now) (l .k) in (
+      t .core,
+      (
+        omega (arith, t .most, b .pre .1 .0, s .signs-said .ensures .0),
+        (b .pre .1 .1 .0, bit-writable _ (omega (arith, symbol s (l .k) (omega arith), few)) (b .pre .1 .1 .1 .0)),
+      ),
+    )
 
 add-k : tie.Need-add-k Inv-loop μ-loop
-add-k c = search needs
+add-k c = omega (arith, c .before .before .before .before .before .before .before .signs-said .ensures .0)
 
 loop-less : tie.Need-loop-less Inv-loop μ-loop
 loop-less c = search needs
 
 loop-again : tie.Need-loop-again Inv-loop μ-loop
 loop-again c =
-    let z = c .before .before .before .before .before .before .before .before .before in
-    let s = z .args .pulses .now in
-    let l = c .before .before .before .before .before .before .loop in
-    let f : SFits w16 (getD s (l .k) (pos 0)) = sfits-of (c .before .before .before .before .pulse .given) in
-    let a = c .before .before .encode-sign in
+    let l = c .before .before .before .before .before .loop in
+    let s = c .before .before .before .before .before .before .before in
+    let a = c .before .before .ec-enc-icdf-run in
     record {
-      told = place-told _ _ _ _ _ s (l .k) (l .inv .told) (omega (arith, z .pre .1 .1 .1 .1)) refl (rw (toZ-ofZ f) at (a .ensures));
+      told = sign-more _ _ _ (l .k) (l .inv .told) (omega (arith, counted s)) (symbol s (l .k) (omega arith)) (a .ensures);
       to = omega arith;
       kept = a .kept .0 ∙ l .inv .kept;
     }
@@ -66,9 +99,9 @@ same-length c = c .before .loop .inv .kept
 
 returns : tie.Need-returns Inv-loop μ-loop
 returns c =
-    let z = c .before .before .before .before in
     let l = c .before .loop in
-    told-within (omega (arith, l .inv .to)) (places-told _ _ _ _ _ (z .args .pulses .now) (l .k) (l .inv .told) (omega (arith, z .pre .1 .1 .1 .1)))
+    let s = c .before .before .before in
+    told-within (omega (arith, l .inv .to, s .signs-said .ensures .0)) (signs-end _ _ _ (l .k) (l .inv .told) (omega (arith, counted s)))
 
 pub silk-encode-signs-run-spec : {M : Type 1} → statement M
 silk-encode-signs-run-spec =
@@ -76,10 +109,12 @@ silk-encode-signs-run-spec =
     (tie.spec
     Inv-loop
     μ-loop
+    slice-aggregate-signs-said
+    signs-said-requires
     loop-holds
-    mul-pulse
-    shared-slice-copy-out-pulse
-    encode-sign-requires
+    array-read-ec-enc-icdf-run
+    cast-ec-enc-icdf-run
+    ec-enc-icdf-run-requires
     add-k
     loop-less
     loop-again
