@@ -1,2 +1,3 @@
+pub mod Gathered
 pub mod Said
 pub mod SaidLaws

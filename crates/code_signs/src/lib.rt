@@ -10,6 +10,7 @@ ghost use Rattle.entcode.specs.ReaderLaws.{Core};
 ghost use Rattle.tree.specs.Ran.{Ran};
 ghost use Rattle.silk.specs.PulseSyntax.{each, sign};
 ghost use Rattle.silk.specs.PulsePlaces.{mags, Natural};
+ghost use Rattle.code_signs.specs.Gathered.{Gathered};
 use entcode::Dec;
 
 pub mod encode; // encode.rt: the writer
@@ -20,17 +21,14 @@ pub struct SignRead {
     pub state: Dec,
 }
 
-// The pulse of magnitude m.
+// The pulse of magnitude m, which is not 0.
 fn decode_sign(packet: &[u8], d: Dec, row: &[u8], m: i16) -> SignRead
     requires { ⌜ Core (now packet) d ⌝ }
     requires { ⌜ d .total ≤ 2 ^ 30 ⌝ }
     requires { ⌜ Icdf 8 (now row) ⌝ }
-    requires { ⌜ m ≡ pos (natAbs m) ⌝ }
+    requires { ⌜ (m ≡ pos (natAbs m)) × (1 ≤ natAbs m) ⌝ }
     ensures { λ a. ⌜ Ran (now (packet .entry)) d (sign (now (row .entry)) (natAbs m)) 16 (a .pulse) (a .state) ⌝ }
 {
-    if m == 0 {
-        return SignRead { pulse: 0, state: d };
-    }
     let a = entdec_run::ec_dec_icdf8_run(packet, d, row);
     let state = a.state;
     if a.value == 0 {
@@ -38,6 +36,23 @@ fn decode_sign(packet: &[u8], d: Dec, row: &[u8], m: i16) -> SignRead
         return SignRead { pulse, state };
     }
     SignRead { pulse: m, state }
+}
+
+// The places that have a pulse, in their order, and how many. Each place is stored, and the next one takes its place where it has none: no jump
+// depends on them.
+fn pulse_places(places: &[i16], at: &mut [u8; 16]) -> usize
+    requires { ⌜ (length (now places) ≡ 16) × (length (now at) ≡ 16) ⌝ }
+    ensures { λ n. ⌜ Gathered (now (places .entry)) (now (at .exit)) n 16 ⌝ }
+{
+    let mut n: usize = 0;
+    let mut k: usize = 0;
+    while k < 16 {
+        at[n] = k as u8;
+        let m = places[k];
+        n += (m != 0) as usize;
+        k += 1;
+    }
+    n
 }
 
 // The pulses of a block, from their magnitudes.
@@ -48,15 +63,18 @@ fn all_signs(packet: &[u8], from: Dec, row: &[u8], places: &mut [i16]) -> Dec
     requires { ⌜ Natural (now places) × (length (now places) ≡ 16) ⌝ }
     ensures { λ z. ⌜ Ran (now (packet .entry)) from (each (pos 0) (sign (now (row .entry))) (mags (now (places .entry)))) 256 (now (places .exit)) z ⌝ }
 {
+    let mut at = [0u8; 16];
+    let n = pulse_places(places, &mut at);
     let mut d = from;
-    let mut k: usize = 0;
-    while k < 16 {
+    let mut t: usize = 0;
+    while t < n {
+        let k = at[t] as usize;
         let m = places[k];
         let a = decode_sign(packet, d, row, m);
         let pulse = a.pulse;
         places[k] = pulse;
         d = a.state;
-        k += 1;
+        t += 1;
     }
     d
 }
