@@ -7,10 +7,8 @@ use lib.ListN.{length, getD, take, drop, length-drop, List·getD-map}
 use lib.Seq.{drop-cons}
 use Rattle.lists.specs.All.{All, all-append}
 use Rattle.entcode.specs.Models.{Sym}
-use Rattle.entcode.specs.Flat.{Out}
 use Rattle.tree.specs.Asks.{Asks, symbols, done, then, of}
 use Rattle.tree.specs.AsksLaws.{symbols-then, symbols-of, symbols-cons}
-use Rattle.tree.specs.Told.{Told}
 use Rattle.silk.specs.PulseSyntax.{each, headOf, tailOf, total, split, shell}
 use Rattle.silk.specs.PulseWritten.{split-meant, total-parts}
 use Rattle.shell_coder.specs.Splits.{Part, partsOf, allOf, leftOf, splitOf, noPart}
@@ -24,7 +22,7 @@ itself q = q
 abbrev pub said : List Part → List Sym
 said qs = symbols qs (each noPart splitOf (map itself qs))
 
-said-cons : (q : Part) (qs : List Part) → said (q ∷ qs) ≡ symbols (q .places) (split (q .table) (allOf q)) ++ said qs
+pub said-cons : (q : Part) (qs : List Part) → said (q ∷ qs) ≡ symbols (q .places) (split (q .table) (allOf q)) ++ said qs
 unfolding each
 said-cons q qs =
     symbols-cons (q ∷ qs) (headOf noPart) (splitOf q) tailOf (each noPart splitOf (map itself qs))
@@ -62,11 +60,6 @@ shell-said (suc k) c y e =
     ∙ ap (λ (r : List Sym). here ++ r) (both ∙ sym (said-append left right))
     ∙ ap (λ (d : ℕ). symbols y (split k d) ++ said (left ++ right)) (sym e)
     ∙ sym (said-cons (record { table = k; places = y }) (left ++ right))
-
--- what was said of the parts was said of the shell
-pub shell-told : {o q : Out} {m : ℕ} (n c : ℕ) (y : List ℕ) → total y ≡ c
-    → Told o (partsOf n y) (each noPart splitOf (map itself (partsOf n y))) m q → Told o y (shell n c) m q
-shell-told n c y e t = record { is = rw (shell-said n c y e) (t .is); core = t .core; least = t .least; most = t .most }
 
 -- ---- entries
 

@@ -18,12 +18,12 @@ use entcode::Decoded;
 
 pub mod encode; // encode.rt: the writer
 
-// Where the row of n pulses starts: one of table 0 splits 2 places, of table 3 splits 16.
+// Where the row of n pulses starts: one of table 0 splits 2 places, of table 3 splits 16. No pulses have no row.
 pub(crate) fn split_start(table: usize, n: usize) -> usize
-    requires { ⌜ (table < 4) × (1 ≤ n) × (n ≤ 16) ⌝ }
-    ensures { λ i. ⌜ Stands (58 + table * 16 + n) (flatten pulseRows) i (n + 1) ⌝ }
+    requires { ⌜ (table < 4) × (n ≤ 16) ⌝ }
+    ensures { λ i. ⌜ (1 ≤ n → Stands (58 + table * 16 + n) (flatten pulseRows) i (n + 1)) ⌝ }
 {
-    215 + table * 152 + (n * (n + 1) / 2 - 1)
+    214 + table * 152 + n * (n + 1) / 2
 }
 
 // How many of p pulses lie in the left half.

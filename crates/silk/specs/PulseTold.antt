@@ -80,10 +80,6 @@ counts-silent c l level n i h = let e : n - i ≡ 0 = omega arith in rw e
 
 -- ---- splits
 
-pub split-untold : {o : Out} {y : List ℕ} (k c : ℕ) → c ≡ 0 → Core o → Told o y (split k c) 16 o
-unfolding split
-split-untold k c e h = rw e (told-within (omega arith) (told-done h))
-
 pub split-told : {o q : Out} {y r : List ℕ} {v : ℕ} (k c : ℕ) → 1 ≤ c → r ≡ shellRow k c → v ≡ total (take (2 ^ k) y)
     → Wrote o (record { model = tab 8 r; value = v }) q → Told o y (split k c) 16 q
 unfolding split

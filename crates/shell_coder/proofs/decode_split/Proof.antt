@@ -13,7 +13,7 @@ use Rattle.shell_coder.proofs.decode_split.Tie as tie
 -- where the row of p pulses stands in what is lent
 place : (c : tie.After-split-start)
     → let b = c .before .before .before .before in Stands (58 + b .args .table * 16 + b .args .p) (b .args .rows .now) (c .split-start .result) (b .args .p + 1)
-place c = stands-in (c .before .before .before .before .pre .1 .1 .0 .is) (c .split-start .ensures)
+place c = stands-in (c .before .before .before .before .pre .1 .1 .0 .is) (c .split-start .ensures (omega arith))
 
 returns : tie.Need-returns
 returns c = let b = c .before .before .before in (split-none (b .args .table) (b .args .p) (c .if1 .taken) (b .pre .0), omega arith)

@@ -1,6 +1,7 @@
 -- `split_start` meets its contract. Assumes nothing.
 use borrow.Author.Needs.{needs}
-use Prim.Native.Nat.{ℕ, _+_, _*_, _≤_}
+use Prim.Native.Nat.{_+_, _-_, _*_, _/_, _≤_}
+use mathlib.Core.Path.{_≡_}
 use native.Mathlib.Nat.{mul-le-mul}
 use native.Mathlib.Omega.{arith}
 use Rattle.sheet.specs.Families.{shell-stands}
@@ -8,19 +9,8 @@ use Rattle.shell_coder.proofs.split_start.Statement.{statement}
 use Rattle.shell_coder.proofs.split_start.Tie as tie
 
 -- the product that counts the entries before a row
-record Near (n : ℕ) : Type 0 where
-  pub least : 2 ≤ n * (n + 1)
-  pub most : n * (n + 1) ≤ 272
-
-near : (n : ℕ) → 1 ≤ n → n ≤ 16 → Near n
-near n l m =
-    record {
-      least = mul-le-mul {n₁ = 1} {m₁ = 2} {n₂ = n} {m₂ = n + 1} l (omega arith);
-      most = mul-le-mul {n₁ = n} {m₁ = n + 1} {n₂ = 16} {m₂ = 17} m (omega arith);
-    }
-
-close : (c : tie.Start) → Near (c .args .n)
-close c = near (c .args .n) (c .pre .1) (c .pre .2)
+most : (c : tie.Start) → c .args .n * (c .args .n + 1) ≤ 272
+most c = mul-le-mul {n₁ = c .args .n} {m₁ = c .args .n + 1} {n₂ = 16} {m₂ = 17} (c .pre .1) (omega (arith, c .pre .1))
 
 mul-result : tie.Need-mul-result
 mul-result c = search needs
@@ -32,18 +22,20 @@ add-result-2 : tie.Need-add-result-2
 add-result-2 c = search needs
 
 mul-result-2 : tie.Need-mul-result-2
-mul-result-2 c = omega (arith, close c .most)
-
-sub-result : tie.Need-sub-result
-sub-result c = omega (arith, close c .least)
+mul-result-2 c = omega (arith, most c)
 
 add-result-3 : tie.Need-add-result-3
-add-result-3 c = omega (arith, close c .most)
+add-result-3 c = omega (arith, most c)
 
 returns : tie.Need-returns
-returns c = shell-stands (c .args .table) (c .args .n) (c .pre .0) (c .pre .1) (c .pre .2)
+returns c l =
+    let t = c .args .table in
+    let n = c .args .n in
+    let h : 2 ≤ n * (n + 1) = mul-le-mul {n₁ = 1} {m₁ = 2} {n₂ = n} {m₂ = n + 1} l (omega arith) in
+    let e : 214 + t * 152 + n * (n + 1) / 2 ≡ 215 + t * 152 + (n * (n + 1) / 2 - 1) = omega arith in
+    rw e (shell-stands t n (c .pre .0) l (c .pre .1))
 
 pub split-start-spec : {M : Type 1} → statement M
 split-start-spec =
     tie.close
-    (tie.spec mul-result add-result add-result-2 mul-result-2 sub-result add-result-3 returns)
+    (tie.spec mul-result add-result add-result-2 mul-result-2 add-result-3 returns)
