@@ -7,8 +7,9 @@
  * What every call gives: `refusal` is 0, or the number of document 01's table that refuses the
  * call: 1 more than 1,275 bytes, 2 an unsound state, 3 a total above 1,000,000, 4 a number out of
  * its range, 5 a table that breaks its rule, 6 a length, 7 a gap set that breaks its rule, 8 a value
- * that cannot be written. The checks run in that order and the first decides. A refused call answers
- * value 0 and the state it was given, and writes nothing.
+ * that cannot be written; of the calls on whole packets 1 more than 16,384 bytes, 10 a packet that
+ * breaks a rule of RFC 6716 section 3, 11 one that is not SILK in mono. The checks run in that order
+ * and the first decides. A refused call answers value 0 and the state it was given, and writes nothing.
  */
 #ifndef TIGNAROPS_H
 #define TIGNAROPS_H
@@ -169,6 +170,32 @@ tg_moves tg_nlsf_decode(int16_t *vector, size_t n, tg_spectrum indices, uint32_t
  * moves, then the fallback of RFC 6716, section 4.2.7.5.4. Refusals 6 (lengths) and 7 (a gap below 0,
  * a last gap of 0, more than 32,768 together); a refusal leaves the vector as it is. */
 tg_moves tg_nlsf_stabilise(int16_t *vector, size_t n, const int16_t *gaps, size_t m);
+
+/* A whole Opus packet: its configuration 0 to 11, the arrangement of its frames (RFC 6716, section 3.2:
+ * code 0 to 3), how many there are, 1 to 12, the bytes that padding takes, its length bytes included,
+ * and where each frame starts and how many bytes it has, 0 to 1,275; places past count are 0. */
+typedef struct {
+    uint32_t refusal, config, arrangement, count, padding;
+    uint16_t start[12], size[12];
+} tg_packet;
+
+/* What a packet holds: frame k is the size[k] bytes from packet + start[k] on, and every call above
+ * takes it. A frame of no bytes was not sent. Refusals 1 (more than 16,384 bytes), 10 (a rule of
+ * section 3 broken, whatever the configuration and channels), 11 (a configuration above 11, or two
+ * channels); a refusal answers all other fields as 0. */
+tg_packet tg_packet_read(const uint8_t *packet, size_t len);
+
+typedef struct {
+    uint32_t refusal, length;
+} tg_packet_written;
+
+/* A packet of count frames, whose n bytes stand one behind the other: length 0 asks for the shortest
+ * packet of them, another for exactly so many bytes, filled with padding. The answer is the packet's
+ * length; bytes behind it stay as they were. Refusals 1 (a buffer of more than 16,384 bytes), 6 (n is
+ * not the sum of the sizes), 8 (no room, or a length below the shortest), 10 (no frame, one of more than
+ * 1,275 bytes, more than 120 ms), 11 (a configuration above 11); a refusal leaves the buffer as it is. */
+tg_packet_written tg_packet_write(uint8_t *buf, size_t len, uint32_t config, const uint8_t *frames, size_t n,
+                                  const uint16_t *sizes, size_t count, uint32_t length);
 
 #ifdef __cplusplus
 }

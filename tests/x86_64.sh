@@ -1,10 +1,11 @@
 # shellcheck shell=bash
 # To be sourced. Our static libraries are x86-64 code, so what links them is built for x86-64: on another
 # processor by Debian's cross compiler and by a Rust that has that target's library, and run under qemu.
-# Sets CC and run, the word before a program; cargo reads the exported variables.
+# Sets CC and run, the word before a program; cargo and pkg-config read the exported variables.
 CC=cc run=''
 if [ "$(uname -m)" != x86_64 ]; then
     CC=x86_64-linux-gnu-gcc run=qemu-x86_64
+    export PKG_CONFIG_LIBDIR=/usr/lib/x86_64-linux-gnu/pkgconfig
     export CARGO_BUILD_TARGET=x86_64-unknown-linux-gnu
     export CARGO_TARGET_X86_64_UNKNOWN_LINUX_GNU_LINKER=$CC
     export CARGO_TARGET_X86_64_UNKNOWN_LINUX_GNU_RUNNER=$run

@@ -3,12 +3,13 @@
 use crate::hold::Outcome;
 use crate::report;
 
-/// Document 01's numbers, and 0 for an accepted call.
-pub const REFUSALS: usize = 10;
+/// The numbers that refuse a call, up to 11, and 0 for an accepted one.
+pub const REFUSALS: usize = 12;
 
 /// With whom a call is compared.
 pub const CRATE: &str = "crate";
 pub const LIBOPUS: &str = "libopus";
+pub const REWRITE: &str = "rewrite";
 
 /// How the cases of one call came out.
 #[derive(Clone, Default)]

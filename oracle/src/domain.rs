@@ -144,7 +144,7 @@ fn or(refusal: u32, next: impl FnOnce() -> u32) -> u32 {
 }
 
 /// "The checks run in number order and the first decides."
-fn first(checks: &[(u32, bool)]) -> u32 {
+pub fn first(checks: &[(u32, bool)]) -> u32 {
     checks
         .iter()
         .find(|(_, refused)| *refused)

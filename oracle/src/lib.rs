@@ -10,12 +10,15 @@ pub mod coder;
 pub mod compare;
 pub mod counters;
 pub mod domain;
+#[cfg(libopus)]
+pub mod encoder;
 pub mod frames;
 pub mod hold;
 #[cfg(libopus)]
 pub mod libopus;
 pub mod models;
 pub mod ours;
+pub mod packets;
 pub mod programs;
 pub mod reader;
 pub mod record;
@@ -30,5 +33,7 @@ mod states;
 pub mod tables;
 pub mod types;
 pub mod unopus;
+#[cfg(libopus)]
+mod voice;
 mod ways;
 pub mod writer;

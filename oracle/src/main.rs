@@ -1,11 +1,12 @@
-//! Holds our calls and tables to the crate's and to libopus's, and what our writer writes to reading
-//! back: what the cases were, then a table with a row for each exported call and for the crate and
-//! libopus, below it the first difference of each row, then the recorded answers. A difference is
-//! counted and stops nothing; status 1 where there is one, or where a way was never compared.
+//! Holds our calls and tables to the crate's and to libopus's, those on whole packets to a plain rewrite
+//! and to libopus's, and what our writer writes to reading back: what the cases were, then a table with a
+//! row for each exported call and for the crate, the rewrite and libopus, below it the first difference
+//! of each row, then the recorded answers. A difference is counted and stops nothing; status 1 where
+//! there is one, or where a way was never compared.
 //!
-//! CASES is how many cases at random each exported call has with the crate; with libopus it has as many
-//! less those that document 01 refuses. Cases at limits, along packets of every length and on broken
-//! states come besides, whatever it is.
+//! CASES is how many cases at random each exported call has with the crate or the rewrite, ten times as
+//! many where a whole packet is read; with libopus it has as many less those that document 01 refuses.
+//! Cases at limits, along packets of every length and on broken states come besides, whatever it is.
 //! SEED picks the cases. ORACLE_CASES and ORACLE_SEED stand in for them. `record` writes the recorded
 //! answers anew; `overflow`, built for debugging, holds that no accepted call overflows in the crate.
 
@@ -15,7 +16,7 @@ use oracle::reader::Reading;
 use oracle::record::{self, Files};
 use oracle::spectra::Spectra;
 use oracle::writer::Writing;
-use oracle::{frames, hold, programs, roundtrip, tables, types};
+use oracle::{frames, hold, packets, programs, roundtrip, tables, types};
 use std::path::{Path, PathBuf};
 use std::process::ExitCode;
 use std::{env, fs};
@@ -63,6 +64,7 @@ fn compare(cases: Option<&str>, seed: Option<&str>) -> Result<(), String> {
     types::hold(&extent, &mut board);
     frames::hold(&extent, &mut board);
     roundtrip::hold(&extent, &mut board);
+    packets::hold(&extent, &mut board);
     board.every_exported();
     board.show();
     let outcomes = [read_records(), board.verdict().map(|_| ())];

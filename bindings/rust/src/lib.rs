@@ -25,21 +25,23 @@
 //! # Ok::<(), Refusal>(())
 //! ```
 
+mod packet;
 mod raw;
 mod reader;
 mod spectrum;
 mod writer;
 
+pub use packet::{packet_read, packet_write, Packet};
 pub use reader::Reader;
 pub use spectrum::{nlsf_decode, nlsf_stabilise};
 pub use writer::Writer;
 
 use std::fmt;
 
-/// Why a call was refused: document 01's table, in its order.
+/// Why a call was refused: document 01's table, in its order. The programs alone refuse with 9.
 #[derive(Clone, Copy, Debug, PartialEq, Eq)]
 pub enum Refusal {
-    /// 1: more than 1,275 bytes.
+    /// 1: more than 1,275 bytes; of a call on whole packets, more than 16,384.
     TooLong = 1,
     /// 2: a state that no call can have handed back for these bytes.
     Unsound,
@@ -55,12 +57,16 @@ pub enum Refusal {
     Gaps,
     /// 8: a value that cannot be written.
     Value,
+    /// 10: a packet that breaks a rule of RFC 6716, section 3.
+    Framing = 10,
+    /// 11: a packet that is not SILK in mono.
+    NotSpeech,
 }
 
 impl fmt::Display for Refusal {
     fn fmt(&self, f: &mut fmt::Formatter) -> fmt::Result {
         let words = match self {
-            Refusal::TooLong => "more than 1,275 bytes",
+            Refusal::TooLong => "more than 1,275 bytes, or 16,384 of a whole packet",
             Refusal::Unsound => "an unsound state",
             Refusal::Total => "a total above 1,000,000 bits",
             Refusal::Number => "a number out of its range",
@@ -68,6 +74,8 @@ impl fmt::Display for Refusal {
             Refusal::Length => "a slice of another length",
             Refusal::Gaps => "a gap set that breaks its rule",
             Refusal::Value => "a value that cannot be written",
+            Refusal::Framing => "a packet that breaks a rule of RFC 6716, section 3",
+            Refusal::NotSpeech => "a packet that is not SILK in mono",
         };
         write!(f, "refused with {}: {words}", *self as u32)
     }
@@ -77,7 +85,7 @@ impl std::error::Error for Refusal {}
 
 /// The answer x of a call with this refusal number, 0 for none.
 fn answer<T>(refusal: u32, x: T) -> Result<T, Refusal> {
-    const ALL: [Refusal; 8] = [
+    const ALL: [Refusal; 10] = [
         Refusal::TooLong,
         Refusal::Unsound,
         Refusal::Total,
@@ -86,11 +94,14 @@ fn answer<T>(refusal: u32, x: T) -> Result<T, Refusal> {
         Refusal::Length,
         Refusal::Gaps,
         Refusal::Value,
+        Refusal::Framing,
+        Refusal::NotSpeech,
     ];
-    match refusal {
-        0 => Ok(x),
-        n => Err(ALL[n as usize - 1]),
+    if refusal == 0 {
+        return Ok(x);
     }
+    let named = ALL.into_iter().find(|r| *r as u32 == refusal);
+    Err(named.expect("a refusal that the header names"))
 }
 
 /// A reader's state beside its packet.

@@ -44,6 +44,24 @@ pub struct Moves {
     pub moves: u32,
 }
 
+#[repr(C)]
+#[derive(Clone, Copy, Debug)]
+pub struct Packet {
+    pub refusal: u32,
+    pub config: u32,
+    pub arrangement: u32,
+    pub count: u32,
+    pub padding: u32,
+    pub start: [u16; 12],
+    pub size: [u16; 12],
+}
+
+#[repr(C)]
+pub struct PacketWritten {
+    pub refusal: u32,
+    pub length: u32,
+}
+
 #[rustfmt::skip]
 extern "C" {
     pub fn tg_dec_open(packet: *const u8, len: usize) -> Read;
@@ -65,4 +83,6 @@ extern "C" {
     pub fn tg_encode_pulses(buf: *mut u8, len: usize, w: WriterState, pulses: *const i16, n: usize, khz: u32, subframes: u32, signal_type: u32, offset_type: u32, rate_level: u32) -> Written;
     pub fn tg_nlsf_decode(vector: *mut i16, n: usize, indices: Spectrum, khz: u32) -> Moves;
     pub fn tg_nlsf_stabilise(vector: *mut i16, n: usize, gaps: *const i16, m: usize) -> Moves;
+    pub fn tg_packet_read(packet: *const u8, len: usize) -> Packet;
+    pub fn tg_packet_write(buf: *mut u8, len: usize, config: u32, frames: *const u8, n: usize, sizes: *const u16, count: usize, length: u32) -> PacketWritten;
 }

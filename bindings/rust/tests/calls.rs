@@ -1,7 +1,10 @@
-//! Each call through the bindings: document 01's cases, and a frame written and read back.
+//! Each call through the bindings: document 01's cases, and a frame and whole packets written and read
+//! back.
 
+use std::num::NonZeroU32;
 use tignarops::{
-    nlsf_decode, nlsf_stabilise, Before, Excitation, Indices, Reader, Refusal, Setting, Writer,
+    nlsf_decode, nlsf_stabilise, packet_read, packet_write, Before, Excitation, Indices, Reader,
+    Refusal, Setting, Writer,
 };
 
 const SETTING: Setting = Setting {
@@ -126,4 +129,61 @@ fn line_spectra() {
         vector,
         [250, 253, 259, 262, 1782, 5219, 9016, 12968, 18081, 24034]
     );
+}
+
+/// Length, arrangement and padding of a packet of 6 bytes in frames of these sizes, written and read
+/// back.
+fn packet_back(sizes: &[u16], asked: u32) -> (usize, u32, u32) {
+    let frames = [1, 2, 3, 4, 5, 6];
+    let mut buf = [7; 400];
+    let length = packet_write(&mut buf, 9, &frames, sizes, NonZeroU32::new(asked)).unwrap();
+    let (packet, behind) = buf.split_at(length);
+    assert!(behind.iter().all(|b| *b == 7));
+    let packet = packet_read(packet).unwrap();
+    assert_eq!(packet.config(), 9);
+    assert!(packet
+        .frames()
+        .map(<[u8]>::len)
+        .eq(sizes.iter().map(|n| usize::from(*n))));
+    assert_eq!(packet.frames().collect::<Vec<_>>().concat(), frames);
+    (length, packet.arrangement(), packet.padding())
+}
+
+#[test]
+fn packets_read_back() {
+    assert_eq!(packet_back(&[6], 0), (7, 0, 0));
+    assert_eq!(packet_back(&[3, 3], 0), (7, 1, 0));
+    assert_eq!(packet_back(&[0, 6], 0), (8, 2, 0));
+    assert_eq!(packet_back(&[2, 2, 2], 0), (8, 3, 0));
+    assert_eq!(packet_back(&[1, 2, 3], 0), (10, 3, 0));
+    assert_eq!(packet_back(&[6], 7), (7, 0, 0));
+    assert_eq!(packet_back(&[6], 8), (8, 3, 0));
+    assert_eq!(packet_back(&[6], 9), (9, 3, 1));
+    assert_eq!(packet_back(&[1, 2, 3], 300), (300, 3, 290));
+}
+
+#[test]
+fn refused_packets() {
+    let read = |bytes| packet_read(bytes).err();
+    assert_eq!(read(&[0; 16385]), Some(Refusal::TooLong));
+    assert_eq!(read(&[]), Some(Refusal::Framing));
+    assert_eq!(read(&[12 * 8]), Some(Refusal::NotSpeech));
+    assert_eq!(
+        Refusal::NotSpeech.to_string(),
+        "refused with 11: a packet that is not SILK in mono"
+    );
+
+    let mut buf = [7; 16385];
+    let mut write = |len, config, sizes: &[u16], asked| {
+        let length = NonZeroU32::new(asked);
+        packet_write(&mut buf[..len], config, &[5, 6], sizes, length).unwrap_err()
+    };
+    assert_eq!(write(16385, 9, &[2], 0), Refusal::TooLong);
+    assert_eq!(write(9, 9, &[1], 0), Refusal::Length);
+    assert_eq!(write(2, 9, &[2], 0), Refusal::Value);
+    assert_eq!(write(9, 9, &[2], 2), Refusal::Value);
+    assert_eq!(write(9, 9, &[2], 10), Refusal::Value);
+    assert_eq!(write(20, 9, &[1, 1, 0, 0, 0, 0, 0], 0), Refusal::Framing);
+    assert_eq!(write(9, 12, &[2], 0), Refusal::NotSpeech);
+    assert_eq!(buf, [7; 16385]);
 }

@@ -21,6 +21,8 @@ use Rattle.tignarops.proofs.tg_decode_pulses.Reads as decode-pulses
 use Rattle.tignarops.proofs.tg_encode_pulses.Reads as encode-pulses
 use Rattle.tignarops.proofs.tg_nlsf_decode.Reads as nlsf-decode
 use Rattle.tignarops.proofs.tg_nlsf_stabilise.Reads as nlsf-stabilise
+use Rattle.tignarops.proofs.tg_packet_read.Reads as packet-read
+use Rattle.tignarops.proofs.tg_packet_write.Reads as packet-write
 
 -- a contract over the lifetimes, what is passed, the answer and what is left, where nothing is lent for writing: one answer
 abbrev pub Answers : {K X A E : Type 0} → (K → X → A → E → Type 0) → Type 0
@@ -94,3 +96,9 @@ nlsf-decode-one k x a c e f p q = (one (λ s. s .answer) p q, one (λ s. s .vect
 
 pub nlsf-stabilise-one : Leaves nlsf-stabilise.Post (λ e. e .0 .now)
 nlsf-stabilise-one k x a c e f p q = (one (λ s. s .answer) p q, one (λ s. s .vector) p q)
+
+pub packet-read-one : Answers packet-read.Post
+packet-read-one k x a c e f p q = one (λ s. s) p q
+
+pub packet-write-one : Leaves packet-write.Post (λ e. e .0 .now)
+packet-write-one k x a c e f p q = (one (λ s. s .answer) p q, one (λ s. s .buf) p q)

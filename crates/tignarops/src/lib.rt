@@ -10,11 +10,15 @@ ghost use Rattle.frame_type.specs.Kind.{frameType};
 ghost use Rattle.silk.specs.IndexWriting.{encodeIndices};
 ghost use Rattle.silk.specs.PulseWriting.{encodePulses};
 ghost use Rattle.spectrum.specs.Calls.{stabiliseCall, decodeCall};
+ghost use Rattle.framing.specs.Reading.{packetRead};
+ghost use Rattle.framing.specs.Writing.{packetWrite};
 use entcode::Dec;
 use entcode::Decoded;
 use entcode::Enc;
 use entcode::Encoded;
 use frame_type::FrameType;
+use framing::Packet;
+use framing::PacketWritten;
 use silk::Indices;
 use silk::IndicesRead;
 use silk::IndicesWritten;
@@ -234,4 +238,28 @@ pub extern "C" fn tg_nlsf_stabilise(vector: &mut [i16], gaps: &[i16]) -> Moves
     ensures { λ a. ⌜ record { vector = now (vector .exit); answer = a } ≡ stabiliseCall (now (vector .entry)) (now (gaps .entry)) ⌝ }
 {
     nlsf_stabilize::silk_NLSF_stabilize(vector, gaps)
+}
+
+// ---- whole packets
+
+#[no_mangle]
+pub extern "C" fn tg_packet_read(packet: &[u8]) -> Packet
+    ensures { λ a. ⌜ a ≡ packetRead (now (packet .entry)) ⌝ }
+{
+    packet_read::packet_read(packet)
+}
+
+#[no_mangle]
+pub extern "C" fn tg_packet_write(
+    buf: &mut [u8],
+    config: u32,
+    frames: &[u8],
+    sizes: &[u16],
+    length: u32,
+) -> PacketWritten
+    ensures { λ a.
+        ⌜ record { buf = now (buf .exit); answer = a } ≡
+        packetWrite (now (buf .entry)) config (now (frames .entry)) (now (sizes .entry)) length ⌝ }
+{
+    packet_write::packet_write(buf, config, frames, sizes, length)
 }

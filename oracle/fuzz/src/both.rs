@@ -1,9 +1,10 @@
-//! Our calls and the crate's, which answer the same.
+//! Our calls and the crate's, or on whole packets the rewrite's and libopus's, which answer the same.
 
 use oracle::board::{Board, Score, CRATE};
 use oracle::compare::{Answer, Copies, Sides};
 use oracle::frames::{compared, Frame, Left, StateOf};
 use oracle::hold::Outcome;
+use oracle::packets::Reading;
 use std::collections::BTreeMap;
 
 #[derive(Default)]
@@ -11,6 +12,7 @@ pub struct Both {
     copies: Copies,
     /// By the names of the calls.
     scores: BTreeMap<&'static str, Score>,
+    packets: Reading,
 }
 
 impl Both {
@@ -51,11 +53,18 @@ impl Both {
         abort_at_the_first(score);
     }
 
+    pub fn packet(&mut self, packet: &[u8]) {
+        self.packets.put(packet);
+        let scores = self.packets.scores();
+        scores.for_each(|(_, score)| abort_at_the_first(score));
+    }
+
     pub fn show(&self) {
         let mut board = Board::quiet();
         for (call, score) in &self.scores {
             board.row(call, CRATE, score);
         }
+        self.packets.rows(&mut board);
         board.show();
     }
 }

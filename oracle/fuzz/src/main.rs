@@ -1,6 +1,7 @@
-//! A fuzz target for libFuzzer. The input's first byte chooses: a frame is read, or frames are written,
-//! finished and read back; ours beside the crate's behind document 01's refusals. Every answer, field,
-//! pulse, byte and state is the same, or the run aborts. At its end it prints how many calls there were.
+//! A fuzz target for libFuzzer. The input is read as a whole packet, ours beside the rewrite's and
+//! libopus's. Then its first byte chooses: a frame is read, or frames are written, finished and read back;
+//! ours beside the crate's behind document 01's refusals. Every answer, field, pulse, byte and state is the
+//! same, or the run aborts. At its end it prints how many calls there were.
 #![no_main]
 
 mod both;
@@ -40,6 +41,7 @@ pub unsafe extern "C" fn LLVMFuzzerTestOneInput(data: *const u8, size: usize) ->
         _ => std::slice::from_raw_parts(data, size),
     };
     let (mut source, mut both) = (Source::new(input), both().lock().unwrap());
+    both.packet(input);
     match source.byte() % 2 {
         0 => reading::frame(&mut both, source),
         _ => writing::frames(&mut both, source),

@@ -1,4 +1,4 @@
-//! The times as ratios, a pair of bars for each row.
+//! The times as ratios, row by row a bar for each of the others.
 
 use crate::chart::{Align, Chart, COLOURS};
 use crate::measured::{ratios, Measured};
@@ -14,7 +14,7 @@ const ONE: f64 = 80.0;
 pub fn bars(rows: &[Measured]) -> String {
     let most = rows
         .iter()
-        .flat_map(|row| ratios(&row.times))
+        .flat_map(|row| ratios(&row.times).flatten())
         .fold(1.0, f64::max);
     let headings = rows.chunk_by(|a, b| a.group == b.group).count();
     let bottom = TOP + ROW * (rows.len() + headings) as f64;
@@ -28,6 +28,7 @@ pub fn bars(rows: &[Measured]) -> String {
             y += ROW;
             chart.text((LEFT - 6.0, y - 4.0), Align::End, &row.name);
             for (side, ratio) in ratios(&row.times).enumerate() {
+                let Some(ratio) = ratio else { continue };
                 let corner = (LEFT, y - ROW + 1.0 + BAR * side as f64);
                 chart.bar(corner, (ONE * ratio, BAR - 0.5), COLOURS[side + 1]);
             }

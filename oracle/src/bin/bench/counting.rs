@@ -1,5 +1,6 @@
 //! Instructions, by callgrind: this program runs itself under it once more.
 
+use crate::measured::Values;
 use crate::row::{Row, Work};
 use std::hint::black_box;
 use std::path::Path;
@@ -13,7 +14,7 @@ pub const WORD: &str = "counted";
 const COUNTED: &str = "bench_counted";
 
 /// Instructions a unit, of each side of each row; none without valgrind.
-pub fn counts(rows: &[Row]) -> Option<Vec<Vec<f64>>> {
+pub fn counts(rows: &[Row]) -> Option<Vec<Values>> {
     let dumps = env::temp_dir().join(format!("{COUNTED}.{}", std::process::id()));
     fs::create_dir(&dumps).expect("a folder for what callgrind writes");
     let done = under_callgrind(&dumps);
@@ -22,18 +23,18 @@ pub fn counts(rows: &[Row]) -> Option<Vec<Vec<f64>>> {
             .map(|dump| total(&dumps, dump))
             .collect::<Vec<_>>()
     };
-    let works = rows.iter().map(|row| row.works.len()).sum::<usize>();
-    let totals = done.then(|| totals(works + 1));
+    let works = rows.iter().flat_map(|row| row.works.iter().flatten());
+    let totals = done.then(|| totals(works.count() + 1));
     fs::remove_dir_all(&dumps).expect("it is removed again");
     let totals = totals?;
     // The first counts an empty work.
     let (empty, mut totals) = (totals[0], totals[1..].iter());
-    let one = |row: &Row, total: &u64| (total - empty) as f64 / (row.inputs * row.units) as f64;
     let each = |row: &Row| {
-        totals
-            .by_ref()
-            .take(row.works.len())
-            .map(|t| one(row, t))
+        let units = (row.inputs * row.units) as f64;
+        let mut next = |_: &Work| Some((totals.next()? - empty) as f64 / units);
+        let works = row.works.iter();
+        works
+            .map(|work| work.as_ref().and_then(&mut next))
             .collect()
     };
     Some(rows.iter().map(each).collect())
@@ -77,7 +78,7 @@ pub fn run(rows: &mut [Row]) {
     let mut empty: Work = Box::new(|_| 0);
     bench_counted(&mut empty, 0);
     for row in rows {
-        for work in &mut row.works {
+        for work in row.works.iter_mut().flatten() {
             bench_counted(work, row.inputs);
         }
     }

@@ -16,6 +16,6 @@ pub fn row() -> Row {
         name: "handed over and back".to_string(),
         inputs: TEXTS,
         units: SYMBOLS,
-        works: vec![on_each(&packets, accounts)],
+        works: vec![Some(on_each(&packets, accounts))],
     }
 }

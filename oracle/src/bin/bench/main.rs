@@ -13,8 +13,12 @@ mod handed;
 mod libopus;
 mod measured;
 mod ours;
+#[cfg(libopus)]
+mod packets;
 mod page;
 mod plot;
+#[cfg(libopus)]
+mod repacketizer;
 mod row;
 mod side;
 mod size;
@@ -58,6 +62,8 @@ fn rows() -> Vec<Row> {
         &each_size(|size| many(|| Frame::random(rng, size))),
     ));
     rows.extend(spectra::rows(rng));
+    #[cfg(libopus)]
+    rows.extend(packets::rows(rng));
     rows
 }
 

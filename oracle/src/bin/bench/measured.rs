@@ -4,21 +4,24 @@ use crate::counting;
 use crate::row::Row;
 use crate::timing;
 
-/// Of one row, each side in the order of `side::SIDES`.
+/// Of each side in the order of `side::SIDES`; none of one that has no such call.
+pub type Values = Vec<Option<f64>>;
+
+/// Of one row.
 pub struct Measured {
     pub group: &'static str,
     pub name: String,
     /// Nanoseconds a unit.
-    pub times: Vec<f64>,
+    pub times: Values,
     /// Instructions a unit, if they could be counted.
-    pub counts: Option<Vec<f64>>,
+    pub counts: Option<Values>,
 }
 
 pub fn measure(rows: &mut [Row], rounds: u32) -> Vec<Measured> {
     rows.iter_mut().for_each(Row::agree);
     let times = timing::times(rows, rounds);
     let mut counts = counting::counts(rows).map(Vec::into_iter);
-    let one = |(row, times): (&Row, Vec<f64>)| Measured {
+    let one = |(row, times): (&Row, Values)| Measured {
         group: row.group,
         name: row.name.clone(),
         times,
@@ -28,14 +31,14 @@ pub fn measure(rows: &mut [Row], rounds: u32) -> Vec<Measured> {
 }
 
 /// Ours to each of the others.
-pub fn ratios(sides: &[f64]) -> impl Iterator<Item = f64> + '_ {
-    sides[1..].iter().map(|other| sides[0] / other)
+pub fn ratios(sides: &[Option<f64>]) -> impl Iterator<Item = Option<f64>> + '_ {
+    sides[1..].iter().map(|other| Some(sides[0]? / (*other)?))
 }
 
 impl Measured {
     /// Ours to the faster of the others.
     pub fn to_the_faster(&self) -> f64 {
-        ratios(&self.times).fold(0.0, f64::max)
+        ratios(&self.times).flatten().fold(0.0, f64::max)
     }
 }
 

@@ -20,7 +20,7 @@ pub struct Results {
 }
 
 /// What was measured of each side, if it was.
-type Quantity = fn(&Measured) -> Option<&[f64]>;
+type Quantity = fn(&Measured) -> Option<&[Option<f64>]>;
 const TIMES: Quantity = |measured| Some(&measured.times);
 const COUNTS: Quantity = |measured| measured.counts.as_deref();
 
@@ -50,7 +50,7 @@ impl Results {
         let sides = kinds.flat_map(|kind| (0..SIDES.len()).map(move |side| (kind, side)));
         let series = sides.map(|(kind, side)| {
             let point = |(symbols, measured): &(usize, Measured)| {
-                Some((*symbols as f64, quantity(measured)?[side]))
+                Some((*symbols as f64, quantity(measured)?[side]?))
             };
             Some(Series {
                 side,
@@ -78,7 +78,7 @@ here passes or fails. In {} of {} rows ours takes longer than the faster of the 
 
     fn times(&self) -> String {
         let cells = |row: &Measured| {
-            let ours = format!("{:.1}", row.times[0]);
+            let ours = cell(row.times[0], 1);
             [vec![ours], to_others(&row.times)].concat()
         };
         format!(
@@ -88,10 +88,10 @@ Nanoseconds of ours, and that as a ratio to the others': below 1 ours is faster.
 
 {}
 A symbol's call gets the state by value and gives it back, 44 bytes each way. The account of a reader, which tests the state,
-changes nothing and gives it back, takes {:.1} ns, {}.
+changes nothing and gives it back, takes {} ns, {}.
 ",
             self.table(vec!["ours, ns".to_string()], cells),
-            self.handed.times[0],
+            cell(self.handed.times[0], 1),
             self.beside_handed()
         )
     }
@@ -100,7 +100,8 @@ changes nothing and gives it back, takes {:.1} ns, {}.
     fn beside_handed(&self) -> String {
         let handed = self.handed.times[0];
         let symbols = self.rows.iter().filter(|row| row.group == GROUP);
-        let short = symbols.filter(|row| handed > 2.0 * row.times[1]);
+        let short =
+            symbols.filter(|row| row.times[1].is_some_and(|time| handed > Some(2.0 * time)));
         let short: Vec<&str> = short.map(|row| row.name.as_str()).collect();
         match short[..] {
             [] => "less than twice the crate's time for any symbol".to_string(),
@@ -114,7 +115,7 @@ changes nothing and gives it back, takes {:.1} ns, {}.
         }
         let cells = |row: &Measured| {
             let counts = COUNTS(row).unwrap_or_default();
-            let each = counts.iter().map(|count| format!("{count:.0}"));
+            let each = counts.iter().map(|count| cell(*count, 0));
             [each.collect(), to_others(counts)].concat()
         };
         format!(
@@ -186,8 +187,8 @@ so much a symbol, and so much besides. The last column says how far the farthest
         let Some((symbols, measured)) = self.growth.last() else {
             return String::new();
         };
-        let row = |name: &str, values: &[f64]| {
-            let values = values.iter().map(|value| format!("{value:.0}"));
+        let row = |name: &str, values: &[Option<f64>]| {
+            let values = values.iter().map(|value| cell(*value, 0));
             [vec![name.to_string()], values.collect()].concat()
         };
         let mut lines = vec![row("nanoseconds", &measured.times)];
@@ -216,8 +217,13 @@ fn sides() -> Vec<String> {
     SIDES.iter().map(|side| side.to_string()).collect()
 }
 
-fn to_others(values: &[f64]) -> Vec<String> {
-    ratios(values).map(|ratio| format!("{ratio:.2}")).collect()
+fn to_others(values: &[Option<f64>]) -> Vec<String> {
+    ratios(values).map(|ratio| cell(ratio, 2)).collect()
+}
+
+/// A dash for a side that has no such call.
+fn cell(value: Option<f64>, decimals: usize) -> String {
+    value.map_or("-".to_string(), |value| format!("{value:.decimals$}"))
 }
 
 fn table(head: &[String], lines: &[Vec<String>]) -> String {
@@ -252,7 +258,8 @@ fn method() -> String {
 All sides run in one process on the same inputs: our static library; the crate, built for release without overflow checks;
 {}. Each is called as a program would call it: ours gets and gives its state by value
 and checks all that it is given, the others keep their coder in memory, and for frames a decoder or encoder set up before. The
-sides are held to come to the same range of the coder, or to the same ends of a vector.
+sides are held to come to the same range of the coder, to the same ends of a vector, or to the same length or last frame of a
+packet.
 
 - Time: {} rounds, in each of which the sides take turns at every row. A row's inputs are timed in {PARTS} parts and each part's
   best counts: a part is short enough to be done without an interruption, and all parts are too many for a processor to know
@@ -275,6 +282,25 @@ fn libopus() -> String {
     "libopus left out, since its static library is not installed".to_string()
 }
 
+#[cfg(libopus)]
+fn packets() -> String {
+    format!(
+        "- Whole packets: {} of each kind, 1 to 12 frames of 20 to 80 bytes at random, as of speech; where some are long, one in
+  eight of 252 to 400, whose length takes two bytes. Their bytes are near, where those of the packet before stood. Reading
+  stands beside `opus_packet_parse`, which is asked for all that it says. Writing the shortest packet stands beside libopus's
+  repacketizer: ours gets the frames one behind the other, that one is begun anew, gets each frame as a packet of its own, and
+  puts them out. For 1 to 300 bytes more `opus_packet_pad` comes behind, since no public call of libopus does both. The crate
+  has no framing.
+",
+        crate::packets::PACKETS
+    )
+}
+
+#[cfg(not(libopus))]
+fn packets() -> String {
+    String::new()
+}
+
 fn inputs() -> String {
     format!(
         "The inputs are the same in each run:
@@ -290,6 +316,7 @@ fn inputs() -> String {
   pitch, noise and pauses through three resonances), for speech, without redundancy, 1,250 bits a second for each kHz.
 - Frames of random bytes: {FRAMES} of each size; each symbol is as often as its probability says.
 - Line spectra: {VECTORS} sets of indices as of speech; vectors that keep every gap, and vectors that break some.
-"
+{}",
+        packets()
     )
 }

@@ -11,11 +11,13 @@ pub struct Row {
     pub group: &'static str,
     pub name: String,
     pub inputs: usize,
-    /// How many symbols, frames or vectors an input is.
+    /// How many symbols, frames, vectors or packets an input is.
     pub units: usize,
-    /// In the order of `side::SIDES`.
-    pub works: Vec<Work>,
+    pub works: Works,
 }
+
+/// In the order of `side::SIDES`; none of a side that has no such call.
+pub type Works = Vec<Option<Work>>;
 
 /// A call on each input, of which the side has a copy of its own.
 pub fn on_each<T: Clone + 'static>(
@@ -33,7 +35,7 @@ pub fn on_each<T: Clone + 'static>(
 pub type BySize<T> = Vec<(Size, Vec<T>)>;
 
 /// A part of a frame, and the work on it of each side.
-pub type Part<T> = (&'static str, fn(&[T], Size) -> Vec<Work>);
+pub type Part<T> = (&'static str, fn(&[T], Size) -> Works);
 
 /// A row for each part at each size.
 pub fn by_size<T>(group: &'static str, sizes: &BySize<T>, parts: &[Part<T>]) -> Vec<Row> {
@@ -52,7 +54,8 @@ impl Row {
     /// Refuses sides that do different work.
     pub fn agree(&mut self) {
         let all = 0..self.inputs;
-        let answers = self.works.iter_mut().map(|work| work(all.clone()));
+        let works = self.works.iter_mut().flatten();
+        let answers = works.map(|work| work(all.clone()));
         let answers: Vec<u64> = answers.collect();
         let same = answers.iter().all(|answer| *answer == answers[0]);
         assert!(same, "{}, {}: {answers:?}", self.group, self.name);

@@ -81,10 +81,10 @@ pub struct Pulses {
 macro_rules! sides {
     ($work:ident($($given:expr),*)) => {
         Vec::from([
-            $work::<crate::ours::Ours>($($given),*),
-            $work::<crate::unopus::Unopus>($($given),*),
+            Some($work::<crate::ours::Ours>($($given),*)),
+            Some($work::<crate::unopus::Unopus>($($given),*)),
             #[cfg(libopus)]
-            $work::<crate::libopus::Libopus>($($given),*),
+            Some($work::<crate::libopus::Libopus>($($given),*)),
         ])
     };
 }

@@ -1,5 +1,6 @@
 //! Time: the best of many rounds in which the sides take turns.
 
+use crate::measured::Values;
 use crate::row::{Row, Work};
 use std::hint::black_box;
 use std::time::{Duration, Instant};
@@ -21,20 +22,24 @@ pub fn rounds() -> u32 {
 
 /// Nanoseconds a unit, of each side of each row. A round has all rows, so that a slow while of the
 /// machine falls on all of them.
-pub fn times(rows: &mut [Row], rounds: u32) -> Vec<Vec<f64>> {
-    let none = |row: &Row| vec![[Duration::MAX; PARTS]; row.works.len()];
-    let mut best: Vec<Vec<Best>> = rows.iter().map(none).collect();
+pub fn times(rows: &mut [Row], rounds: u32) -> Vec<Values> {
+    let none = |row: &Row| {
+        let none = |work: &Option<Work>| work.as_ref().map(|_| [Duration::MAX; PARTS]);
+        row.works.iter().map(none).collect()
+    };
+    let mut best: Vec<Vec<Option<Best>>> = rows.iter().map(none).collect();
     for _ in 0..rounds {
         for (row, best) in rows.iter_mut().zip(&mut best) {
-            for (work, best) in row.works.iter_mut().zip(best) {
+            let works = row.works.iter_mut().flatten();
+            for (work, best) in works.zip(best.iter_mut().flatten()) {
                 time(work, row.inputs, best);
             }
         }
     }
-    let of_row = |(row, best): (&Row, &Vec<Best>)| {
+    let of_row = |(row, best): (&Row, &Vec<Option<Best>>)| {
         let units = (row.inputs * row.units) as f64;
         let sum = |parts: &Best| parts.iter().sum::<Duration>().as_secs_f64() * 1e9 / units;
-        best.iter().map(sum).collect()
+        best.iter().map(|best| best.as_ref().map(sum)).collect()
     };
     rows.iter().zip(&best).map(of_row).collect()
 }

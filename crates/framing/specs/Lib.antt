@@ -1,0 +1,10 @@
+pub mod Toc
+pub mod Lengths
+pub mod Padding
+pub mod Form
+pub mod Rules
+pub mod Reading
+pub mod Writing
+pub mod Inner
+pub mod Statement
+pub mod Cases

@@ -1,0 +1,69 @@
+-- `many_run` meets its contract: written lengths of one byte each, or any. Assumes nothing.
+use borrow.Author.Needs.{needs}
+use Prim.Native.Nat.{ℕ, _+_, _-_, _≤_}
+use mathlib.Core.Path.{_≡_, subst}
+use mathlib.Core.Bool.{true}
+use mathlib.Core.List.{List}
+use native.Mathlib.Omega.{arith}
+use lib.ListN.{length}
+use Rattle.framing.specs.declared.Form.{Form}
+use Rattle.framing.specs.Lengths.{widths}
+use Rattle.framing.specs.Form.{behind}
+use Rattle.framing.proofs.Kept.{head-varied}
+use Rattle.packet_read.specs.Inner.{Spanned, Stands}
+use Rattle.packet_read.proofs.CallLaws.{sizes-read, by-form, last-small, head-most, head-is}
+use Rattle.packet_read.proofs.NextLaws.{start-near}
+use Rattle.packet_read.proofs.many_run.Statement.{statement}
+use Rattle.packet_read.proofs.many_run.Tie as tie
+
+module _ (s : List ℕ) (f : Form) (head last : ℕ) (p : Spanned s f head last) where
+  some : 1 ≤ f .count
+  some = by-form s f (p .form) (p .rules) .some
+
+  inside : head ≤ length s
+  inside = omega (arith, p .head, head-most s f (p .form) (p .rules))
+
+  -- as many bytes of lengths as there are lengths
+  ones : f .varied ≡ true → head ≡ f .own + f .lens + (f .count - 1) → widths (f .count - 1) (behind f s) ≡ f .count - 1
+  ones v e = omega (arith, head-is s f (p .form) (p .rules) head (p .head), head-varied f s v)
+
+add-at : tie.Need-add-at
+add-at c = search needs
+
+sub-n : tie.Need-sub-n
+sub-n c =
+    let z = c .before .before .before .before in
+    let a = z .args in
+    omega (arith, some (a .s .now) (a .f) (a .head) (a .last) (z .pre .0))
+
+add-if2 : tie.Need-add-if2
+add-if2 c = search needs
+
+bytes-run-requires : tie.Need-bytes-run-requires
+bytes-run-requires c κs =
+    let z = c .before .before .before .before .before in
+    let a = z .args in
+    let p = z .pre .0 in (
+      omega (arith, c .if2 .taken, inside (a .s .now) (a .f) (a .head) (a .last) p),
+      omega (arith, z .pre .1),
+      start-near (a .s .now) (a .f) (a .head) (a .last) p,
+      last-small (a .s .now) (a .f) (p .form) (p .rules) (a .last) (p .last),
+      ones (a .s .now) (a .f) (a .head) (a .last) p (c .before .before .before .if1 .taken) (c .if2 .taken),
+    )
+
+returns : tie.Need-returns
+returns c =
+    let z = c .before .before .before .before .before .before in
+    let a = z .args in
+    let p = z .pre .0 in
+    let e = sizes-read (a .s .now) (a .f) (p .form) (a .last) (p .last) (c .before .before .before .before .if1 .taken) in
+    subst (λ (ns : List ℕ). Stands ns (a .head) (c .bytes-run .result)) e (c .bytes-run .ensures)
+
+each-run-requires : tie.Need-each-run-requires
+each-run-requires c κs = search needs
+
+returns-2 : tie.Need-returns-2
+returns-2 c = search needs
+
+pub many-run-spec : {M : Type 1} → statement M
+many-run-spec = tie.close (tie.spec add-at sub-n add-if2 bytes-run-requires returns each-run-requires returns-2)

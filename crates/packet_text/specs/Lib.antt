@@ -1,0 +1,3 @@
+pub mod PacketText
+pub mod Inner
+pub mod Cases

@@ -1,0 +1,13 @@
+-- `final_code` meets its contract. Assumes nothing.
+use borrow.Author.Tests.{eq-eqb, ne-eqb}
+use Rattle.packet_write.proofs.final_code.Statement.{statement}
+use Rattle.packet_write.proofs.final_code.Tie as tie
+
+returns : tie.Need-returns
+returns c = rw (eq-eqb _ _ (c .if1 .taken))
+
+returns-2 : tie.Need-returns-2
+returns-2 c = rw (ne-eqb _ _ (c .if1 .left))
+
+pub final-code-spec : {M : Type 1} → statement M
+final-code-spec = tie.close (tie.spec returns returns-2)

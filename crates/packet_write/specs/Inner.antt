@@ -1,0 +1,23 @@
+-- The pieces of a packet, as they are put one behind the other: no public contract speaks of them. Assumes nothing.
+use Prim.Native.Nat.{ℕ, _-_}
+use mathlib.Core.Bool.{Bool, cond}
+use mathlib.Core.List.{List, [], _∷_, _++_}
+use lib.ListN.{length, replicate}
+use Rattle.framing.specs.Padding.{padCode}
+use Rattle.numerals.specs.Put.{Put}
+use Rattle.packet_plan.specs.Inner.{codesOf}
+
+-- a text is put at a place of l, and the place behind it is n
+abbrev pub Puts : List ℕ → ℕ → List ℕ → List ℕ → ℕ → Type 0
+Puts l at t m n = Put (length t) l at t m n
+
+-- the first byte, and in arrangement 3 the count byte and the padding's length bytes
+abbrev pub frontOf : ℕ → Bool → ℕ → ℕ → List ℕ
+frontOf toc three b k = toc ∷ cond three (b ∷ padCode k) []
+
+-- the written lengths of all but the last, if they are written
+abbrev pub middleOf : Bool → List ℕ → List ℕ
+middleOf varied ns = cond varied (codesOf ns (length ns - 1)) []
+
+abbrev pub wholeOf : ℕ → Bool → ℕ → ℕ → Bool → List ℕ → List ℕ → ℕ → List ℕ
+wholeOf toc three b k varied ns frames zeros = frontOf toc three b k ++ (middleOf varied ns ++ (frames ++ replicate zeros 0))
