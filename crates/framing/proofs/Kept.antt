@@ -1,6 +1,5 @@
--- What the seven rules say together, of any arrangement: the frames and the padding are the packet behind its first bytes, none is too
--- long, and
--- together they last at most 120 ms. Assumes nothing.
+-- What the seven rules say together, of any arrangement: the frames and the padding are the packet behind its first bytes, none is
+-- too long, and together they last at most 120 ms. Assumes nothing.
 use Prim.Native.Nat.{ℕ, _+_, _-_, _*_, _/_, _%_, _≤_, _<_}
 use mathlib.Core.Path.{_≡_, refl, sym, ap, subst, subst⁻¹, _∙_}
 use mathlib.Core.Bool.{Bool, true, false, _&&_, not, cond, true≢false, false≢true}

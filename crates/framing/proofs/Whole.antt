@@ -1,6 +1,5 @@
 -- The parts of a packet that keeps the rules: as many as it says, one behind the other, apart, inside the packet, none above 1,275
--- bytes; each is
--- the frame. Assumes nothing.
+-- bytes; each is the frame. Assumes nothing.
 use Prim.Native.Nat.{ℕ, zero, suc, _+_, _-_, _*_, _/_, _≤_, _<_}
 use mathlib.Core.Path.{_≡_, refl, sym, ap, _∙_}
 use mathlib.Core.Bool.{true}

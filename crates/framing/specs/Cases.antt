@@ -1,6 +1,5 @@
 -- Packets computed by the definitions: for each rule of section 3 one that just keeps it and one that breaks it, padding at its ends,
--- the order of
--- refusals; and packets written at every kind of length. Assumes nothing.
+-- the order of refusals; and packets written at every kind of length. Assumes nothing.
 use Prim.Native.Nat.{ℕ, _-_}
 use mathlib.Core.Path.{_≡_, refl}
 use mathlib.Core.Bool.{Bool, true, false, _&&_}

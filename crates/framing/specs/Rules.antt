@@ -1,6 +1,5 @@
--- The rules of RFC 6716, section 3.4, on a packet of N bytes: it is malformed if it breaks one. P is the padding with its length bytes,
--- M the
--- number of frames. Assumes nothing.
+-- The rules of RFC 6716, section 3.4, on a packet of N bytes: it is malformed if it breaks one. P is the padding with its length
+-- bytes, M the number of frames. Assumes nothing.
 use Prim.Native.Nat.{ℕ, _+_, _-_, _%_}
 use mathlib.Core.Bool.{Bool, true, false, _&&_, not}
 use mathlib.Core.List.{List}

@@ -1,5 +1,5 @@
--- `lengths_run` meets its contract. The loop's invariant: what was read and what is left are the whole. Its measure: how many are left.
--- Assumes nothing.
+-- `lengths_run` meets its contract. The loop's invariant: what was read and what is left are the whole. Its measure: how many are
+-- left. Assumes nothing.
 use borrow.Author.Needs.{needs}
 use Prim.Native.Nat.{ℕ, _+_, _-_, _*_, _≤_, _<_}
 use mathlib.Core.Path.{_≡_, sym, ap}

@@ -1,5 +1,5 @@
--- `bytes_run` meets its contract. The loop's invariant: the first k frames stand in their places. Its measure: how many turns are left.
--- Assumes nothing.
+-- `bytes_run` meets its contract. The loop's invariant: the first k frames stand in their places. Its measure: how many turns are
+-- left. Assumes nothing.
 use Prim.Native.Nat.{ℕ, _+_, _-_, _≤_, _<_}
 use mathlib.Core.Path.{_≡_, sym, ap, _∙_}
 use mathlib.Core.List.{List, [], _∷_, _++_}
