@@ -1,4 +1,5 @@
-// The bit length of a u32, by its leading zeros: what the account and the bounded numbers of the range coder count with.
+// The bit length of a u32, by its leading zeros: what the account and the bounded numbers of the range coder count
+// with.
 ghost use mathlib.Core.Path.{_≡_};
 ghost use Rattle.bitlen.specs.Length.{bitLength};
 

@@ -1,4 +1,5 @@
--- The writer's error stays through every write and through finishing (document 01: the crate's sticky error). Assumes nothing.
+-- The writer's error stays through every write and through finishing (document 01: the crate's sticky error). Assumes
+-- nothing.
 use Prim.Native.Nat.{ℕ, _/_, _+_, _^_}
 use mathlib.Core.Path.{_≡_, ap}
 use lib.Dec.{leb, ltb}

@@ -80,7 +80,8 @@ orLast r x e =
       err = e;
     }
 
--- u bits x, where j low bits of the last coded byte are spare: no byte below the back, or a coded byte there that cannot spare so many, is an error
+-- u bits x, where j low bits of the last coded byte are spare: no byte below the back, or a coded byte there that
+-- cannot spare so many, is an error
 abbrev pub leftOver : Room → ℕ → ℕ → ℕ → Room
 leftOver r x u j =
     cond (ltb (r .end) (length (r .buf)))

@@ -1,4 +1,5 @@
--- What finishing chooses: the fewest top bits that stay in [value, value + range) whatever follows them. Assumes nothing.
+-- What finishing chooses: the fewest top bits that stay in [value, value + range) whatever follows them. Assumes
+-- nothing.
 use Prim.Native.Nat.{ℕ, suc, _+_, _-_, _*_, _/_, _%_, _^_, _≤_, _<_}
 use mathlib.Core.Path.{_≡_, ap}
 use native.Mathlib.Omega.{arith}
@@ -52,7 +53,8 @@ cell-half l h =
 
 -- ---- enough
 
--- l bits hold: whatever the bits below them are, the number stays in [n, n + R); and they are at most one more than the range has leading zeros
+-- l bits hold: whatever the bits below them are, the number stays in [n, n + R); and they are at most one more than
+-- the range has leading zeros
 pub record Enough (R n l : ℕ) : Type 0 where
   pub most : l ≤ leadingZeros 32 R + 1
   pub few : l ≤ 9

@@ -1,5 +1,5 @@
--- The writer's front (RFC 6716, sections 5.1.1 and 5.1.1.1): range and value, and the digits that a carry may still reach: a held byte and a run of
--- 255s behind it. Assumes nothing.
+-- The writer's front (RFC 6716, sections 5.1.1 and 5.1.1.1): range and value, and the digits that a carry may still
+-- reach: a held byte and a run of 255s behind it. Assumes nothing.
 use Prim.Native.Nat.{ℕ, zero, suc, _+_, _-_, _*_, _/_, _%_, _^_}
 use mathlib.Core.Bool.{cond}
 use mathlib.Core.List.{List, [], _∷_, _++_}
@@ -23,7 +23,8 @@ abbrev pub stored : ℕ → ℕ → List ℕ
 stored zero k = []
 stored (suc b) k = (b + k) % 256 ∷ []
 
--- the digit c, below 512, goes out: 255 lengthens the run; any other has the held byte and the run stored with its carry, and is held itself
+-- the digit c, below 512, goes out: 255 lengthens the run; any other has the held byte and the run stored with its
+-- carry, and is held itself
 abbrev pub bytesOut : ℕ → ℕ → ℕ → List ℕ
 bytesOut h x c = cond (eqb c 255) [] (stored h (c / 256) ++ replicate x ((255 + c / 256) % 256))
 

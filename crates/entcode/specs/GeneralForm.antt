@@ -1,6 +1,6 @@
--- Reading by the general form of RFC 6716 section 4.1.2: the sought number is ft - min(floor(value / step) + 1, ft), the symbol is the one whose
--- [fl, fh) holds it, and the range becomes step (fh - fl), or range - step (ft - fh) where fl is 0. Every model's reader does just that.
--- Assumes nothing.
+-- Reading by the general form of RFC 6716 section 4.1.2: the sought number is ft - min(floor(value / step) + 1, ft),
+-- the symbol is the one whose [fl, fh) holds it, and the range becomes step (fh - fl), or range - step (ft - fh)
+-- where fl is 0. Every model's reader does just that. Assumes nothing.
 use Prim.Native.Nat.{ℕ, zero, suc, _-_, _*_, _/_, _^_, _≤_, _<_}
 use mathlib.Core.Path.{_≡_, refl}
 use native.Mathlib.Omega.{arith}

@@ -1,5 +1,5 @@
--- The four kinds of symbol: each is a proper cut and a raw part of at most 25 bits; the reader picks the coded part that holds the value, and no
--- other does. Assumes nothing.
+-- The four kinds of symbol: each is a proper cut and a raw part of at most 25 bits; the reader picks the coded part
+-- that holds the value, and no other does. Assumes nothing.
 use Prim.Native.Nat.{ℕ, zero, suc, _+_, _-_, _*_, _/_, _%_, _^_, _≤_, _<_}
 use mathlib.Core.Path.{_≡_, refl, ap, _∙_}
 use mathlib.Core.List.{List}

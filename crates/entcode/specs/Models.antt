@@ -1,12 +1,13 @@
--- Models and symbols. A symbol is one coded part, the piece [fl, fh) of ft of RFC 6716 section 4.1.2, and one raw part (section 4.1.4); a model
--- says which, for every value. Reader and writer use the same models. Assumes nothing.
+-- Models and symbols. A symbol is one coded part, the piece [fl, fh) of ft of RFC 6716 section 4.1.2, and one raw
+-- part (section 4.1.4); a model says which, for every value. Reader and writer use the same models. Assumes nothing.
 use Prim.Native.Nat.{ℕ, zero, suc, _+_, _-_, _*_, _/_, _%_, _^_, _≤_, _<_}
 use mathlib.Core.List.{List}
 use lib.ListN.{getD}
 use Rattle.bitlen.specs.Length.{bitLength}
 use Rattle.icdf.specs.Rule.{Icdf, Writable}
 
--- a bit of exponent lp (section 4.1.3.2); n raw bits (4.1.4); a number below ft (4.1.5); a symbol of an inverse table (4.1.3.3)
+-- a bit of exponent lp (section 4.1.3.2); n raw bits (4.1.4); a number below ft (4.1.5); a symbol of an inverse table
+-- (4.1.3.3)
 pub data Model : Type 0 where
   bit : ℕ → Model
   raw : ℕ → Model

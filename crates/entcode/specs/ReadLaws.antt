@@ -1,5 +1,5 @@
--- A read, as the code makes it: the symbol that its model picks with the two ends of its part, a cut there, and the raw part behind it.
--- Assumes nothing.
+-- A read, as the code makes it: the symbol that its model picks with the two ends of its part, a cut there, and the
+-- raw part behind it. Assumes nothing.
 use Prim.Native.Nat.{ℕ, zero, suc, _+_, _-_, _*_, _/_, _^_, _≤_, _<_, min}
 use mathlib.Core.Path.{_≡_, refl, sym, ap, ap₂, subst, subst⁻¹, _∙_}
 use mathlib.Core.Bool.{true, false, cond}
@@ -200,7 +200,8 @@ pub num-cutting : (ft : ℕ) (d : Dec) (k : ℕ) → k ≡ sought (d .rng) (d .v
     → Cutting (num ft) d k (upper (d .rng) k (all (num ft))) (lower (d .rng) (suc k) (all (num ft)))
 num-cutting ft d k e = record { symbol = e; top = refl; low = refl }
 
--- ---- what an inner read promises: the definition's value and state, a reader for the next read, and how far the total grew
+-- ---- what an inner read promises: the definition's value and state, a reader for the next read, and how far the
+-- total grew
 
 abbrev pub growth : Model → ℕ
 growth (bit lp) = 16

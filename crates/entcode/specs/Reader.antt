@@ -93,7 +93,8 @@ lastOf b (suc i) = byteAt b i
 abbrev pub after : List ℕ → ℕ → ℕ
 after b i = min (suc i) (length b)
 
--- ---- renormalising (section 4.1.2.1): while the range is at most 2^23, the kept bit and the next byte's seven high bits
+-- ---- renormalising (section 4.1.2.1): while the range is at most 2^23, the kept bit and the next byte's seven high
+-- bits
 
 abbrev pub symOf : ℕ → ℕ → ℕ
 symOf held y = (256 * held + y) / 2 % 256

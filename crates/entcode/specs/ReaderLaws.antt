@@ -1,5 +1,5 @@
--- Laws of the reader: the fixed turns of renormalising are the RFC's loop, and every read keeps a reader sound and adds to its total what its model
--- says. Assumes nothing.
+-- Laws of the reader: the fixed turns of renormalising are the RFC's loop, and every read keeps a reader sound and
+-- adds to its total what its model says. Assumes nothing.
 use Prim.Native.Nat.{ℕ, zero, suc, _+_, _-_, _*_, _/_, _^_, _≤_, _<_, min}
 use mathlib.Core.Path.{_≡_, refl, sym, ap, _∙_}
 use mathlib.Core.List.{List}

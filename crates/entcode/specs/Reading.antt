@@ -1,4 +1,5 @@
--- What the public calls on a reader answer, accepted or refused: document 01's table over the reader's steps. Assumes nothing.
+-- What the public calls on a reader answer, accepted or refused: document 01's table over the reader's steps. Assumes
+-- nothing.
 use Prim.Native.Nat.{ℕ}
 use mathlib.Core.Bool.{cond}
 use mathlib.Core.List.{List}

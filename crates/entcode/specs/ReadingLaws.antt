@@ -1,4 +1,5 @@
--- Laws of the public calls on a reader: what an open gate and a kept rule give, and what an accepted call hands back. Assumes nothing.
+-- Laws of the public calls on a reader: what an open gate and a kept rule give, and what an accepted call hands back.
+-- Assumes nothing.
 use Prim.Native.Nat.{ℕ, _-_, _^_, _≤_}
 use mathlib.Core.Path.{_≡_, refl, sym, ap, subst, _∙_}
 use mathlib.Core.Bool.{Bool, true, false, cond}

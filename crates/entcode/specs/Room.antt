@@ -1,5 +1,5 @@
--- Where the writer's bytes go: coded bytes fill the buffer from its start, raw bytes from its end. A byte that finds no room is dropped, and the
--- error stays (document 01: the crate's sticky error -1, here 1). Assumes nothing.
+-- Where the writer's bytes go: coded bytes fill the buffer from its start, raw bytes from its end. A byte that finds
+-- no room is dropped, and the error stays (document 01: the crate's sticky error -1, here 1). Assumes nothing.
 use Prim.Native.Nat.{ℕ, suc, _+_, _-_}
 use mathlib.Core.Bool.{Bool, cond}
 use mathlib.Core.List.{List, [], _∷_}

@@ -1,5 +1,5 @@
--- What a call's own numbers are refused for (document 01): 4 for one outside its range, 5 for a table, 8 for a value that cannot be written; 0 for
--- none. Assumes nothing.
+-- What a call's own numbers are refused for (document 01): 4 for one outside its range, 5 for a table, 8 for a value
+-- that cannot be written; 0 for none. Assumes nothing.
 use Prim.Native.Nat.{ℕ, _^_}
 use mathlib.Core.Bool.{Bool, _&&_, cond}
 use lib.Dec.{leb, ltb}

@@ -1,4 +1,5 @@
--- Which states are sound, as document 01 lists it, and the gate of refusals 1 to 3 that every call passes first. Assumes nothing.
+-- Which states are sound, as document 01 lists it, and the gate of refusals 1 to 3 that every call passes first.
+-- Assumes nothing.
 use Prim.Native.Nat.{ℕ, _+_, _^_}
 use mathlib.Core.Bool.{Bool, _&&_, cond}
 use mathlib.Core.List.{List}
@@ -55,7 +56,8 @@ runOkW w = leb (w .ext) 150000
 unfoldable pub soundW : List ℕ → Enc → Bool
 soundW b w = rangeOkW w && (placesOkW b w && (signsOkW w && (windowOk (w .window) (w .wbits) && (runOkW w && totalOk (w .total)))))
 
--- ---- the gate: 1 for a packet or buffer longer than 1,275; 2 for a state not sound for it; 3 for a total above 1,000,000
+-- ---- the gate: 1 for a packet or buffer longer than 1,275; 2 for a state not sound for it; 3 for a total above
+-- 1,000,000
 
 abbrev pub gate : ℕ → Bool → ℕ → ℕ
 gate n sound total = cond (leb n 1275) (cond sound (cond (leb total 1000000) 0 3) 2) 1

@@ -1,5 +1,6 @@
--- Accepted calls keep a writer sound, if its run of 255s is one that its total can account for, 8 run + 33 <= total: a fresh writer has that, and every
--- call keeps it. Without it the law is false: a sound state with a run of 150,000 and a total of 33 may be written to, and its run grows. Assumes nothing.
+-- Accepted calls keep a writer sound, if its run of 255s is one that its total can account for, 8 run + 33 <= total:
+-- a fresh writer has that, and every call keeps it. Without it the law is false: a sound state with a run of 150,000
+-- and a total of 33 may be written to, and its run grows. Assumes nothing.
 use Prim.Native.Nat.{ℕ, suc, _+_, _-_, _*_, _/_, _%_, _^_, _≤_}
 use mathlib.Core.Path.{_≡_, refl, sym, ap, subst, _∙_}
 use mathlib.Core.Bool.{true, _&&_}

@@ -1,5 +1,5 @@
--- Where no error stands after a write, every byte that it put out stands in the buffer: the front's bytes behind the front, the window's before the back.
--- Assumes nothing.
+-- Where no error stands after a write, every byte that it put out stands in the buffer: the front's bytes behind the
+-- front, the window's before the back. Assumes nothing.
 use Prim.Native.Nat.{ℕ, zero, suc, _+_, _-_, _/_, _%_, _^_, _≤_, _<_}
 use mathlib.Core.Path.{_≡_, refl, sym, subst, ap, _∙_}
 use mathlib.Core.Bool.{Bool, true, false, cond}

@@ -1,5 +1,5 @@
--- The writer's raw bits (RFC 6716, section 5.1.3): they wait in a window of 32 bits, low bits first, and leave it in bytes for the back.
--- Assumes nothing.
+-- The writer's raw bits (RFC 6716, section 5.1.3): they wait in a window of 32 bits, low bits first, and leave it in
+-- bytes for the back. Assumes nothing.
 use Prim.Native.Nat.{ℕ, zero, suc, _+_, _-_, _*_, _/_, _%_, _^_}
 use mathlib.Core.Bool.{cond}
 use lib.Dec.{ltb}

@@ -1,4 +1,5 @@
--- The writer (RFC 6716, section 5.1): a front and a tail that know nothing of each other but the room they share. Assumes nothing.
+-- The writer (RFC 6716, section 5.1): a front and a tail that know nothing of each other but the room they share.
+-- Assumes nothing.
 use Prim.Native.Nat.{ℕ, _+_, _^_}
 use mathlib.Core.Bool.{cond}
 use mathlib.Core.List.{List, [], _∷_}

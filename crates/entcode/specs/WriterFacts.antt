@@ -1,4 +1,5 @@
--- What the writer's functions ask of a flat state and what they promise, and the updates by which they change one. Assumes nothing.
+-- What the writer's functions ask of a flat state and what they promise, and the updates by which they change one.
+-- Assumes nothing.
 use Prim.Native.Nat.{ℕ, _+_, _*_, _^_, _≤_, _<_}
 use mathlib.Core.Path.{_≡_}
 use mathlib.Core.List.{List}
@@ -30,7 +31,8 @@ pub record Windowed (o : Out) : Type 0 where
   pub used : o .state .wbits ≤ 32
   pub slim : o .state .window < 2 ^ o .state .wbits
 
--- a write: a sound state, but for the run. Its bound follows from that of a sound state, 150,000, and is one that every write keeps
+-- a write: a sound state, but for the run. Its bound follows from that of a sound state, 150,000, and is one that
+-- every write keeps
 pub record Core (o : Out) : Type 0 where
   pub roomy : Roomy o
   pub above : 2 ^ 23 < o .state .rng
@@ -62,7 +64,8 @@ pub record Stepped (n : ℕ) (o d q : Out) : Type 0 where
 abbrev pub Wrote : Out → Sym → Out → Type 0
 Wrote o s q = Stepped (16 + rawN (s .model)) o (written o s) q
 
--- ---- updates: another range, value and total; buffer, front place and error; buffer, back place and error; window and total; run; held byte
+-- ---- updates: another range, value and total; buffer, front place and error; buffer, back place and error; window
+-- and total; run; held byte
 
 abbrev pub atTurn : Out → ℕ → ℕ → ℕ → Out
 atTurn o r v t =

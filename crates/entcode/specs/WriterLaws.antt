@@ -1,5 +1,5 @@
--- A write keeps a writer sound if its run of 255s is one that its total can account for (8 run + 33 <= total, which a fresh writer has), adds at most
--- 41 to the total, and keeps the buffer's length. Assumes nothing.
+-- A write keeps a writer sound if its run of 255s is one that its total can account for (8 run + 33 <= total, which a
+-- fresh writer has), adds at most 41 to the total, and keeps the buffer's length. Assumes nothing.
 use Prim.Native.Nat.{ℕ, suc, _+_, _*_, _^_, _≤_, _<_, min}
 use mathlib.Core.Path.{_≡_, refl, _∙_}
 use native.Mathlib.Omega.{arith}
@@ -57,7 +57,8 @@ loose-shift k w s l =
           };
     }
 
--- one turn at the most: loose still, 8 more in all at the most, the same length, a range that grows 256-fold until it is above 2^23
+-- one turn at the most: loose still, 8 more in all at the most, the same length, a range that grows 256-fold until it
+-- is above 2^23
 record Turned (k : ℕ) (w v : Writer) : Type 0 where
   loose : Loose k v
   least : w .total ≤ v .total

@@ -1,4 +1,5 @@
--- The writer's steps on flat states, which the code's contracts cite: each is the flat form of a step of the definitions. Assumes nothing.
+-- The writer's steps on flat states, which the code's contracts cite: each is the flat form of a step of the
+-- definitions. Assumes nothing.
 use Prim.Native.Nat.{ℕ, zero, suc, _*_, _/_, _%_, _^_}
 use mathlib.Core.List.{List}
 use Rattle.entcode.specs.Front.{unstored, bytesOut, heldNext, runNext}

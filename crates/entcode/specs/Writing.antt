@@ -1,5 +1,5 @@
--- What the public calls on a writer answer, accepted or refused, and what they leave in the buffer: document 01's table over the writer's steps.
--- Assumes nothing.
+-- What the public calls on a writer answer, accepted or refused, and what they leave in the buffer: document 01's
+-- table over the writer's steps. Assumes nothing.
 use Prim.Native.Nat.{ℕ}
 use mathlib.Core.Bool.{cond}
 use mathlib.Core.List.{List}

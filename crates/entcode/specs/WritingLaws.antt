@@ -1,4 +1,5 @@
--- Laws of the public calls on a writer: what an open gate and a kept rule give, and what a call's answer says. Assumes nothing.
+-- Laws of the public calls on a writer: what an open gate and a kept rule give, and what a call's answer says.
+-- Assumes nothing.
 use Prim.Native.Nat.{ℕ, zero, suc, _^_, _≤_}
 use mathlib.Core.Path.{_≡_, refl, sym, ap, _∙_}
 use mathlib.Core.Bool.{Bool, true, false, _&&_, cond}

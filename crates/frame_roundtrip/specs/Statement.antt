@@ -1,6 +1,6 @@
--- What "a written frame reads back" means, said of the public calls as document 01 has them, refusals included: a list of calls, each of which writes a
--- symbol, a frame's side indices or a frame's pulses, in any order, and the calls that read with the same numbers. The theorems are in
--- `proofs/Theorems`. Assumes nothing.
+-- What "a written frame reads back" means, said of the public calls as document 01 has them, refusals included: a
+-- list of calls, each of which writes a symbol, a frame's side indices or a frame's pulses, in any order, and the
+-- calls that read with the same numbers. The theorems are in `proofs/Theorems`. Assumes nothing.
 use Prim.Native.Nat.{ℕ, suc, _≤_}
 use mathlib.Core.Path.{_≡_}
 use mathlib.Core.Bool.{Bool, cond}
@@ -46,7 +46,8 @@ behind o (pulses p khz subframes signal offset rate) = after (encodePulses o p k
 abbrev pub Accepts : Out → Step → Type 0
 Accepts o (symbol s) = encSym o s .answer .refusal ≡ 0
 Accepts o (sideIndices x s) = Shape x × (encodeIndices o x s .answer .refusal ≡ 0)
-Accepts o (pulses p khz subframes signal offset rate) = encodePulses o p khz subframes signal offset rate .answer .refusal ≡ 0
+Accepts o (pulses p khz subframes signal offset rate) =
+    encodePulses o p khz subframes signal offset rate .answer .refusal ≡ 0
 
 -- the calls ts, one after the other, are all accepted, and lead from o to q
 abbrev pub StepsSent : Out → List Step → Out → Type 0
@@ -80,8 +81,8 @@ front n l m = take n l ++ drop n m
 abbrev pub voicedIn : Indices → Bool
 voicedIn x = eqb (natAbs (x .signal)) 2
 
--- the record z with the fields that the frame codes as x has them: gains and filters of its subframes, spectrum places of its order, the pitch of a
--- voiced frame (document 01, "Side indices")
+-- the record z with the fields that the frame codes as x has them: gains and filters of its subframes, spectrum
+-- places of its order, the pitch of a voiced frame (document 01, "Side indices")
 unfoldable pub overlaid : Setting → Indices → Indices → Indices
 overlaid s x z =
     record {
@@ -104,7 +105,8 @@ pub record Tells (b : List ℕ) (d : Dec) (o : Out) : Type 0 where
   pub writer : encTell o .answer .refusal ≡ 0
   pub same : decTell b d .value ≡ encTell o .answer .value
 
--- a reader's answer to side indices is right: accepted, the record x over z, and what the writer hands to the next frame; the writer's account, no error
+-- a reader's answer to side indices is right: accepted, the record x over z, and what the writer hands to the next
+-- frame; the writer's account, no error
 pub record RightIndices (a : IndicesRead) (s : Setting) (x z : Indices) (w : IndicesSent) : Type 0 where
   pub refusal : a .refusal ≡ 0
   pub indices : a .indices ≡ overlaid s x z
@@ -120,13 +122,15 @@ pub record RightPulses (a : Pulsed) (p : List ℤ) (o : Out) : Type 0 where
 
 -- ---- reading
 
--- the calls that read with the numbers of ts from the reader d over the packet b are all right, o being the writer before ts; whatever record and
--- whatever slice of the same length the reader's caller hands in; and both accounts are the same before the first call and after each
+-- the calls that read with the numbers of ts from the reader d over the packet b are all right, o being the writer
+-- before ts; whatever record and whatever slice of the same length the reader's caller hands in; and both accounts
+-- are the same before the first call and after each
 abbrev pub StepsRead : List ℕ → Dec → Out → List Step → Type 0
 StepsRead b d o [] = Tells b d o
 StepsRead b d o (symbol s ∷ ts) =
     Tells b d o
-    × (Right (decSym b d (s .model)) (s .value) (after (encSym o s)) × StepsRead b (decSym b d (s .model) .state) (after (encSym o s)) ts)
+    × (Right (decSym b d (s .model)) (s .value) (after (encSym o s))
+    × StepsRead b (decSym b d (s .model) .state) (after (encSym o s)) ts)
 StepsRead b d o (sideIndices x s ∷ ts) =
     Tells b d o
     × ((z : Indices) → Shape z
@@ -135,8 +139,10 @@ StepsRead b d o (sideIndices x s ∷ ts) =
 StepsRead b d o (pulses p khz subframes signal offset rate ∷ ts) =
     Tells b d o
     × ((v : List ℤ) → length v ≡ length p
-    → RightPulses (decodePulses b d v khz subframes signal offset) p (after (encodePulses o p khz subframes signal offset rate))
-    × StepsRead b (decodePulses b d v khz subframes signal offset .answer .state) (after (encodePulses o p khz subframes signal offset rate)) ts)
+    → RightPulses (decodePulses b d v khz subframes signal offset) p
+    (after (encodePulses o p khz subframes signal offset rate))
+    × StepsRead b (decodePulses b d v khz subframes signal offset .answer .state)
+    (after (encodePulses o p khz subframes signal offset rate)) ts)
 
 -- ---- behind symbols
 
@@ -154,7 +160,8 @@ readOn b d (s ∷ ss) = readOn b (decSym b d (s .model) .state) ss
 -- the writer behind the side indices, and the call that writes the pulses
 abbrev pub typedPulses : Out → Setting → Indices → List ℤ → ℕ → Sent
 typedPulses o s x p rate =
-    encodePulses (afterIndices (encodeIndices o x s)) p (s .khz) (s .subframes) (natAbs (x .signal)) (natAbs (x .offset)) rate
+    encodePulses (afterIndices (encodeIndices o x s)) p (s .khz) (s .subframes)
+    (natAbs (x .signal)) (natAbs (x .offset)) rate
 
 -- both calls are accepted
 pub record FrameAccepts (o : Out) (s : Setting) (x : Indices) (p : List ℤ) (rate : ℕ) : Type 0 where
@@ -164,10 +171,13 @@ pub record FrameAccepts (o : Out) (s : Setting) (x : Indices) (p : List ℤ) (ra
 
 -- the call that reads pulses of the type that the side indices said
 abbrev pub pulsesAfter : List ℕ → Setting → IndicesRead → List ℤ → Pulsed
-pulsesAfter b s a v = decodePulses b (a .state) v (s .khz) (s .subframes) (natAbs (a .indices .signal)) (natAbs (a .indices .offset))
+pulsesAfter b s a v =
+    decodePulses b (a .state) v (s .khz) (s .subframes) (natAbs (a .indices .signal)) (natAbs (a .indices .offset))
 
--- from the reader d over the packet b both are read as the writer wrote them from o, into any record z and any slice v of the right length
-pub record FrameRight (b : List ℕ) (d : Dec) (o : Out) (s : Setting) (x : Indices) (p : List ℤ) (rate : ℕ) (z : Indices) (v : List ℤ) : Type 0 where
+-- from the reader d over the packet b both are read as the writer wrote them from o, into any record z and any slice
+-- v of the right length
+pub record FrameRight (b : List ℕ) (d : Dec) (o : Out) (s : Setting) (x : Indices) (p : List ℤ) (rate : ℕ) (z : Indices)
+    (v : List ℤ) : Type 0 where
   pub indices : RightIndices (decodeIndices b d z s) s x z (encodeIndices o x s)
   pub between : Tells b (decodeIndices b d z s .state) (afterIndices (encodeIndices o x s))
   pub pulses : RightPulses (pulsesAfter b s (decodeIndices b d z s) v) p (after (typedPulses o s x p rate))

@@ -1,5 +1,5 @@
--- Packets computed by the definitions: for each rule of section 3 one that just keeps it and one that breaks it, padding at its ends,
--- the order of refusals; and packets written at every kind of length. Assumes nothing.
+-- Packets computed by the definitions: for each rule of section 3 one that just keeps it and one that breaks it,
+-- padding at its ends, the order of refusals; and packets written at every kind of length. Assumes nothing.
 use Prim.Native.Nat.{ℕ, _-_}
 use mathlib.Core.Path.{_≡_, refl}
 use mathlib.Core.Bool.{Bool, true, false, _&&_}
@@ -32,8 +32,8 @@ pub data Case : Type 0 where
   reads : List ℕ → ℕ → ℕ → ℕ → List ℕ → List ℕ → Case
   -- the packet, the refusal
   stops : List ℕ → ℕ → Case
-  -- the buffer's length, configuration, frames, sizes, length asked for; what stands in the buffer, of zeros before, and the answered
-  -- length
+  -- the buffer's length, configuration, frames, sizes, length asked for; what stands in the buffer, of zeros before,
+  -- and the answered length
   writes : ℕ → ℕ → List ℕ → List ℕ → ℕ → List ℕ → ℕ → Case
   -- the same, and the refusal
   fails : ℕ → ℕ → List ℕ → List ℕ → ℕ → ℕ → Case

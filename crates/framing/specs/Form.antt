@@ -1,6 +1,6 @@
--- The four arrangements of frames in a packet (RFC 6716, sections 3.2.2 to 3.2.5): one frame; two of one size; two, the first with
--- its length; any number, with a byte that says how many, whether the lengths are written and whether there is padding. Assumes
--- nothing.
+-- The four arrangements of frames in a packet (RFC 6716, sections 3.2.2 to 3.2.5): one frame; two of one size; two,
+-- the first with its length; any number, with a byte that says how many, whether the lengths are written and whether
+-- there is padding. Assumes nothing.
 use Prim.Native.Nat.{ℕ, _+_, _-_, _/_, _%_}
 use mathlib.Core.Bool.{Bool, true, false, cond}
 use mathlib.Core.List.{List, [], _∷_, _++_}

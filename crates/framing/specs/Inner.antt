@@ -1,4 +1,5 @@
--- What an accepted call of writing keeps, by its numbers: laws and inner contracts speak of it, no public contract does. Assumes nothing.
+-- What an accepted call of writing keeps, by its numbers: laws and inner contracts speak of it, no public contract
+-- does. Assumes nothing.
 use Prim.Native.Nat.{ℕ, _*_, _≤_}
 use mathlib.Core.Path.{_≡_}
 use mathlib.Core.Bool.{true}

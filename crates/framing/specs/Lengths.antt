@@ -1,5 +1,5 @@
--- The length of a frame, coded in one or two bytes (RFC 6716, section 3.2.1): 0 to 251 is the length itself; behind 252 to 255 comes
--- a second byte, and the length is four times that and the first. Assumes nothing.
+-- The length of a frame, coded in one or two bytes (RFC 6716, section 3.2.1): 0 to 251 is the length itself; behind
+-- 252 to 255 comes a second byte, and the length is four times that and the first. Assumes nothing.
 use Prim.Native.Nat.{ℕ, zero, suc, _+_, _-_, _*_, _/_, _%_}
 use mathlib.Core.Bool.{cond}
 use mathlib.Core.List.{List, [], _∷_, _++_}

@@ -1,6 +1,6 @@
--- Padding (RFC 6716, section 3.2.5; RFC 8251, section 4): length bytes, of which 255 counts 254 bytes and goes on, and any other
--- counts itself and ends; the bytes counted stand at the packet's end. Where the length bytes run out, one more is taken to stand
--- past the end, so that they and the bytes counted do not fit the packet. Assumes nothing.
+-- Padding (RFC 6716, section 3.2.5; RFC 8251, section 4): length bytes, of which 255 counts 254 bytes and goes on,
+-- and any other counts itself and ends; the bytes counted stand at the packet's end. Where the length bytes run out,
+-- one more is taken to stand past the end, so that they and the bytes counted do not fit the packet. Assumes nothing.
 use Prim.Native.Nat.{ℕ, zero, suc, _+_, _-_, _/_, _%_}
 use mathlib.Core.Bool.{cond}
 use mathlib.Core.List.{List, [], _∷_, _++_}

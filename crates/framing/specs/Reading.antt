@@ -1,6 +1,6 @@
--- What reading a packet answers: the configuration, the arrangement, the bytes that padding takes, and start and size of each frame.
--- Refusals: 1 above 16,384 bytes; 10 where a rule of section 3 is broken; 11 for a configuration above 11 or two channels. Assumes
--- nothing.
+-- What reading a packet answers: the configuration, the arrangement, the bytes that padding takes, and start and size
+-- of each frame. Refusals: 1 above 16,384 bytes; 10 where a rule of section 3 is broken; 11 for a configuration above
+-- 11 or two channels. Assumes nothing.
 use Prim.Native.Nat.{ℕ, _+_, _-_}
 use mathlib.Core.Bool.{Bool, _&&_, cond}
 use mathlib.Core.List.{List, [], _∷_, _++_}

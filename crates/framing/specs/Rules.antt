@@ -1,5 +1,5 @@
--- The rules of RFC 6716, section 3.4, on a packet of N bytes: it is malformed if it breaks one. P is the padding with its length
--- bytes, M the number of frames. Assumes nothing.
+-- The rules of RFC 6716, section 3.4, on a packet of N bytes: it is malformed if it breaks one. P is the padding with
+-- its length bytes, M the number of frames. Assumes nothing.
 use Prim.Native.Nat.{ℕ, _+_, _-_, _%_}
 use mathlib.Core.Bool.{Bool, true, false, _&&_, not}
 use mathlib.Core.List.{List}
@@ -51,7 +51,8 @@ unfoldable pub rule6 : List ℕ → Bool
 rule6 s =
     implies (isCode 3 s && not (variedOf s)) (leb (2 + paddingOf s) (length s) && eqb ((length s - (2 + paddingOf s)) % countOf s) 0)
 
--- R7: in arrangement 3 with lengths, N is enough for all bytes in front of the frames, the first M - 1 frames, and the padding's end
+-- R7: in arrangement 3 with lengths, N is enough for all bytes in front of the frames, the first M - 1 frames, and
+-- the padding's end
 unfoldable pub rule7 : List ℕ → Bool
 rule7 s = implies (isCode 3 s && variedOf s) (leb (headOf s + total (firsts (formOf s) s) + formOf s .pad) (length s))
 

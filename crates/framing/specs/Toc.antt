@@ -1,5 +1,5 @@
--- A packet's first byte (RFC 6716, section 3.1): five bits of configuration, the stereo bit, two bits that name the arrangement of
--- the frames. A byte past the end of a list counts as 0. Assumes nothing.
+-- A packet's first byte (RFC 6716, section 3.1): five bits of configuration, the stereo bit, two bits that name the
+-- arrangement of the frames. A byte past the end of a list counts as 0. Assumes nothing.
 use Prim.Native.Nat.{ℕ, zero, suc, _*_, _/_, _%_}
 use mathlib.Core.Bool.{Bool}
 use mathlib.Core.List.{List, [], _∷_}

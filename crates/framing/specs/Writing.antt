@@ -1,7 +1,7 @@
--- How a packet is laid out of its frames, and what writing one leaves and answers: the shortest form, or exactly the length asked
--- for. Refusals: 1 for a buffer above 16,384 bytes; 6 where the frames' bytes are not as many as the sizes say; 8 for no room or a
--- length below the shortest; 10 for no frame, a frame above 1,275 bytes, more than 120 ms; 11 for a configuration above 11. Assumes
--- nothing.
+-- How a packet is laid out of its frames, and what writing one leaves and answers: the shortest form, or exactly the
+-- length asked for. Refusals: 1 for a buffer above 16,384 bytes; 6 where the frames' bytes are not as many as the
+-- sizes say; 8 for no room or a length below the shortest; 10 for no frame, a frame above 1,275 bytes, more than 120
+-- ms; 11 for a configuration above 11. Assumes nothing.
 use Prim.Native.Nat.{ℕ, _+_, _-_, _*_, _%_}
 use mathlib.Core.Bool.{Bool, true, false, _&&_, not, cond}
 use mathlib.Core.List.{List, [], _∷_, _++_}
@@ -32,7 +32,8 @@ bit false = 0
 abbrev pub countByte : ℕ → Bool → ℕ → ℕ
 countByte m v k = m + 64 * bit (ltb 0 k) + 128 * bit v
 
--- first byte t, lengths written or not, padding of k bytes with its length bytes, sizes of the frames, the frames, what stands behind them
+-- first byte t, lengths written or not, padding of k bytes with its length bytes, sizes of the frames, the frames,
+-- what stands behind them
 unfoldable pub laid : ℕ → Bool → ℕ → List ℕ → List ℕ → List ℕ → List ℕ
 laid t v k ns frames tail =
     t ∷ (byCode (t % 4) [] [] [] (countByte (length ns) v k ∷ padCode k) ++ (cond v (lengthCodes (butLast ns)) [] ++ (frames ++ tail)))

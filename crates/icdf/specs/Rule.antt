@@ -1,5 +1,5 @@
--- Inverse tables (RFC 6716, section 4.1.3.3): entry k is 2^scale less the cumulative frequency fh of symbol k. What document 01 asks of a
--- table, and which symbols can be written with it. Assumes nothing.
+-- Inverse tables (RFC 6716, section 4.1.3.3): entry k is 2^scale less the cumulative frequency fh of symbol k. What
+-- document 01 asks of a table, and which symbols can be written with it. Assumes nothing.
 use Prim.Native.Nat.{ℕ, zero, suc, _-_, _^_, _≤_, _<_}
 use mathlib.Core.Path.{_≡_}
 use mathlib.Core.List.{List}

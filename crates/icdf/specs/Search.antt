@@ -1,5 +1,5 @@
--- The search for a symbol (RFC 6716, section 4.1.3.3), and that it ends inside the table at the symbol whose part holds the value.
--- Assumes nothing.
+-- The search for a symbol (RFC 6716, section 4.1.3.3), and that it ends inside the table at the symbol whose part
+-- holds the value. Assumes nothing.
 use Prim.Native.Nat.{ℕ, zero, suc, _-_, _*_, _≤_, _<_}
 use mathlib.Core.Path.{_≡_, refl, sym, ap, _∙_}
 use mathlib.Core.Bool.{cond}
@@ -37,7 +37,8 @@ not-last scale unit v t k h l p = by-lt (suc k) (length t) (λ q. q) (λ q. absu
         let z : unit * getD t k 0 ≡ 0 = ap (λ (i : ℕ). unit * getD t i 0) e ∙ ap (λ (x : ℕ). unit * x) (h .ends) ∙ mul-zero unit in
         omega arith
 
--- the symbol k that the search finds: a place of the table, its lower end not above the value, the end of the one before it above
+-- the symbol k that the search finds: a place of the table, its lower end not above the value, the end of the one
+-- before it above
 pub record Found (unit v : ℕ) (t : List ℕ) (k : ℕ) : Type 0 where
   pub inside : k < length t
   pub low : unit * getD t k 0 ≤ v

@@ -1,5 +1,5 @@
--- The tests that a caller's table and symbol get, and the refusals of document 01 that they decide: 4 for the scale, 5 for the table, 8 for the
--- symbol, 0 for none. Assumes nothing.
+-- The tests that a caller's table and symbol get, and the refusals of document 01 that they decide: 4 for the scale,
+-- 5 for the table, 8 for the symbol, 0 for none. Assumes nothing.
 use Prim.Native.Nat.{ℕ, _-_, _^_}
 use mathlib.Core.Bool.{Bool, false, _&&_, cond}
 use mathlib.Core.List.{List, [], _∷_}

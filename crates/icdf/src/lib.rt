@@ -1,11 +1,12 @@
-// The tests of an inverse table that a caller lends, and of a symbol to be written with it (document 01, refusals 4, 5 and 8).
+// The tests of an inverse table that a caller lends, and of a symbol to be written with it (document 01, refusals 4,
+// 5 and 8).
 ghost use mathlib.Core.Path.{_≡_};
 ghost use Prim.Native.Nat.{_≤_};
 ghost use lib.ListN.{length};
 ghost use Rattle.icdf.specs.Test.{fallsOk, scaleOk, icdfOk, symbolOk, icdfRule, symbolRule};
 
-// Whether the first entry is at most top, none is above the one before it, and the last is 0. Neighbours are compared in place: with the entry before
-// carried along, the loop is not vectorised.
+// Whether the first entry is at most top, none is above the one before it, and the last is 0. Neighbours are compared
+// in place: with the entry before carried along, the loop is not vectorised.
 fn falls(table: &[u8], top: u32) -> bool
     requires { ⌜ 1 ≤ length (now table) ⌝ }
     ensures { λ b. ⌜ b ≡ fallsOk top (now (table .entry)) ⌝ }

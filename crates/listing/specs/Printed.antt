@@ -1,5 +1,5 @@
--- What a program's library function leaves in a lent buffer: the text, and behind it what was there; it answers the text's length.
--- Assumes nothing.
+-- What a program's library function leaves in a lent buffer: the text, and behind it what was there; it answers the
+-- text's length. Assumes nothing.
 use Prim.Native.Nat.{ℕ, _+_, _≤_}
 use mathlib.Core.Path.{_≡_, ap, ap₂, _∙_}
 use mathlib.Core.List.{List, _++_}

@@ -1,4 +1,5 @@
--- A whole number as decimal text in ASCII: a minus sign before a number below 0, then its digits, without zeros in front. Assumes nothing.
+-- A whole number as decimal text in ASCII: a minus sign before a number below 0, then its digits, without zeros in
+-- front. Assumes nothing.
 use Prim.Native.Nat.{ℕ, zero, suc, _+_, _/_, _%_}
 use mathlib.Core.Bool.{cond}
 use mathlib.Core.List.{List, [], _∷_, _++_}

@@ -1,5 +1,5 @@
--- The laws of decimal text: how it is made from the text of n / 10, that it is read back as its number, that it begins with no zero,
--- and how long it is. Assumes nothing.
+-- The laws of decimal text: how it is made from the text of n / 10, that it is read back as its number, that it
+-- begins with no zero, and how long it is. Assumes nothing.
 use Prim.Native.Nat.{ℕ, zero, suc, _+_, _-_, _*_, _/_, _%_, _^_, _≤_, _<_}
 use mathlib.Core.Path.{_≡_, refl, sym, ap, subst, _∙_}
 use mathlib.Core.Bool.{true, false}

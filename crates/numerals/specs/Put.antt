@@ -6,7 +6,8 @@ use native.Mathlib.Omega.{arith}
 use lib.ListN.{length, set, length-append}
 use lib.Seq.{sets}
 
--- the bytes of t stand from `at` on and all others are as they were; `next` is the place behind them; they are at most n
+-- the bytes of t stand from `at` on and all others are as they were; `next` is the place behind them; they are at
+-- most n
 pub record Put (n : ℕ) (before : List ℕ) (at : ℕ) (t after : List ℕ) (next : ℕ) : Type 0 where
   pub is : after ≡ sets before at t
   pub behind : next ≡ at + length t

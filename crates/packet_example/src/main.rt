@@ -1,5 +1,5 @@
-// Two frames of one symbol each, written and put into one packet; the packet read, and the second frame's symbol read from the part of the
-// packet that the frame is.
+// Two frames of one symbol each, written and put into one packet; the packet read, and the second frame's symbol read
+// from the part of the packet that the frame is.
 ghost use mathlib.Core.Path.{_≡_};
 ghost use Rattle.entcode.specs.Reading.{decOpen};
 ghost use Rattle.framing.specs.Reading.{packetRead};

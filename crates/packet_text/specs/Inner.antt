@@ -1,4 +1,5 @@
--- What the answer for an accepted packet keeps, as far as its text needs it: no public contract speaks of it. Assumes nothing.
+-- What the answer for an accepted packet keeps, as far as its text needs it: no public contract speaks of it. Assumes
+-- nothing.
 use Prim.Native.Nat.{ℕ, _+_, _≤_, _<_}
 use lib.ListN.{getD}
 use Rattle.framing.specs.declared.Packet.{Packet}

@@ -1,4 +1,5 @@
-// What the packet lister prints for an input, put into a lent buffer. Each inner function answers the place behind what it put.
+// What the packet lister prints for an input, put into a lent buffer. Each inner function answers the place behind
+// what it put.
 ghost use Prim.Native.Nat.{_+_, _≤_};
 ghost use mathlib.Core.Path.{_≡_};
 ghost use mathlib.Core.List.{[], _∷_};
@@ -17,7 +18,8 @@ use listing::put_word_run;
 fn put_one(out: &mut [u8], at: usize, word: &[u8], x: u32) -> usize
     requires { ⌜ (at + (length (now word) + 8) ≤ length (now out)) × (x ≤ 11) ⌝ }
     ensures { λ n.
-        ⌜ Put (length (now (word .entry)) + 8) (now (out .entry)) at (line (now (word .entry)) (pos x ∷ [])) (now (out .exit)) n ⌝ }
+        ⌜ Put (length (now (word .entry)) + 8) (now (out .entry)) at (line (now (word .entry)) (pos x ∷ []))
+        (now (out .exit)) n ⌝ }
 {
     let numbers = [x as i16];
     put_line_run(out, at, word, &numbers)
@@ -59,7 +61,9 @@ fn put_accepted(out: &mut [u8], a: Packet) -> usize
 
 // The text of any input; 512 bytes have room for each.
 pub fn packet_text(input: &[u8], out: &mut [u8; 512]) -> usize
-    ensures { λ n. ⌜ record { buffer = now (out .exit); count = n } ≡ printed (packetText (now (input .entry))) (now (out .entry)) ⌝ }
+    ensures { λ n.
+        ⌜ record { buffer = now (out .exit); count = n } ≡
+        printed (packetText (now (input .entry))) (now (out .entry)) ⌝ }
 {
     let a = packet_read::packet_read(input);
     if a.refusal == 0 {

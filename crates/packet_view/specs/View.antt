@@ -1,5 +1,5 @@
--- What the readers over a packet view answer: the packet as it was lent, and the answer of the call by value on the packet and the place reached.
--- Assumes nothing.
+-- What the readers over a packet view answer: the packet as it was lent, and the answer of the call by value on the
+-- packet and the place reached. Assumes nothing.
 use Prim.Native.Nat.{ℕ}
 use mathlib.Core.List.{List}
 use denote.Ref.{RefT, now}

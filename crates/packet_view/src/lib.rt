@@ -1,5 +1,6 @@
-// A packet held with the place reached (document 01): the lent slice and the reader's state in one struct, and thin readers over it. Each takes the
-// view apart, calls the reader by value of the room `entdec`, and hands the packet on with the answer.
+// A packet held with the place reached (document 01): the lent slice and the reader's state in one struct, and thin
+// readers over it. Each takes the view apart, calls the reader by value of the room `entdec`, and hands the packet on
+// with the answer.
 ghost use mathlib.Core.Path.{_≡_};
 ghost use Rattle.entcode.specs.Models.{bit as a-bit, raw, num, tab};
 ghost use Rattle.packet_view.specs.View.{viewOpen, viewTell, viewSym, viewAt};

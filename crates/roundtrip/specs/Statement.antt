@@ -1,5 +1,6 @@
--- What "written reads back" means, said of the public calls as document 01 has them, refusals included: `encOpen`, `encSym` and `encDone` of a writer,
--- `decOpen` and `decSym` of a reader. The theorems are in `proofs/Theorems`. Assumes nothing.
+-- What "written reads back" means, said of the public calls as document 01 has them, refusals included: `encOpen`,
+-- `encSym` and `encDone` of a writer, `decOpen` and `decSym` of a reader. The theorems are in `proofs/Theorems`.
+-- Assumes nothing.
 use Prim.Native.Nat.{ℕ, _≤_}
 use mathlib.Core.Path.{_≡_}
 use mathlib.Core.List.{List, [], _∷_}
@@ -30,7 +31,8 @@ abbrev pub Sends : Out → List Sym → Out → Type 0
 Sends o [] q = o ≡ q
 Sends o (s ∷ ss) q = (encSym o s .answer .refusal ≡ 0) × Sends (after (encSym o s)) ss q
 
--- the symbols ss were written into the buffer b from opening on, and finished without error; q is the state before finishing
+-- the symbols ss were written into the buffer b from opening on, and finished without error; q is the state before
+-- finishing
 pub record Written (b : List ℕ) (ss : List Sym) (q : Out) : Type 0 where
   pub bytes : Bytes b
   pub short : length b ≤ 1275
@@ -51,11 +53,13 @@ pub record Right (a : Decoded) (v : ℕ) (o : Out) : Type 0 where
   pub account : SameAccount (a .state) o
   pub error : a .state .error ≡ 0
 
--- the calls that read with the models of ss from the reader d over the packet b are all right, o being the writer before ss
+-- the calls that read with the models of ss from the reader d over the packet b are all right, o being the writer
+-- before ss
 abbrev pub Reads : List ℕ → Dec → Out → List Sym → Type 0
 Reads b d o [] = Unit {0}
 Reads b d o (s ∷ ss) =
-    Right (decSym b d (s .model)) (s .value) (after (encSym o s)) × Reads b (decSym b d (s .model) .state) (after (encSym o s)) ss
+    Right (decSym b d (s .model)) (s .value) (after (encSym o s))
+    × Reads b (decSym b d (s .model) .state) (after (encSym o s)) ss
 
 -- ---- questions that depend on answers
 
@@ -71,7 +75,8 @@ Leads done (s ∷ ss) = ⊥
 Leads (ask m next) [] = ⊥
 Leads (ask m next) (s ∷ ss) = (s .model ≡ m) × Leads (next (s .value)) ss
 
--- asked from the reader d on, each next question by the value just read, the questions are all answered right, with the values of ss
+-- asked from the reader d on, each next question by the value just read, the questions are all answered right, with
+-- the values of ss
 abbrev pub Answers : List ℕ → Dec → Out → Questions → List Sym → Type 0
 Answers b d o done [] = Unit {0}
 Answers b d o done (s ∷ ss) = ⊥
@@ -104,4 +109,5 @@ pub record CodedRight (a : Decoded) (s : Sym) (o : Out) : Type 0 where
 abbrev pub CodedReads : List ℕ → Dec → Out → List Sym → Type 0
 CodedReads b d o [] = Unit {0}
 CodedReads b d o (s ∷ ss) =
-    CodedRight (decSym b d (s .model)) s (after (encSym o s)) × CodedReads b (decSym b d (s .model) .state) (after (encSym o s)) ss
+    CodedRight (decSym b d (s .model)) s (after (encSym o s))
+    × CodedReads b (decSym b d (s .model) .state) (after (encSym o s)) ss

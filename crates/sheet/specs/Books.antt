@@ -5,8 +5,9 @@ use mathlib.Core.List.{List, [], _∷_}
 use lib.ListN.{length}
 use Rattle.lists.specs.Rows.{Grid, grid-of}
 
--- step in 65,536ths, selectors (a byte for two places) and predictors in 256ths (section 4.2.7.5.2); vectors in 256ths of half the sampling rate,
--- weights in 512ths (section 4.2.7.5.3); least gaps in 32,768ths of half the sampling rate (section 4.2.7.5.4)
+-- step in 65,536ths, selectors (a byte for two places) and predictors in 256ths (section 4.2.7.5.2); vectors in
+-- 256ths of half the sampling rate, weights in 512ths (section 4.2.7.5.3); least gaps in 32,768ths of half the
+-- sampling rate (section 4.2.7.5.4)
 pub record Book : Type 0 where
   pub order : ℕ
   pub step : ℕ

@@ -1,5 +1,5 @@
--- The rows by what they are for (RFC 6716, section 4.2). A row is reached by `rowOf` alone. Parameters are the document's numbers: kHz 8, 12 or 16,
--- 2 or 4 subframes, signal type 0 to 2 (2 is voiced). Assumes nothing.
+-- The rows by what they are for (RFC 6716, section 4.2). A row is reached by `rowOf` alone. Parameters are the
+-- document's numbers: kHz 8, 12 or 16, 2 or 4 subframes, signal type 0 to 2 (2 is voiced). Assumes nothing.
 use Prim.Native.Nat.{ℕ, _+_, _-_, _*_, _/_}
 use mathlib.Core.List.{List, []}
 use lib.ListN.{getD}
@@ -109,6 +109,7 @@ shellRow table pulses = rowOf (58 + table * 16 + pulses)
 abbrev pub lowBitRow : List ℕ
 lowBitRow = rowOf 123
 
--- a sign, row k of 42: 14 for each signal type, 7 for each offset type, and the lesser of 6 and the count (section 4.2.7.8.5)
+-- a sign, row k of 42: 14 for each signal type, 7 for each offset type, and the lesser of 6 and the count (section
+-- 4.2.7.8.5)
 abbrev pub signRow : ℕ → List ℕ
 signRow k = rowOf (124 + k)

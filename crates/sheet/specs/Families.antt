@@ -1,4 +1,5 @@
--- Where the rows of a family stand, by the numbers that pick one of them. Single rows have `index-stands` and `pulse-stands`. Assumes nothing.
+-- Where the rows of a family stand, by the numbers that pick one of them. Single rows have `index-stands` and
+-- `pulse-stands`. Assumes nothing.
 use Prim.Native.Nat.{ℕ, _+_, _-_, _*_, _/_, _^_, _≤_, _<_}
 use mathlib.Core.Path.{_≡_, refl}
 use mathlib.Core.Bool.{Bool, true, _&&_}

@@ -1,5 +1,5 @@
--- Where each row stands: the header's, the side indices' and the pulses' rows are three lists, each one row after the other, and code lends a
--- part of such a list. One family to a line. Assumes nothing.
+-- Where each row stands: the header's, the side indices' and the pulses' rows are three lists, each one row after the
+-- other, and code lends a part of such a list. One family to a line. Assumes nothing.
 use Prim.Native.Nat.{ℕ, _+_, _-_, _≤_, _<_}
 use mathlib.Core.Path.{_≡_, refl, sym, ap, _∙_}
 use mathlib.Core.Bool.{Bool, true}

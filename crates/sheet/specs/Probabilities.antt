@@ -1,5 +1,6 @@
--- The probabilities, out of 256, that RFC 6716 prints, and that the sheet's rows are their inverses. Not listed here: first spectrum index, spectrum
--- residuals, the contour of 34, filters, even tables of 3 and 5 parts, counts, splits and signs. Assumes nothing.
+-- The probabilities, out of 256, that RFC 6716 prints, and that the sheet's rows are their inverses. Not listed here:
+-- first spectrum index, spectrum residuals, the contour of 34, filters, even tables of 3 and 5 parts, counts, splits
+-- and signs. Assumes nothing.
 use Prim.Native.Nat.{ℕ, zero, suc, _+_, _-_}
 use mathlib.Core.Path.{_≡_, refl}
 use mathlib.Core.Bool.{true}
@@ -14,7 +15,8 @@ unfoldable pub inverseFrom : ℕ → List ℕ → List ℕ
 inverseFrom rest [] = []
 inverseFrom rest (p ∷ ps) = (rest - p) ∷ inverseFrom (rest - p) ps
 
--- entry k is 256 less the first k + 1 probabilities; symbols of probability 0 before the first that can occur have no entry
+-- entry k is 256 less the first k + 1 probabilities; symbols of probability 0 before the first that can occur have no
+-- entry
 unfoldable pub inverse : List ℕ → List ℕ
 unfolding inverseFrom
 inverse [] = []

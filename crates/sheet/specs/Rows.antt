@@ -1,5 +1,5 @@
--- Every inverse row of SILK (RFC 6716, section 4.2), one row to a line, in families, and the sheet: all of them in one order. Rows are reached by
--- the names of `Directory`. Assumes nothing.
+-- Every inverse row of SILK (RFC 6716, section 4.2), one row to a line, in families, and the sheet: all of them in
+-- one order. Rows are reached by the names of `Directory`. Assumes nothing.
 use Prim.Native.Nat.{ℕ}
 use mathlib.Core.List.{List, [], _∷_, _++_}
 
@@ -123,7 +123,8 @@ scaleRows =
     (128 ∷ 64 ∷ 0 ∷ []) ∷
     []
 
--- even tables of 3, 4, 5, 6 and 8 parts: low gain bits (section 4.2.7.4), low parts of a lag (4.2.7.6.1), seed (4.2.7.7)
+-- even tables of 3, 4, 5, 6 and 8 parts: low gain bits (section 4.2.7.4), low parts of a lag (4.2.7.6.1), seed
+-- (4.2.7.7)
 unfoldable pub evenRows : List (List ℕ)
 evenRows =
     (171 ∷ 85 ∷ 0 ∷ []) ∷
@@ -309,13 +310,18 @@ headerRows = flagRows
 
 -- rows 2 to 45
 unfoldable pub indexRows : List (List ℕ)
-unfolding typeRows gainRows deltaGainRows narrowFirstRows wideFirstRows narrowResidualRows wideResidualRows extensionRows interpolationRows lagRows contourRows periodRows filterRows scaleRows evenRows
-indexRows = typeRows ++ gainRows ++ deltaGainRows ++ narrowFirstRows ++ wideFirstRows ++ narrowResidualRows ++ wideResidualRows ++ extensionRows ++ interpolationRows ++ lagRows ++ contourRows ++ periodRows ++ filterRows ++ scaleRows ++ evenRows
+unfolding typeRows gainRows deltaGainRows narrowFirstRows wideFirstRows narrowResidualRows wideResidualRows
+    extensionRows interpolationRows lagRows contourRows periodRows filterRows scaleRows evenRows
+indexRows =
+    typeRows ++ gainRows ++ deltaGainRows ++ narrowFirstRows ++ wideFirstRows ++ narrowResidualRows ++ wideResidualRows
+    ++ extensionRows ++ interpolationRows ++ lagRows ++ contourRows ++ periodRows ++ filterRows ++ scaleRows ++ evenRows
 
 -- rows 46 to 165
 unfoldable pub pulseRows : List (List ℕ)
 unfolding rateRows countRows lastCountRows shellRows0 shellRows1 shellRows2 shellRows3 lowBitRows signRows
-pulseRows = rateRows ++ countRows ++ lastCountRows ++ shellRows0 ++ shellRows1 ++ shellRows2 ++ shellRows3 ++ lowBitRows ++ signRows
+pulseRows =
+    rateRows ++ countRows ++ lastCountRows ++ shellRows0 ++ shellRows1 ++ shellRows2 ++ shellRows3 ++ lowBitRows
+    ++ signRows
 
 -- the sheet
 unfoldable pub sheet : List (List ℕ)

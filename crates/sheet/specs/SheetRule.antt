@@ -1,5 +1,6 @@
--- Every row is an inverse table of scale 8 (document 01: no row rises, and each ends in 0), and each of its symbols has a probability above 0:
--- two tests computed over the whole sheet, and laws that give them to each row. Assumes nothing.
+-- Every row is an inverse table of scale 8 (document 01: no row rises, and each ends in 0), and each of its symbols
+-- has a probability above 0: two tests computed over the whole sheet, and laws that give them to each row. Assumes
+-- nothing.
 use Prim.Native.Nat.{ℕ, zero, suc, _^_, _<_}
 use mathlib.Core.Path.{_≡_, refl}
 use mathlib.Core.Bool.{Bool, true, _&&_}

@@ -1,4 +1,5 @@
--- The weights of a spectrum vector (RFC 6716, section 4.2.7.5.3), and that all 832 of the two books are by this rule. Assumes nothing.
+-- The weights of a spectrum vector (RFC 6716, section 4.2.7.5.3), and that all 832 of the two books are by this rule.
+-- Assumes nothing.
 use Prim.Native.Nat.{ℕ, _+_, _-_, _*_, _/_, _%_, _^_}
 use mathlib.Core.Path.{_≡_, refl, sym, ap, _∙_}
 use mathlib.Core.Bool.{cond}

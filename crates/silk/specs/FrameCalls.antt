@@ -1,4 +1,5 @@
--- What the public calls that read a frame answer, accepted or refused: document 01's table over the frame's syntax. Assumes nothing.
+-- What the public calls that read a frame answer, accepted or refused: document 01's table over the frame's syntax.
+-- Assumes nothing.
 use Prim.Native.Nat.{ℕ, _+_, _*_, _/_}
 use mathlib.Core.Bool.{Bool, _&&_, _||_, cond}
 use mathlib.Core.List.{List, flatten}
@@ -26,7 +27,8 @@ abbrev pub subframesOk : ℕ → Bool
 subframesOk subframes = eqb subframes 2 || eqb subframes 4
 
 unfoldable pub numbersOk : ℕ → ℕ → ℕ → ℕ → ℕ → Bool
-numbersOk khz subframes active mode prevtype = khzOk khz && (subframesOk subframes && (leb active 1 && (leb mode 2 && leb prevtype 2)))
+numbersOk khz subframes active mode prevtype =
+    khzOk khz && (subframesOk subframes && (leb active 1 && (leb mode 2 && leb prevtype 2)))
 
 abbrev pub settingOk : Setting → Bool
 settingOk s = numbersOk (s .khz) (s .subframes) (s .active) (s .mode) (s .prevtype)
@@ -59,7 +61,10 @@ abbrev pub indicesRule : List ℕ → Dec → Setting → ℕ
 indicesRule b d s = firstOf (gateR b d) (cond (settingOk s) 0 4)
 
 unfoldable pub decodeIndices : List ℕ → Dec → Indices → Setting → IndicesRead
-decodeIndices b d x s = cond (eqb (indicesRule b d s) 0) (indicesGot (s .prevlag) (run b d (indices s x))) (indicesKept (indicesRule b d s) d x s)
+decodeIndices b d x s =
+    cond (eqb (indicesRule b d s) 0)
+    (indicesGot (s .prevlag) (run b d (indices s x)))
+    (indicesKept (indicesRule b d s) d x s)
 
 -- ---- pulses
 

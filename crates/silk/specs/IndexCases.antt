@@ -1,4 +1,5 @@
--- Worked cases of the side indices, over the syntax: which record some symbols lead to (document 01, case P13, and "Side indices"). Assumes nothing.
+-- Worked cases of the side indices, over the syntax: which record some symbols lead to (document 01, case P13, and
+-- "Side indices"). Assumes nothing.
 use Prim.Native.Nat.{ℕ}
 use mathlib.Core.Path.{refl}
 use mathlib.Core.List.{List, [], _∷_}

@@ -1,5 +1,5 @@
--- The fields of a record that may be written: each that this frame codes lies in its range, whatever frame was before (document 01, "Side
--- indices"). Assumes nothing.
+-- The fields of a record that may be written: each that this frame codes lies in its range, whatever frame was before
+-- (document 01, "Side indices"). Assumes nothing.
 use Prim.Native.Nat.{ℕ, _-_, _*_}
 use mathlib.Core.Path.{_≡_}
 use lib.IntN.{pos}

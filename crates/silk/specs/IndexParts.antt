@@ -1,5 +1,5 @@
--- What reading each part of a frame's side indices gives, whatever the packet holds: the record with the part's fields changed, and their range
--- (RFC 6716, section 4.2.7). The whole is in IndexRanges. Assumes nothing.
+-- What reading each part of a frame's side indices gives, whatever the packet holds: the record with the part's
+-- fields changed, and their range (RFC 6716, section 4.2.7). The whole is in IndexRanges. Assumes nothing.
 use Prim.Native.Nat.{ℕ, zero, suc, _+_, _-_, _*_, _/_, _^_, _≤_, _<_}
 use mathlib.Core.Path.{_≡_, refl, sym, ap, subst, _∙_}
 use mathlib.Core.Bool.{Bool, true, false, cond}

@@ -1,5 +1,5 @@
--- What reading a frame's side indices gives, whatever the packet holds: the range of every field that the frame reads, and the fields that it
--- keeps (document 01, "Side indices"; RFC 6716, section 4.2.7). Assumes nothing.
+-- What reading a frame's side indices gives, whatever the packet holds: the range of every field that the frame
+-- reads, and the fields that it keeps (document 01, "Side indices"; RFC 6716, section 4.2.7). Assumes nothing.
 use Prim.Native.Nat.{ℕ, _+_, _-_, _*_, _/_, _%_, _^_, _≤_, _<_}
 use mathlib.Core.Path.{_≡_, refl, ap, _∙_}
 use mathlib.Core.Bool.{false}

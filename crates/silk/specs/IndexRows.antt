@@ -1,5 +1,5 @@
--- The rows of the side indices in a slice that holds them one after the other: which part of it is which row (RFC 6716, section 4.2.7). A caller
--- lends the slice down, and each reader or writer cuts its row. Assumes nothing.
+-- The rows of the side indices in a slice that holds them one after the other: which part of it is which row (RFC
+-- 6716, section 4.2.7). A caller lends the slice down, and each reader or writer cuts its row. Assumes nothing.
 use Prim.Native.Nat.{ℕ, _+_, _-_, _*_, _/_, _^_, _≤_, _<_}
 use mathlib.Core.Path.{_≡_, refl, ap, _∙_}
 use mathlib.Core.Bool.{cond}

@@ -1,6 +1,6 @@
--- What a record says along each part of a frame's side indices, the tree started from the record itself: symbols that may all be written, and that
--- mean the record again, where the part's fields lie in the ranges that a reader gives (RFC 6716, section 4.2.7; document 01, "Side indices").
--- Assumes nothing.
+-- What a record says along each part of a frame's side indices, the tree started from the record itself: symbols that
+-- may all be written, and that mean the record again, where the part's fields lie in the ranges that a reader gives
+-- (RFC 6716, section 4.2.7; document 01, "Side indices"). Assumes nothing.
 use Prim.Native.Nat.{ℕ, zero, suc, _+_, _-_, _*_, _/_, _%_, _^_, _≤_, _<_}
 use mathlib.Core.Path.{_≡_, refl, sym, ap, ap₂, subst, _∙_}
 use mathlib.Core.Bool.{Bool, true, false}

@@ -1,6 +1,7 @@
--- The syntax of a frame's side indices (RFC 6716, section 4.2.7, from type to seed), as a tree of questions: each with its row, the value that the
--- writer of a record says there, and what follows. The tree starts from a record x, whose fields that the frame does not read stay; kHz, subframes,
--- mode and signal type are the document's numbers. Assumes nothing.
+-- The syntax of a frame's side indices (RFC 6716, section 4.2.7, from type to seed), as a tree of questions: each
+-- with its row, the value that the writer of a record says there, and what follows. The tree starts from a record x,
+-- whose fields that the frame does not read stay; kHz, subframes, mode and signal type are the document's numbers.
+-- Assumes nothing.
 use Prim.Native.Nat.{ℕ, zero, suc, _+_, _-_, _*_, _/_, _%_}
 use mathlib.Core.Bool.{Bool, _&&_, cond}
 use mathlib.Core.List.{List, []}
@@ -9,12 +10,15 @@ use lib.IntN.{ℤ, pos, negsuc, _+ℤ_, _-ℤ_, natAbs}
 use lib.ListN.{getD}
 use lib.Signed.{leZ}
 use Rattle.ints.specs.Wrap.{wrap16}
-use Rattle.sheet.specs.Directory.{typeRow, gainRow, gainLowRow, deltaGainRow, firstIndexRow, residualRow, extensionRow, interpolationRow, lagRow, lagLowRow, deltaLagRow, contourRow, periodRow, filterRow, scaleRow, seedRow}
+use Rattle.sheet.specs.Directory.{typeRow, gainRow, gainLowRow, deltaGainRow, firstIndexRow, residualRow, extensionRow}
+use Rattle.sheet.specs.Directory.{interpolationRow, lagRow, lagLowRow, deltaLagRow, contourRow, periodRow, filterRow}
+use Rattle.sheet.specs.Directory.{scaleRow, seedRow}
 use Rattle.sheet.specs.Books.{Book, narrowBook, wideBook}
 use Rattle.entcode.specs.Models.{Model, tab}
 use Rattle.tree.specs.Asks.{Asks, done, ask, then, of}
 use Rattle.silk.specs.declared.Indices.{Indices}
-use Rattle.silk.specs.Record.{Setting, withKind, withGain, withNlsf, withInterp, withLag, withContour, withPeriod, withFilter, withScale, withSeed}
+use Rattle.silk.specs.Record.{Setting, withKind, withGain, withNlsf, withInterp, withLag, withContour, withPeriod}
+use Rattle.silk.specs.Record.{withFilter, withScale, withSeed}
 
 -- a symbol of a row; all rows of a frame have scale 8
 abbrev row : List ℕ → Model
@@ -35,7 +39,8 @@ kindOf x = said (x .signal) * 2 + said (x .offset)
 unfoldable pub kind : ℕ → Asks Indices ℕ
 kind active = ask (row (typeRow active)) (λ y. kindOf y - active * 2) (λ v. done (v + active * 2))
 
--- ---- gains (section 4.2.7.4): the first by itself in two parts, or against the frame before in mode 2; each other against the one before it
+-- ---- gains (section 4.2.7.4): the first by itself in two parts, or against the frame before in mode 2; each other
+-- against the one before it
 
 unfoldable pub firstGain : ℕ → ℕ → Indices → Asks Indices Indices
 firstGain mode signal x =

@@ -1,5 +1,6 @@
--- Writing side indices part by part, and one turn of each loop: what is left to say before a turn is what it writes, then what is left to say after
--- it. Counted as code counts, by k + 1; the tree starts from the record itself, and stays at it. Assumes nothing.
+-- Writing side indices part by part, and one turn of each loop: what is left to say before a turn is what it writes,
+-- then what is left to say after it. Counted as code counts, by k + 1; the tree starts from the record itself, and
+-- stays at it. Assumes nothing.
 use Prim.Native.Nat.{ℕ, suc, _+_, _-_, _*_, _/_, _≤_, _<_}
 use mathlib.Core.Path.{_≡_, refl, sym, ap, ap₂, subst, _∙_}
 use mathlib.Core.List.{List, [], _∷_, _++_}

@@ -1,6 +1,6 @@
--- What the call that writes a frame's side indices answers, and what it leaves in the buffer (document 01, "Side indices"): the symbols that the record
--- says along the frame's syntax, started from the record itself. Refused with 8 exactly if one of them cannot be written, or if they mean another
--- record. Assumes nothing.
+-- What the call that writes a frame's side indices answers, and what it leaves in the buffer (document 01, "Side
+-- indices"): the symbols that the record says along the frame's syntax, started from the record itself. Refused with
+-- 8 exactly if one of them cannot be written, or if they mean another record. Assumes nothing.
 use Prim.Native.Nat.{ℕ}
 use mathlib.Core.Path.{_≡_, refl, sym, ap, subst, _∙_}
 use mathlib.Core.Bool.{Bool, true, false, _&&_, cond}
@@ -40,8 +40,10 @@ sameZs (a ∷ l) (b ∷ m) = sameZ a b && sameZs l m
 
 unfoldable pub sameIndices : Indices → Indices → Bool
 sameIndices x y =
-    sameZs (x .gains) (y .gains) && (sameZs (x .ltp) (y .ltp) && (sameZs (x .nlsf) (y .nlsf) && (sameZ (x .lag) (y .lag) && (sameZ (x .contour) (y .contour)
-    && (sameZ (x .signal) (y .signal) && (sameZ (x .offset) (y .offset) && (sameZ (x .interp) (y .interp) && (sameZ (x .period) (y .period)
+    sameZs (x .gains) (y .gains) && (sameZs (x .ltp) (y .ltp) && (sameZs (x .nlsf) (y .nlsf)
+    && (sameZ (x .lag) (y .lag) && (sameZ (x .contour) (y .contour)
+    && (sameZ (x .signal) (y .signal) && (sameZ (x .offset) (y .offset)
+    && (sameZ (x .interp) (y .interp) && (sameZ (x .period) (y .period)
     && (sameZ (x .scale) (y .scale) && sameZ (x .seed) (y .seed))))))))))
 
 -- ---- the call
@@ -67,11 +69,17 @@ indicesTold s x o =
     }
 
 abbrev pub indicesUntold : ℕ → Setting → Out → IndicesSent
-indicesUntold n s o = record { buf = o .buf; answer = record { refusal = n; state = o .state; prevtype = s .prevtype; prevlag = s .prevlag } }
+indicesUntold n s o =
+    record {
+      buf = o .buf;
+      answer = record { refusal = n; state = o .state; prevtype = s .prevtype; prevlag = s .prevlag };
+    }
 
 unfoldable pub encodeIndices : Out → Indices → Setting → IndicesSent
 encodeIndices o x s =
-    cond (eqb (tellRule o s x) 0) (indicesTold s x (writtenAll o (symbols x (indices s x)))) (indicesUntold (tellRule o s x) s o)
+    cond (eqb (tellRule o s x) 0)
+    (indicesTold s x (writtenAll o (symbols x (indices s x))))
+    (indicesUntold (tellRule o s x) s o)
 
 -- ---- equal records
 

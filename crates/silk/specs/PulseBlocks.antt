@@ -1,5 +1,5 @@
--- Loops over the blocks of a frame, 16 places each, in one slice: what was read stands in front, what is still to be worked on behind it, and the
--- tree has come as far. Assumes nothing.
+-- Loops over the blocks of a frame, 16 places each, in one slice: what was read stands in front, what is still to be
+-- worked on behind it, and the tree has come as far. Assumes nothing.
 use Prim.Native.Nat.{ℕ, zero, suc, _+_, _-_, _*_, _≤_}
 use mathlib.Core.Path.{_≡_, refl, sym, ap, subst, _∙_}
 use mathlib.Core.List.{List, [], _∷_, _++_, map, flatten, map-append, append-assoc, append-nil}
@@ -32,8 +32,10 @@ unfolding flatten
 flatten-snoc [] x = append-nil x
 flatten-snoc (y ∷ xs) x = ap (λ l. y ++ l) (flatten-snoc xs x) ∙ sym (append-assoc y (flatten xs) x)
 
--- the results x so far of a tree of blocks, stored by f, with tail behind them and the tree next left; w bits a block at the most
-pub record Turning {Q R A : Type 0} (f : A → ℤ) (P : List A → Type 0) (b : List ℕ) (d₀ : Dec) (whole : Asks Q (List (List A))) (w : ℕ) (s : List ℤ) (d : Dec) (i : ℕ)
+-- the results x so far of a tree of blocks, stored by f, with tail behind them and the tree next left; w bits a block
+-- at the most
+pub record Turning {Q R A : Type 0} (f : A → ℤ) (P : List A → Type 0) (b : List ℕ) (d₀ : Dec)
+    (whole : Asks Q (List (List A))) (w : ℕ) (s : List ℤ) (d : Dec) (i : ℕ)
     (tail : List ℤ) (next : Asks R (List (List A))) : Type 0 where
   pub results : List (List A)
   pub is : s ≡ map f (flatten results) ++ tail
@@ -154,4 +156,5 @@ abbrev pub Lowered : List ℕ → Dec → List ℕ → List ℕ → List (List �
 Lowered b d c l ms n s z = Turned pos Sixteen b d (blockLows (blocksFrom c l 0 n) ms) 2560 s z n
 
 abbrev pub Signed : List ℕ → Dec → ℕ → ℕ → List ℕ → List ℕ → List (List ℕ) → ℕ → List ℤ → Dec → Type 0
-Signed b d signal offset c l vs n s z = Turned (λ (x : ℤ). x) Sixteen b d (blockSigns signal offset (blocksFrom c l 0 n) vs) 256 s z n
+Signed b d signal offset c l vs n s z =
+    Turned (λ (x : ℤ). x) Sixteen b d (blockSigns signal offset (blocksFrom c l 0 n) vs) 256 s z n

@@ -1,5 +1,6 @@
--- What every excitation that is read has, whatever the packet (RFC 6716, section 4.2.7.8): a block's magnitudes before low bits total its count,
--- no pulse lies beyond 17,407, and reading adds at most 64,656 to the total. Assumes nothing.
+-- What every excitation that is read has, whatever the packet (RFC 6716, section 4.2.7.8): a block's magnitudes
+-- before low bits total its count, no pulse lies beyond 17,407, and reading adds at most 64,656 to the total. Assumes
+-- nothing.
 use Prim.Native.Nat.{ℕ, zero, suc, _+_, _-_, _*_, _/_, _^_, _<_, _≤_, min}
 use mathlib.Core.Path.{_≡_, refl, ap, _∙_}
 use mathlib.Core.List.{List, [], _∷_, _++_}

@@ -1,5 +1,5 @@
--- Loops over the places of a block, and over blocks of 16 places, in one slice: what was read stands in front, what is still to be worked on
--- behind it, and the tree has come as far. Assumes nothing.
+-- Loops over the places of a block, and over blocks of 16 places, in one slice: what was read stands in front, what
+-- is still to be worked on behind it, and the tree has come as far. Assumes nothing.
 use Prim.Native.Nat.{ℕ, suc, _+_, _*_, _<_, _≤_}
 use mathlib.Core.Path.{_≡_, refl, sym, ap, subst, _∙_}
 use mathlib.Core.List.{List, [], _∷_, _++_, map, map-append, append-assoc, append-nil}

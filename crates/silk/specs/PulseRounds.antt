@@ -1,4 +1,5 @@
--- The three loops over the blocks of a frame, turn by turn: splits fill the slice, low bits and signs work on the magnitudes in it. Assumes nothing.
+-- The three loops over the blocks of a frame, turn by turn: splits fill the slice, low bits and signs work on the
+-- magnitudes in it. Assumes nothing.
 use Prim.Native.Nat.{ℕ, _+_, _-_, _*_, _<_, _≤_}
 use mathlib.Core.Path.{_≡_, refl, sym, ap, subst, _∙_}
 use mathlib.Core.List.{List, [], _∷_, _++_, map, flatten, map-append}
@@ -39,7 +40,8 @@ module _ (b : List ℕ) (d₀ : Dec) (c l : List ℕ) (n : ℕ) where
   -- i blocks are split
   pub record Splitting (s : List ℤ) (d : Dec) (i : ℕ) : Type 0 where
     pub tail : List ℤ
-    pub turning : Turning pos Small b d₀ (each [] shellOf (blocksFrom c l 0 n)) 240 s d i tail (each [] shellOf (blocksFrom c l i (n - i)))
+    pub turning : Turning pos Small b d₀ (each [] shellOf (blocksFrom c l 0 n)) 240 s d i
+        tail (each [] shellOf (blocksFrom c l i (n - i)))
     pub room : length tail + i * 16 ≡ n * 16
     pub to : i ≤ n
 
@@ -96,7 +98,8 @@ module _ {Q T A : Type 0} (f : A → ℤ) (P : List ℕ → Type 0) (wide : (v :
   -- i blocks are worked on
   pub record Working (s : List ℤ) (d : Dec) (i : ℕ) : Type 0 where
     pub left : List (List ℕ)
-    pub turning : Turning f Sixteen b d₀ (tree (blocksFrom c l 0 n) ms) w s d i (map pos (flatten left)) (tree (blocksFrom c l i (n - i)) left)
+    pub turning : Turning f Sixteen b d₀ (tree (blocksFrom c l 0 n) ms) w s d i
+        (map pos (flatten left)) (tree (blocksFrom c l i (n - i)) left)
     pub all : All P left
     pub count : length left + i ≡ n
 
@@ -207,7 +210,8 @@ abbrev pub lowsOf : Block → List ℕ → Asks (List ℕ) (List ℕ)
 lowsOf k v = each 0 (lowBits (k .lows)) v
 
 abbrev pub Lowering : List ℕ → Dec → List ℕ → List ℕ → List (List ℕ) → ℕ → List ℤ → Dec → ℕ → Type 0
-Lowering b d₀ c l ms n s d i = Working pos Small (λ v h. h .size) lowsOf blockLows 2560 block-lows-next block-lows-end b d₀ c l ms n s d i
+Lowering b d₀ c l ms n s d i =
+    Working pos Small (λ v h. h .size) lowsOf blockLows 2560 block-lows-next block-lows-end b d₀ c l ms n s d i
 
 -- i blocks have their signs
 abbrev pub signsOf : ℕ → ℕ → Block → List ℕ → Asks (List ℤ) (List ℤ)
@@ -216,4 +220,5 @@ signsOf signal offset k v = each (pos 0) (sign (signRowOf signal offset (k .coun
 abbrev pub Signing : List ℕ → Dec → ℕ → ℕ → List ℕ → List ℕ → List (List ℕ) → ℕ → List ℤ → Dec → ℕ → Type 0
 Signing b d₀ signal offset c l vs n s d i =
     Working (λ (x : ℤ). x) Sixteen (λ v h. h) (signsOf signal offset) (blockSigns signal offset) 256
-    (λ b d z k bs v vs x. block-signs-next b d z signal offset k bs v vs x) (λ b d vs. block-signs-end b d signal offset vs) b d₀ c l vs n s d i
+    (λ b d z k bs v vs x. block-signs-next b d z signal offset k bs v vs x)
+    (λ b d vs. block-signs-end b d signal offset vs) b d₀ c l vs n s d i

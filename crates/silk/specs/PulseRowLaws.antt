@@ -1,5 +1,5 @@
--- Rows of the pulses as parts of the slice that is lent: which part is which row, that it can be read, and how many symbols it has. Assumes
--- nothing.
+-- Rows of the pulses as parts of the slice that is lent: which part is which row, that it can be read, and how many
+-- symbols it has. Assumes nothing.
 use Prim.Native.Nat.{ℕ, _+_, _-_, _*_, _≤_, _<_, min}
 use mathlib.Core.Path.{_≡_, refl, sym, ap, _∙_}
 use mathlib.Core.Bool.{Bool, true, false, cond}

@@ -1,5 +1,6 @@
--- Every symbol of a block that a shift suits has a probability, at every rate level of a frame (RFC 6716, section 4.2.7.8; document 01, "Pulses"). So
--- the smallest shift is the first of 0 to 10 at which the shifted magnitudes total at most 16. Assumes nothing.
+-- Every symbol of a block that a shift suits has a probability, at every rate level of a frame (RFC 6716, section
+-- 4.2.7.8; document 01, "Pulses"). So the smallest shift is the first of 0 to 10 at which the shifted magnitudes
+-- total at most 16. Assumes nothing.
 use Prim.Native.Nat.{ℕ, zero, suc, _+_, _-_, _*_, _/_, _^_, _≤_, _<_, min}
 use mathlib.Core.Path.{_≡_, refl, sym, subst, _∙_}
 use mathlib.Core.Bool.{Bool, true, false, cond}

@@ -1,4 +1,5 @@
--- One turn of each loop of the pulse reader: how the rest of a tree of `PulseSyntax` runs after one more symbol, place or block. Assumes nothing.
+-- One turn of each loop of the pulse reader: how the rest of a tree of `PulseSyntax` runs after one more symbol,
+-- place or block. Assumes nothing.
 use Prim.Native.Nat.{ℕ, zero, suc, _+_, _-_, _*_, _<_, _≤_}
 use mathlib.Core.Path.{_≡_, refl, sym, ap, _∙_}
 use mathlib.Core.List.{List, [], _∷_, _++_, map, flatten, map-append}

@@ -1,5 +1,5 @@
--- The syntax of a frame's excitation (RFC 6716, section 4.2.7.8), as a tree of questions. Blocks of 16 places; all counts stand before all splits, these
--- before all low bits, these before all signs. Assumes nothing.
+-- The syntax of a frame's excitation (RFC 6716, section 4.2.7.8), as a tree of questions. Blocks of 16 places; all
+-- counts stand before all splits, these before all low bits, these before all signs. Assumes nothing.
 use Prim.Native.Nat.{ℕ, zero, suc, _+_, _-_, _*_, _/_, _%_, _^_, min}
 use mathlib.Core.Bool.{cond}
 use mathlib.Core.List.{List, [], _∷_, _++_, map}

@@ -1,5 +1,5 @@
--- The loops over the blocks of a frame that the pulse writer makes, turn by turn: what is to be said of i blocks is written, that of the others is
--- left. Assumes nothing.
+-- The loops over the blocks of a frame that the pulse writer makes, turn by turn: what is to be said of i blocks is
+-- written, that of the others is left. Assumes nothing.
 use Prim.Native.Nat.{ℕ, suc, _+_, _-_, _*_, _<_, _≤_}
 use mathlib.Core.Path.{_≡_, refl, sym, ap, ap₂, subst, _∙_}
 use mathlib.Core.List.{List, [], _∷_, _++_, map}
@@ -30,7 +30,8 @@ rows-left v n i h =
     rw (e, f)
     (ap {B = List (List ℤ)} (λ (d : List ℤ). take 16 (drop (i * 16) v) ∷ rows16 (n - (i + 1)) d) (drop-drop 16 (i * 16) v ∙ ap (λ (m : ℕ). drop m v) g))
 
--- a tree for blocks and their pulses, of at most w bits a block; for each block, what is in hand and the tree of that block
+-- a tree for blocks and their pulses, of at most w bits a block; for each block, what is in hand and the tree of that
+-- block
 module _ {R Q A B : Type 0} (hand : List Block → List (List ℤ) → R) (tree : List Block → List (List ℤ) → Asks R A) (part : Block → List ℤ → Q)
     (turn : Block → List ℤ → Asks Q B) (w : ℕ)
     (one-more : (b : Block) (bs : List Block) (p : List ℤ) (ps : List (List ℤ))
@@ -40,7 +41,8 @@ module _ {R Q A B : Type 0} (hand : List Block → List (List ℤ) → R) (tree 
   -- i blocks are told
   pub record Telling (q : Out) (i : ℕ) : Type 0 where
     pub midway : Midway o (hand (blocksFrom c l 0 n) (rows16 n v)) (tree (blocksFrom c l 0 n) (rows16 n v)) (w * i) q
-        (hand (blocksFrom c l i (n - i)) (rows16 (n - i) (drop (i * 16) v))) (tree (blocksFrom c l i (n - i)) (rows16 (n - i) (drop (i * 16) v)))
+        (hand (blocksFrom c l i (n - i)) (rows16 (n - i) (drop (i * 16) v)))
+        (tree (blocksFrom c l i (n - i)) (rows16 (n - i) (drop (i * 16) v)))
     pub to : i ≤ n
 
   pub telling-start : Core o → Telling o 0
@@ -106,25 +108,32 @@ silent-signs y signal offset vs = refl
 module _ (o : Out) (c l : List ℕ) (v : List ℤ) (n : ℕ) where
   abbrev pub SplitsTelling : Out → ℕ → Type 0
   SplitsTelling =
-      Telling (λ bs ps. shifted bs (whole ps)) (λ bs ps. each [] shellOf bs) (λ b p. shiftedBy (b .lows) p) (λ b p. shellOf b) 240 splits-more
+      Telling (λ bs ps. shifted bs (whole ps)) (λ bs ps. each [] shellOf bs)
+      (λ b p. shiftedBy (b .lows) p) (λ b p. shellOf b) 240 splits-more
       (λ ps. silent-each (shifted [] (whole ps)) [] shellOf) o c l v n
 
   abbrev pub LowsTelling : Out → ℕ → Type 0
   LowsTelling =
-      Telling (λ bs ps. whole ps) (λ bs ps. blockLows bs (shifted bs (whole ps))) (λ b p. map natAbs p) (λ b p. lowsOf b (shiftedBy (b .lows) p)) 2560 lows-more
+      Telling (λ bs ps. whole ps) (λ bs ps. blockLows bs (shifted bs (whole ps)))
+      (λ b p. map natAbs p) (λ b p. lowsOf b (shiftedBy (b .lows) p)) 2560 lows-more
       (λ ps. silent-lows (whole ps) (shifted [] (whole ps))) o c l v n
 
   abbrev pub SignsTelling : ℕ → ℕ → Out → ℕ → Type 0
   SignsTelling signal offset =
-      Telling (λ bs ps. ps) (λ bs ps. blockSigns signal offset bs (whole ps)) (λ b p. p) (λ b p. signsOf signal offset b (map natAbs p)) 256
+      Telling (λ bs ps. ps) (λ bs ps. blockSigns signal offset bs (whole ps))
+      (λ b p. p) (λ b p. signsOf signal offset b (map natAbs p)) 256
       (λ b bs p ps. signs-more b bs p ps signal offset) (λ ps. silent-signs ps signal offset (whole ps)) o c l v n
 
   -- all of them
   abbrev pub SplitsTold : Out → Type 0
-  SplitsTold q = Told o (shifted (blocksFrom c l 0 n) (whole (rows16 n v))) (each [] shellOf (blocksFrom c l 0 n)) (240 * n) q
+  SplitsTold q =
+      Told o (shifted (blocksFrom c l 0 n) (whole (rows16 n v))) (each [] shellOf (blocksFrom c l 0 n)) (240 * n) q
 
   abbrev pub LowsTold : Out → Type 0
-  LowsTold q = Told o (whole (rows16 n v)) (blockLows (blocksFrom c l 0 n) (shifted (blocksFrom c l 0 n) (whole (rows16 n v)))) (2560 * n) q
+  LowsTold q =
+      Told o (whole (rows16 n v))
+      (blockLows (blocksFrom c l 0 n) (shifted (blocksFrom c l 0 n) (whole (rows16 n v)))) (2560 * n) q
 
   abbrev pub SignsTold : ℕ → ℕ → Out → Type 0
-  SignsTold signal offset q = Told o (rows16 n v) (blockSigns signal offset (blocksFrom c l 0 n) (whole (rows16 n v))) (256 * n) q
+  SignsTold signal offset q =
+      Told o (rows16 n v) (blockSigns signal offset (blocksFrom c l 0 n) (whole (rows16 n v))) (256 * n) q

@@ -1,5 +1,5 @@
--- One turn of each loop of the pulse writer: what is said along a tree of `PulseSyntax` before and behind one more symbol, place or block.
--- Assumes nothing.
+-- One turn of each loop of the pulse writer: what is said along a tree of `PulseSyntax` before and behind one more
+-- symbol, place or block. Assumes nothing.
 use Prim.Native.Nat.{ℕ, zero, suc, _+_, _-_, _*_, _/_, _%_, _^_, _<_, _≤_}
 use mathlib.Core.Path.{_≡_, refl, sym, subst, _∙_}
 use mathlib.Core.List.{List, [], _∷_, _++_, map}

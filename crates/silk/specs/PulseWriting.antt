@@ -1,5 +1,5 @@
--- What the pulse writer writes (document 01): pulses, a rate level and each block's shift make an excitation, whose symbols along the syntax are
--- written; the shift of a block is the smallest that its symbols allow. Assumes nothing.
+-- What the pulse writer writes (document 01): pulses, a rate level and each block's shift make an excitation, whose
+-- symbols along the syntax are written; the shift of a block is the smallest that its symbols allow. Assumes nothing.
 use Prim.Native.Nat.{ℕ, zero, suc, _*_, _/_, _^_}
 use mathlib.Core.Bool.{Bool, _&&_, cond}
 use mathlib.Core.List.{List, [], _∷_, _++_, map}
@@ -87,10 +87,12 @@ pulseBlocks p khz subframes = rows16 (blocksOf khz subframes) p
 abbrev pub encodeRule : Out → List ℤ → ℕ → ℕ → ℕ → ℕ → ℕ → ℕ
 encodeRule o p khz subframes signal offset rate =
     firstOf (gateW (o .buf) (o .state))
-    (firstOf (writeNumbers (length p) khz subframes signal offset rate) (writeRule signal offset rate (pulseBlocks p khz subframes)))
+    (firstOf (writeNumbers (length p) khz subframes signal offset rate)
+    (writeRule signal offset rate (pulseBlocks p khz subframes)))
 
 unfoldable pub encodePulses : Out → List ℤ → ℕ → ℕ → ℕ → ℕ → ℕ → Sent
 encodePulses o p khz subframes signal offset rate =
     answered (encodeRule o p khz subframes signal offset rate) o 0
     (writtenAll o
-    (pulsesSay signal offset (blocksOf khz subframes) rate (shiftsOf rate signal offset (pulseBlocks p khz subframes)) (pulseBlocks p khz subframes)))
+    (pulsesSay signal offset (blocksOf khz subframes) rate
+    (shiftsOf rate signal offset (pulseBlocks p khz subframes)) (pulseBlocks p khz subframes)))

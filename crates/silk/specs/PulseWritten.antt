@@ -1,4 +1,5 @@
--- What a pulse writer says means the same pulses to a reader: each part of the syntax, said by what it is to give, gives that. Assumes nothing.
+-- What a pulse writer says means the same pulses to a reader: each part of the syntax, said by what it is to give,
+-- gives that. Assumes nothing.
 use Prim.Native.Nat.{ℕ, zero, suc, _+_, _-_, _*_, _/_, _%_, _^_, _<_, _≤_}
 use mathlib.Core.Path.{_≡_, refl, sym, ap, _∙_}
 use mathlib.Core.Bool.{Bool, true, false}

@@ -1,5 +1,5 @@
-// The side-index record of a SILK frame and the answers of the frame calls, laid out for C (RFC 6716, section 4.2.7). No function stands here:
-// `specs/` has the frame's syntax, for its reader and its writer.
+// The side-index record of a SILK frame and the answers of the frame calls, laid out for C (RFC 6716, section 4.2.7).
+// No function stands here: `specs/` has the frame's syntax, for its reader and its writer.
 use entcode::Dec;
 use entcode::Enc;
 

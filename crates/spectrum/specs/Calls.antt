@@ -1,4 +1,5 @@
--- What the two calls on a lent vector answer and leave in it, accepted or refused (document 01's table). Assumes nothing.
+-- What the two calls on a lent vector answer and leave in it, accepted or refused (document 01's table). Assumes
+-- nothing.
 use Prim.Native.Nat.{ℕ, _+_}
 use mathlib.Core.Bool.{Bool, _&&_, _||_, cond}
 use mathlib.Core.List.{List, map}

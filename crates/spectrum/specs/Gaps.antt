@@ -1,5 +1,5 @@
--- Gap sets: gap i is the least distance of value i from value i - 1, where 0 stands before the first value and 32,768 behind the last
--- (RFC 6716, section 4.2.7.5.4). A vector of n values has n + 1 gaps. Assumes nothing.
+-- Gap sets: gap i is the least distance of value i from value i - 1, where 0 stands before the first value and 32,768
+-- behind the last (RFC 6716, section 4.2.7.5.4). A vector of n values has n + 1 gaps. Assumes nothing.
 use Prim.Native.Nat.{ℕ, suc, _≤_, _<_}
 use mathlib.Core.Path.{_≡_}
 use mathlib.Core.Bool.{Bool, _&&_}

@@ -24,7 +24,8 @@ abbrev pub leading : List ℤ → ℤ
 leading [] = pos 0
 leading (r ∷ rs) = r
 
--- from the last place down: `predictor i` is that of place i, k the place of the first index. The last place looks at no predictor
+-- from the last place down: `predictor i` is that of place i, k the place of the first index. The last place looks at
+-- no predictor
 unfoldable pub residuals : ℕ → (ℕ → ℕ) → ℕ → List ℤ → List ℤ
 residuals step predictor k [] = []
 residuals step predictor k (x ∷ []) = scaled step x ∷ []
@@ -34,7 +35,8 @@ residuals step predictor k (x ∷ y ∷ xs) =
 
 -- ---- predictors by the selectors
 
--- a selector byte serves an even place by its lowest bit and the odd place behind it by bit 4: the list that the predictor comes from
+-- a selector byte serves an even place by its lowest bit and the odd place behind it by bit 4: the list that the
+-- predictor comes from
 abbrev pub listOf : ℕ → ℕ → ℕ
 listOf e i = cond (eqb (i % 2) 0) (e % 2) (e / 16 % 2)
 

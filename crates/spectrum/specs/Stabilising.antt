@@ -1,4 +1,5 @@
--- Stabilising a line spectrum (RFC 6716, section 4.2.7.5.4): moves while a gap is too small, at most 20, then the fallback. Assumes nothing.
+-- Stabilising a line spectrum (RFC 6716, section 4.2.7.5.4): moves while a gap is too small, at most 20, then the
+-- fallback. Assumes nothing.
 use Prim.Native.Nat.{ℕ, zero, suc}
 use mathlib.Core.Bool.{cond}
 use mathlib.Core.List.{List}

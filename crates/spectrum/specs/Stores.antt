@@ -1,4 +1,5 @@
--- The numbers that the moves store, before 16 bits are kept of them, and whether one of them leaves 16 bits. Assumes nothing.
+-- The numbers that the moves store, before 16 bits are kept of them, and whether one of them leaves 16 bits. Assumes
+-- nothing.
 use Prim.Native.Nat.{ℕ, zero, suc}
 use mathlib.Core.Path.{_≡_}
 use mathlib.Core.Bool.{Bool, true, _&&_, cond}

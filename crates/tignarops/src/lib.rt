@@ -1,4 +1,5 @@
-// The C interface (include/tignarops.h): each call hands its slices and states to the room that does the work, and has its contract.
+// The C interface (include/tignarops.h): each call hands its slices and states to the room that does the work, and
+// has its contract.
 ghost use mathlib.Core.Path.{_≡_};
 ghost use Rattle.entcode.specs.Models.{bit, raw, num, tab};
 ghost use Rattle.entcode.specs.Reading.{decSym, decTell, decOpen};
@@ -87,7 +88,9 @@ pub extern "C" fn tg_enc_account(buf: &[u8], w: Enc) -> Encoded
 
 #[no_mangle]
 pub extern "C" fn tg_enc_bit(buf: &mut [u8], w: Enc, value: u32, exponent: u32) -> Encoded
-    ensures { λ a. ⌜ sent (now (buf .exit)) a ≡ encSym (out (now (buf .entry)) w) (record { model = bit exponent; value = value }) ⌝ }
+    ensures { λ a.
+        ⌜ sent (now (buf .exit)) a ≡
+        encSym (out (now (buf .entry)) w) (record { model = bit exponent; value = value }) ⌝ }
 {
     entenc::ec_enc_bit_logp(buf, w, value, exponent)
 }
@@ -100,21 +103,25 @@ pub extern "C" fn tg_enc_icdf(
     table: &[u8],
     scale: u32,
 ) -> Encoded
-    ensures { λ a. ⌜ sent (now (buf .exit)) a ≡ encSym (out (now (buf .entry)) w) (record { model = tab scale (now (table .entry)); value = symbol }) ⌝ }
+    ensures { λ a.
+        ⌜ sent (now (buf .exit)) a ≡
+        encSym (out (now (buf .entry)) w) (record { model = tab scale (now (table .entry)); value = symbol }) ⌝ }
 {
     entenc::ec_enc_icdf(buf, w, symbol, table, scale)
 }
 
 #[no_mangle]
 pub extern "C" fn tg_enc_uint(buf: &mut [u8], w: Enc, value: u32, total: u32) -> Encoded
-    ensures { λ a. ⌜ sent (now (buf .exit)) a ≡ encSym (out (now (buf .entry)) w) (record { model = num total; value = value }) ⌝ }
+    ensures { λ a.
+        ⌜ sent (now (buf .exit)) a ≡ encSym (out (now (buf .entry)) w) (record { model = num total; value = value }) ⌝ }
 {
     entenc::ec_enc_uint(buf, w, value, total)
 }
 
 #[no_mangle]
 pub extern "C" fn tg_enc_bits(buf: &mut [u8], w: Enc, value: u32, bits: u32) -> Encoded
-    ensures { λ a. ⌜ sent (now (buf .exit)) a ≡ encSym (out (now (buf .entry)) w) (record { model = raw bits; value = value }) ⌝ }
+    ensures { λ a.
+        ⌜ sent (now (buf .exit)) a ≡ encSym (out (now (buf .entry)) w) (record { model = raw bits; value = value }) ⌝ }
 {
     entenc::ec_enc_bits(buf, w, value, bits)
 }
@@ -149,7 +156,8 @@ pub extern "C" fn tg_decode_indices(
     prevtype: u32,
     prevlag: i16,
 ) -> IndicesRead
-    ensures { λ a. ⌜ a ≡ decodeIndices (now (packet .entry)) r «record» (settingOf khz subframes active mode prevtype prevlag) ⌝ }
+    ensures { λ a.
+        ⌜ a ≡ decodeIndices (now (packet .entry)) r «record» (settingOf khz subframes active mode prevtype prevlag) ⌝ }
 {
     decode_indices::silk_decode_indices(
         packet,
@@ -176,7 +184,9 @@ pub extern "C" fn tg_encode_indices(
     prevtype: u32,
     prevlag: i16,
 ) -> IndicesWritten
-    ensures { λ a. ⌜ record { buf = now (buf .exit); answer = a } ≡ encodeIndices (out (now (buf .entry)) w) «record» (settingOf khz subframes active mode prevtype prevlag) ⌝ }
+    ensures { λ a.
+        ⌜ record { buf = now (buf .exit); answer = a } ≡
+        encodeIndices (out (now (buf .entry)) w) «record» (settingOf khz subframes active mode prevtype prevlag) ⌝ }
 {
     encode_indices::silk_encode_indices(
         buf,
@@ -203,7 +213,9 @@ pub extern "C" fn tg_decode_pulses(
     signal: u32,
     offset: u32,
 ) -> Decoded
-    ensures { λ a. ⌜ pulsed (now (pulses .exit)) a ≡ decodePulses (now (packet .entry)) r (now (pulses .entry)) khz subframes signal offset ⌝ }
+    ensures { λ a.
+        ⌜ pulsed (now (pulses .exit)) a ≡
+        decodePulses (now (packet .entry)) r (now (pulses .entry)) khz subframes signal offset ⌝ }
 {
     decode_pulses::silk_decode_pulses(packet, r, pulses, khz, subframes, signal, offset)
 }
@@ -219,7 +231,9 @@ pub extern "C" fn tg_encode_pulses(
     offset: u32,
     rate: u32,
 ) -> Encoded
-    ensures { λ a. ⌜ sent (now (buf .exit)) a ≡ encodePulses (out (now (buf .entry)) w) (now (pulses .entry)) khz subframes signal offset rate ⌝ }
+    ensures { λ a.
+        ⌜ sent (now (buf .exit)) a ≡
+        encodePulses (out (now (buf .entry)) w) (now (pulses .entry)) khz subframes signal offset rate ⌝ }
 {
     encode_pulses::silk_encode_pulses(buf, w, pulses, khz, subframes, signal, offset, rate)
 }
@@ -228,14 +242,17 @@ pub extern "C" fn tg_encode_pulses(
 
 #[no_mangle]
 pub extern "C" fn tg_nlsf_decode(vector: &mut [i16], indices: Spectrum, khz: u32) -> Moves
-    ensures { λ a. ⌜ record { vector = now (vector .exit); answer = a } ≡ decodeCall (now (vector .entry)) indices khz ⌝ }
+    ensures { λ a.
+        ⌜ record { vector = now (vector .exit); answer = a } ≡ decodeCall (now (vector .entry)) indices khz ⌝ }
 {
     nlsf_decode::silk_NLSF_decode(vector, indices, khz)
 }
 
 #[no_mangle]
 pub extern "C" fn tg_nlsf_stabilise(vector: &mut [i16], gaps: &[i16]) -> Moves
-    ensures { λ a. ⌜ record { vector = now (vector .exit); answer = a } ≡ stabiliseCall (now (vector .entry)) (now (gaps .entry)) ⌝ }
+    ensures { λ a.
+        ⌜ record { vector = now (vector .exit); answer = a } ≡
+        stabiliseCall (now (vector .entry)) (now (gaps .entry)) ⌝ }
 {
     nlsf_stabilize::silk_NLSF_stabilize(vector, gaps)
 }

@@ -1,4 +1,5 @@
--- What holds of every result of a tree, and how far its reading moves a reader, whatever symbols are read. Assumes nothing.
+-- What holds of every result of a tree, and how far its reading moves a reader, whatever symbols are read. Assumes
+-- nothing.
 use Prim.Native.Nat.{ℕ, _+_, _-_, _≤_}
 use mathlib.Core.Path.{ap, subst}
 use mathlib.Core.List.{List}
@@ -11,7 +12,8 @@ use Rattle.entcode.specs.ReadLaws.{Inside, growth, grows, read-inside}
 use Rattle.tree.specs.Asks.{Asks, done, ask, then, of, Got, run}
 use Rattle.tree.specs.Ran.{Ran}
 
--- each model can be read, together they add at most n to the total, and whatever values the reads give, the result has P
+-- each model can be read, together they add at most n to the total, and whatever values the reads give, the result
+-- has P
 abbrev pub Always : {R A : Type 0} → (A → Type 0) → ℕ → Asks R A → Type 0
 Always P n (done x) = P x
 Always P n (ask m w f) = Readable m × (growth m ≤ n) × ((v : ℕ) → Inside m v → Always P (n - growth m) (f v))

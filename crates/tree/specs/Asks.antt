@@ -1,5 +1,6 @@
--- A coded text as a tree of questions: each asks for one symbol by a model, and says for each value what follows. Running a tree on a reader is
--- what a decoder answers; the symbols that a record says along it are what an encoder writes. Assumes nothing.
+-- A coded text as a tree of questions: each asks for one symbol by a model, and says for each value what follows.
+-- Running a tree on a reader is what a decoder answers; the symbols that a record says along it are what an encoder
+-- writes. Assumes nothing.
 use Prim.Native.Nat.{ℕ}
 use mathlib.Core.Path.{_≡_}
 use mathlib.Core.List.{List, [], _∷_}
@@ -7,7 +8,8 @@ use Rattle.entcode.specs.declared.Dec.{Dec}
 use Rattle.entcode.specs.Models.{Model, Sym}
 use Rattle.entcode.specs.Reader.{readVal, readNext}
 
--- for writing an R and reading an A: a result; or a question, with the value that the writer of an R says there, and what follows for each value
+-- for writing an R and reading an A: a result; or a question, with the value that the writer of an R says there, and
+-- what follows for each value
 pub data Asks (R A : Type 0) : Type 0 where
   done : A → Asks R A
   ask : Model → (R → ℕ) → (ℕ → Asks R A) → Asks R A

@@ -1,5 +1,5 @@
--- What every way through a tree ends in, and so what its reader answers whatever the packet holds: a property of the result, a reader for the next
--- read, and a total that grew by at most 16 bits a question. Assumes nothing.
+-- What every way through a tree ends in, and so what its reader answers whatever the packet holds: a property of the
+-- result, a reader for the next read, and a total that grew by at most 16 bits a question. Assumes nothing.
 use Prim.Native.Nat.{ℕ, zero, suc, _+_, _*_, _≤_}
 use mathlib.Core.Path.{_≡_, subst}
 use mathlib.Core.List.{List}
@@ -15,7 +15,8 @@ use Rattle.tree.specs.Asks.{Asks, done, ask, then, of, Got, run}
 -- at most n questions, each by a model that may be asked for, and a result in P
 pub data Ends {R A : Type 0} (P : A → Type 0) : ℕ → Asks R A → Type 0 where
   ends : {n : ℕ} {x : A} → P x → Ends P n (done x)
-  asks : {n : ℕ} {m : Model} {w : R → ℕ} {f : ℕ → Asks R A} → Readable m → growth m ≤ 16 → ((v : ℕ) → Inside m v → Ends P n (f v)) → Ends P (suc n) (ask m w f)
+  asks : {n : ℕ} {m : Model} {w : R → ℕ} {f : ℕ → Asks R A} → Readable m → growth m ≤ 16
+      → ((v : ℕ) → Inside m v → Ends P n (f v)) → Ends P (suc n) (ask m w f)
 
 pub record Ended {A : Type 0} (b : List ℕ) (d : Dec) (P : A → Type 0) (n : ℕ) (g : Got A) : Type 0 where
   pub holds : P (g .value)

@@ -1,5 +1,5 @@
--- What a decoder that runs a tree promises, and how its parts' promises are put together as its code is: a result, one more question in front, a
--- tree in front of a tree. Assumes nothing.
+-- What a decoder that runs a tree promises, and how its parts' promises are put together as its code is: a result,
+-- one more question in front, a tree in front of a tree. Assumes nothing.
 use Prim.Native.Nat.{ℕ, _+_, _≤_}
 use mathlib.Core.Path.{_≡_, refl, sym, ap, _∙_}
 use mathlib.Core.List.{List}

@@ -1,5 +1,5 @@
--- What writing along a tree keeps, where every symbol may be written: a sound writer by the joint rule of `Joint`, and a total that grows by no more
--- than its reader's. Assumes nothing.
+-- What writing along a tree keeps, where every symbol may be written: a sound writer by the joint rule of `Joint`,
+-- and a total that grows by no more than its reader's. Assumes nothing.
 use Prim.Native.Nat.{ℕ, suc, _+_, _-_, _*_, _≤_}
 use mathlib.Core.Path.{_≡_, sym, ap, subst}
 use mathlib.Core.Bool.{true}

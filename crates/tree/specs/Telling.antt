@@ -1,4 +1,5 @@
--- Writing along a tree: the symbols one after the other, whether each may be written, and what symbols that may be written lead to. Assumes nothing.
+-- Writing along a tree: the symbols one after the other, whether each may be written, and what symbols that may be
+-- written lead to. Assumes nothing.
 use Prim.Native.Nat.{ℕ}
 use mathlib.Core.Path.{_≡_, refl}
 use mathlib.Core.Bool.{Bool, true, _&&_}

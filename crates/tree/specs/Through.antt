@@ -1,5 +1,5 @@
--- How a loop goes through a tree that reads a list, one element a turn: what was read so far stands before what the rest of the tree gives from
--- here. Assumes nothing.
+-- How a loop goes through a tree that reads a list, one element a turn: what was read so far stands before what the
+-- rest of the tree gives from here. Assumes nothing.
 use Prim.Native.Nat.{ℕ, _+_, _≤_}
 use mathlib.Core.Path.{_≡_, refl, sym, ap, _∙_}
 use mathlib.Core.List.{List, [], _∷_, _++_, append-nil, append-assoc}
@@ -28,7 +28,8 @@ run-cons {A = A} b d z h t k u x e =
     ∙ ap {B = Got (List A)} (λ (g : Got (List A)). got (x ∷ g .value) (g .state)) (run-of b z k u)
 
 -- the whole tree from d has read xs, come to z, and the tree that is left reads on; the total grew by at most n
-pub record Through {R Q A : Type 0} (b : List ℕ) (d : Dec) (whole : Asks R (List A)) (n : ℕ) (xs : List A) (z : Dec) (left : Asks Q (List A)) : Type 0 where
+pub record Through {R Q A : Type 0} (b : List ℕ) (d : Dec) (whole : Asks R (List A)) (n : ℕ) (xs : List A) (z : Dec)
+    (left : Asks Q (List A)) : Type 0 where
   pub is : run b d whole ≡ before xs (run b z left)
   pub core : Core b z
   pub least : d .total ≤ z .total

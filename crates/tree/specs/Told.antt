@@ -1,5 +1,6 @@
--- What an encoder that writes along a tree promises, and how its parts' promises are put together as its code is: nothing more to say, one more
--- symbol in front, a tree in front of a tree; and how a loop goes through a tree. Assumes nothing.
+-- What an encoder that writes along a tree promises, and how its parts' promises are put together as its code is:
+-- nothing more to say, one more symbol in front, a tree in front of a tree; and how a loop goes through a tree.
+-- Assumes nothing.
 use Prim.Native.Nat.{ℕ, _+_, _≤_}
 use mathlib.Core.Path.{_≡_, refl, sym, ap, _∙_}
 use mathlib.Core.List.{List, [], _∷_, _++_}

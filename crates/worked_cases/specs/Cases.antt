@@ -1,5 +1,5 @@
--- The worked cases of document 01, P1 to P13 and "Run", as one list, and one theorem that the definitions of the public calls satisfy it all.
--- Assumes nothing.
+-- The worked cases of document 01, P1 to P13 and "Run", as one list, and one theorem that the definitions of the
+-- public calls satisfy it all. Assumes nothing.
 use Prim.Native.Nat.{ℕ}
 use mathlib.Core.Path.{_≡_, refl}
 use mathlib.Core.List.{List, [], _∷_, map}
@@ -69,7 +69,8 @@ readIn b d (m ∷ ms) =
 
 abbrev opened-reads : List ℕ → List Model → List Shown
 opened-reads b ms =
-    record { refusal = decOpen b .refusal; value = decOpen b .value; account = decTell b (decOpen b .state) .value } ∷ readIn b (decOpen b .state) ms
+    record { refusal = decOpen b .refusal; value = decOpen b .value; account = decTell b (decOpen b .state) .value } ∷
+    readIn b (decOpen b .state) ms
 
 -- what a call leaves
 abbrev after : Sent → Out
@@ -140,5 +141,8 @@ cases =
     []
 
 pub cases-hold : map (λ w. computed (w .case)) cases ≡ map (λ w. w .outcome) cases
-unfolding cases decSym decTell decOpen reading.answered firstOf gateR soundR settled opened cutDown readVal readNext account bitLength lengthIn leadingZeros soundW gateW writing.answered written encSym finished encDone encTell encOpen stabiliseCall spectra.answered stabiliseRefusal lengthsOk goodGaps stabilise run move newHigh newLow centre upper lower place keeps firstLeast least diffs total held minZ maxZ wrap16
+unfolding cases decSym decTell decOpen reading.answered firstOf gateR soundR settled opened cutDown readVal readNext
+    account bitLength lengthIn leadingZeros soundW gateW writing.answered written encSym finished encDone encTell encOpen
+    stabiliseCall spectra.answered stabiliseRefusal lengthsOk goodGaps stabilise run move newHigh newLow centre upper lower
+    place keeps firstLeast least diffs total held minZ maxZ wrap16
 cases-hold = refl
