@@ -13,9 +13,6 @@ use Rattle.framing.specs.Form.{counted, formOf}
 use Rattle.framing.proofs.Kept.{form-3}
 
 module _ (s : List ℕ) (c : codeOf s ≡ 3) (b : ℕ) (e : b ≡ getD s 1 0) where
-  r : List ℕ
-  r = drop 2 s
-
   form-at : formOf s ≡ counted b (drop 2 s)
   form-at = form-3 s c ∙ ap (λ (n : ℕ). counted n (drop 2 s)) (sym e)
 

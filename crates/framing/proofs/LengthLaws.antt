@@ -86,22 +86,7 @@ unfolding lengths
 lengths-count zero r = refl
 lengths-count (suc n) r = ap suc (lengths-count n (drop (widthOf r) r))
 
-width-again : (r : List ℕ) → length (lengthCode (lengthOf r)) ≡ widthOf r
-unfolding lengthCode
-width-again r =
-    let b = getD r 0 0 in
-    by-lt b 252 (λ h. rw (lt-ltb b 252 h, lt-ltb b 252 h))
-    (λ h. let g : 252 ≤ 4 * getD r 1 0 + b = omega arith in rw (le-ltb b 252 h, le-ltb (4 * getD r 1 0 + b) 252 g))
-
--- the lengths that were read take as many bytes when they are written again
-pub widths-again : (n : ℕ) (r : List ℕ) → length (lengthCodes (lengths n r)) ≡ widths n r
-unfolding lengths widths lengthCodes
-widths-again zero r = refl
-widths-again (suc n) r =
-    let d = drop (widthOf r) r in
-    omega (arith, length-append (lengthCode (lengthOf r)) (lengthCodes (lengths n d)), width-again r, widths-again n d)
-
--- and the same bytes, where all of them are there
+-- what was read is written in the same bytes, where all of them are there
 two : (r : List ℕ) → 2 ≤ length r → getD r 0 0 ∷ (getD r 1 0 ∷ []) ≡ take 2 r
 two [] h = absurd (omega arith)
 two (a ∷ []) h = absurd (omega arith)

@@ -81,19 +81,6 @@ cut-part (n ∷ ns) r a zero h = refl
 cut-part (n ∷ ns) r a (suc i) h =
     ap (λ (l : List ℕ). getD (cut ns l) i []) (drop-drop n a r) ∙ cut-part ns r (a + n) i (le-of-suc-le-suc h)
 
--- the first starts at a, each next one where the one before it ends, and the last ends at a + total
-pub first-start : (a : ℕ) (ns : List ℕ) → 0 < length ns → getD (starts a ns) 0 0 ≡ a
-unfolding starts
-first-start a [] h = absurd (not-suc-le-zero h)
-first-start a (n ∷ ns) h = refl
-
-pub next-start : (a : ℕ) (ns : List ℕ) (i : ℕ) → suc i < length ns
-    → getD (starts a ns) (suc i) 0 ≡ getD (starts a ns) i 0 + getD ns i 0
-unfolding starts
-next-start a [] i h = absurd (not-suc-le-zero h)
-next-start a (n ∷ ns) zero h = first-start (a + n) ns (le-of-suc-le-suc h)
-next-start a (n ∷ ns) (suc i) h = next-start (a + n) ns i (le-of-suc-le-suc h)
-
 pub part-within : (a : ℕ) (ns : List ℕ) (i : ℕ) → i < length ns
     → (a ≤ getD (starts a ns) i 0) × (getD (starts a ns) i 0 + getD ns i 0 ≤ a + total ns)
 unfolding starts total

@@ -4,10 +4,10 @@ use mathlib.Core.Path.{_≡_, refl, sym, ap, subst}
 use mathlib.Core.Bool.{Bool, true, false}
 use native.Mathlib.Omega.{arith}
 use native.Mathlib.Nat.{not-le-of-lt}
-use lib.Dec.{T, ltb→lt}
+use lib.Dec.{T}
 use borrow.Author.Tests.{ltb-true, ltb-false, leb-true, leb-false}
 use lib.IntN.{ℤ, pos, negsuc}
-use lib.Signed.{ltZ, leZ, _<ℤ_, _≤ℤ_, leZ-yes}
+use lib.Signed.{ltZ, leZ, _≤ℤ_, leZ-yes}
 use Rattle.ints.specs.Parts.{up, down}
 
 -- one of the two is 0, said so that `omega` can use it
@@ -61,15 +61,6 @@ parts-le a b h = at (leZ a b) refl
     at : (t : Bool) → leZ a b ≡ t → a ≤ℤ b
     at true e = leZ-yes (subst T (sym e) tt)
     at false e = absurd (not-le-of-lt (leZ-false a b e) h)
-
--- a number above 0
-pub is-pos : (z : ℤ) → pos 0 <ℤ z → z ≡ pos (up z)
-is-pos (pos n) h = refl
-is-pos (negsuc n) h = absurd (h .lt)
-
-pub up-pos : (z : ℤ) → pos 0 <ℤ z → 0 < up z
-up-pos (pos n) h = ltb→lt 0 n (h .lt)
-up-pos (negsuc n) h = absurd (h .lt)
 
 pub is-nat : (z : ℤ) → down z ≡ 0 → z ≡ pos (up z)
 is-nat (pos n) h = refl

@@ -11,7 +11,6 @@ use lib.Dec.{T}
 use lib.IntN.{ℤ, pos, negsuc, natAbs}
 use lib.Signed.{ltZ}
 use lib.ListN.{length, getD, length-append}
-use Rattle.ints.specs.Parts.{up, down}
 use Rattle.tests.specs.Choice.{chosen-lt, by-lt}
 use Rattle.numerals.specs.Decimal.{digit, digitsIn, natural, decimal}
 
@@ -120,9 +119,3 @@ length-in (suc j) (suc k) n h =
 pub natural-length : (j n : ℕ) → n < 10 ^ suc j → length (natural n) ≤ suc j
 unfolding natural
 natural-length j n h = length-in j (suc n) n h
-
--- one more for the minus sign
-pub decimal-length : (j : ℕ) (z : ℤ) → up z < 10 ^ suc j → down z < 10 ^ suc j → length (decimal z) ≤ suc (suc j)
-unfolding decimal
-decimal-length j (pos n) u d = omega (arith, natural-length j n u)
-decimal-length j (negsuc n) u d = omega (arith, natural-length j (suc n) d)

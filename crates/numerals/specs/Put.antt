@@ -16,9 +16,6 @@ pub record Put (n : ℕ) (before : List ℕ) (at : ℕ) (t after : List ℕ) (ne
 pub put-none : (l : List ℕ) (at : ℕ) → Put 0 l at [] l at
 put-none l at = record { is = refl; behind = omega arith; most = omega arith }
 
-pub put-byte : (l : List ℕ) (at b : ℕ) → Put 1 l at (b ∷ []) (set l at b) (at + 1)
-put-byte l at b = record { is = refl; behind = refl; most = omega arith }
-
 sets-append : (l : List ℕ) (at : ℕ) (t u : List ℕ) → sets (sets l at t) (at + length t) u ≡ sets l at (t ++ u)
 sets-append l at [] u = let e : at + 0 ≡ at = omega arith in ap (λ (k : ℕ). sets l k u) e
 sets-append l at (b ∷ t) u =

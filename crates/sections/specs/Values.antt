@@ -1,11 +1,11 @@
 -- The numbers of a program's input (document 01): a count of one byte, values of two bytes, high first. Past the end a byte is 0.
 -- Assumes nothing.
 use Prim.Native.Nat.{ℕ, zero, suc, _+_, _*_}
-use mathlib.Core.Path.{_≡_, refl, ap, _∙_}
+use mathlib.Core.Path.{_≡_, ap, _∙_}
 use mathlib.Core.List.{List, [], _∷_, _++_}
 use native.Mathlib.Omega.{arith}
 use lib.IntN.{ℤ, pos}
-use lib.ListN.{length, getD}
+use lib.ListN.{getD}
 use Rattle.ints.specs.Wrap.{wrap16}
 
 abbrev pub byteAt : List ℕ → ℕ → ℕ
@@ -22,11 +22,6 @@ valueAt s i = wrap16 (pos (pairAt s i))
 unfoldable pub valuesAt : List ℕ → ℕ → ℕ → List ℤ
 valuesAt s i zero = []
 valuesAt s i (suc n) = valueAt s i ∷ valuesAt s (i + 2) n
-
-pub values-length : (s : List ℕ) (i n : ℕ) → length (valuesAt s i n) ≡ n
-unfolding valuesAt
-values-length s i zero = refl
-values-length s i (suc n) = ap suc (values-length s (i + 2) n)
 
 -- one value more
 pub values-more : (s : List ℕ) (i n : ℕ) → valuesAt s i n ++ (valueAt s (i + 2 * n) ∷ []) ≡ valuesAt s i (suc n)

@@ -1,6 +1,6 @@
 -- Laws of trees, each by one induction: what was written reads back, and trees behind trees. Assumes nothing.
 use Prim.Native.Nat.{ℕ}
-use mathlib.Core.Path.{_≡_, refl, sym, ap, ap₂, subst, _∙_}
+use mathlib.Core.Path.{_≡_, refl, sym, ap, ap₂, _∙_}
 use mathlib.Core.List.{List, [], _∷_, _++_, append-nil}
 use Rattle.entcode.specs.declared.Dec.{Dec}
 use Rattle.entcode.specs.Models.{Model, Sym}
@@ -34,14 +34,6 @@ run-of b d h (done x) = refl
 run-of b d h (ask m w f) = run-of b (readNext b m d) h (f (readVal b m d))
 
 -- ---- symbols
-
-pub leads-then : {R A B : Type 0} (t : Asks R A) (g : A → Asks R B) (l k : List Sym) (x : A) (y : B)
-    → Leads t l x → Leads (g x) k y → Leads (then t g) (l ++ k) y
-unfolding then
-leads-then (done z) g [] k x y p q = subst (λ w. Leads (g w) k y) (sym p) q
-leads-then (done z) g (w ∷ l) k x y p q = absurd p
-leads-then (ask m w f) g [] k x y p q = absurd p
-leads-then (ask m w f) g (v ∷ l) k x y p q = (p .0, leads-then (f (v .value)) g l k x y (p .1) q)
 
 -- what a writer says leads to what it means
 pub symbols-lead : {R A : Type 0} (y : R) (t : Asks R A) → Leads t (symbols y t) (meant y t)
