@@ -20,7 +20,8 @@ pub struct Coded {
 
 pub fn length_run(s: &[u8], at: usize) -> Coded
     requires { ⌜ at ≤ 9000000 ⌝ }
-    ensures { λ c. ⌜ (c .value ≡ lengthOf (drop at (now (s .entry)))) × (c .width ≡ widthOf (drop at (now (s .entry)))) ⌝ }
+    ensures { λ c.
+        ⌜ (c .value ≡ lengthOf (drop at (now (s .entry)))) × (c .width ≡ widthOf (drop at (now (s .entry)))) ⌝ }
     ensures { λ c. ⌜ (c .value ≤ 1275) × (c .width ≤ 2) ⌝ }
 {
     let first = byte_at(s, at);
@@ -40,7 +41,9 @@ pub fn length_run(s: &[u8], at: usize) -> Coded
 // n of them together.
 fn lengths_run(s: &[u8], at: usize, n: usize) -> Coded
     requires { ⌜ (at ≤ 8000000) × (n ≤ 63) ⌝ }
-    ensures { λ c. ⌜ (c .value ≡ total (lengths n (drop at (now (s .entry))))) × (c .width ≡ widths n (drop at (now (s .entry)))) ⌝ }
+    ensures { λ c.
+        ⌜ (c .value ≡ total (lengths n (drop at (now (s .entry)))))
+        × (c .width ≡ widths n (drop at (now (s .entry)))) ⌝ }
     ensures { λ c. ⌜ (c .value ≤ 100000) × (c .width ≤ 200) ⌝ }
 {
     let mut value = 0;
@@ -60,7 +63,8 @@ fn lengths_run(s: &[u8], at: usize, n: usize) -> Coded
 // The padding's length bytes from a place on, as a width, and the bytes that they count.
 fn padding_run(s: &[u8], at: usize) -> Coded
     requires { ⌜ (at ≤ 2) × (length (now s) ≤ 16384) ⌝ }
-    ensures { λ c. ⌜ (c .value ≡ padBytes (drop at (now (s .entry)))) × (c .width ≡ padLengths (drop at (now (s .entry)))) ⌝ }
+    ensures { λ c.
+        ⌜ (c .value ≡ padBytes (drop at (now (s .entry)))) × (c .width ≡ padLengths (drop at (now (s .entry)))) ⌝ }
     ensures { λ c. ⌜ (c .value ≤ 5000000) × (c .width ≤ 20000) ⌝ }
 {
     let mut n = 0;
@@ -178,7 +182,8 @@ fn shared_run(head: usize, n: usize, room: usize) -> Span
 // The written lengths together; none where they are not written.
 fn firsts_run(s: &[u8], f: Form) -> Coded
     requires { ⌜ Bounded f × (1 ≤ f .count) ⌝ }
-    ensures { λ c. ⌜ (c .value ≡ total (firsts f (now (s .entry)))) × (f .own + f .lens + c .width ≡ head f (now (s .entry))) ⌝ }
+    ensures { λ c.
+        ⌜ (c .value ≡ total (firsts f (now (s .entry)))) × (f .own + f .lens + c .width ≡ head f (now (s .entry))) ⌝ }
     ensures { λ c. ⌜ (c .value ≤ 100000) × (c .width ≤ 200) ⌝ }
 {
     if f.varied {

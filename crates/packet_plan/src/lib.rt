@@ -1,4 +1,5 @@
-// Which packet is written of some sizes, at which length, or why none is (RFC 6716 section 3): before a byte of it is put.
+// Which packet is written of some sizes, at which length, or why none is (RFC 6716 section 3): before a byte of it is
+// put.
 ghost use Prim.Native.Nat.{_+_, _-_, _≤_, _<_};
 ghost use mathlib.Core.Path.{_≡_};
 ghost use mathlib.Core.Bool.{cond};
@@ -108,8 +109,8 @@ fn code_run(sizes: &[u16], same: bool) -> usize
 
 // ---- the plan
 
-// The refusal, or 0; then the packet's length, whether all sizes are one, the code of the shortest arrangement, and the bytes behind the
-// first one or two of a packet without padding.
+// The refusal, or 0; then the packet's length, whether all sizes are one, the code of the shortest arrangement, and
+// the bytes behind the first one or two of a packet without padding.
 pub struct Plan {
     pub refusal: u32,
     pub length: usize,

@@ -1,3 +1,4 @@
 pub mod PlaceLaws
 pub mod NextLaws
+pub mod TurnLaws
 pub mod CallLaws

@@ -1,5 +1,5 @@
-// Reading a whole packet (RFC 6716 section 3, RFC 8251 section 4): start and size of each frame, what the call answers, and a frame as
-// the part of the packet that it is.
+// Reading a whole packet (RFC 6716 section 3, RFC 8251 section 4): start and size of each frame, what the call
+// answers, and a frame as the part of the packet that it is.
 ghost use Prim.Native.Nat.{_+_, _≤_, _<_};
 ghost use mathlib.Core.Path.{_≡_};
 ghost use mathlib.Core.List.{[], _∷_, _++_};
@@ -26,7 +26,8 @@ pub struct Places {
 // A length all of whose bytes are there.
 fn inside_run(s: &[u8], at: usize) -> Coded
     requires { ⌜ at + widthOf (drop at (now s)) ≤ length (now s) ⌝ }
-    ensures { λ c. ⌜ (c .value ≡ lengthOf (drop at (now (s .entry)))) × (c .width ≡ widthOf (drop at (now (s .entry)))) ⌝ }
+    ensures { λ c.
+        ⌜ (c .value ≡ lengthOf (drop at (now (s .entry)))) × (c .width ≡ widthOf (drop at (now (s .entry)))) ⌝ }
     ensures { λ c. ⌜ (c .value ≤ 1275) × (c .width ≤ 2) ⌝ }
 {
     let first = s[at] as usize;
@@ -61,7 +62,8 @@ fn next_run(s: &[u8], f: Form, last: usize, at: usize, k: usize) -> Coded
     }
 }
 
-// Up to four frames. Each turn's places are constants, so that no array is filled and copied, which would take twice the time.
+// Up to four frames. Each turn's places are constants, so that no array is filled and copied, which would take twice
+// the time.
 fn few_run(s: &[u8], f: Form, head: usize, last: usize) -> Places
     requires { ⌜ Spanned (now s) f head last × (f .count ≤ 4) ⌝ }
     ensures { λ p. ⌜ Stands (sizes f (now (s .entry))) head p ⌝ }

@@ -32,8 +32,7 @@ by-three (suc (suc (suc zero))) x h = refl
 by-three (suc (suc (suc (suc n)))) x h = absurd (omega arith)
 
 pub whole-laid : (c code : ℕ) (v : Bool) (k : ℕ) (ns frames : List ℕ) → code < 4
-    → wholeOf (8 * c + code) (eqb code 3) (countByte (length ns) v k) k v ns frames (padTail k)
-    ≡ laid (8 * c + code) v k ns frames (replicate (padTail k) 0)
+    → wholeOf (8 * c + code) (eqb code 3) k v ns frames ≡ laid (8 * c + code) v k ns frames (replicate (padTail k) 0)
 unfolding laid
 whole-laid c code v k ns frames h =
     let t = 8 * c + code in
@@ -49,39 +48,32 @@ code-less ns true = omega (arith, code-most ns)
 code-less ns false = omega arith
 
 -- the numbers that the code works out
-pub record Worked (ns : List ℕ) (p : Plan) (k x code b z : ℕ) : Type 0 where
+pub record Worked (p : Plan) (k x code : ℕ) : Type 0 where
   pub pads : k ≡ p .length - (2 + p .bare)
   pub least : x ≡ cond (ltb (p .code) 3) 1 2 + p .bare
   pub coded : code ≡ cond (eqb (p .length) x) (p .code) 3
-  pub byte : b ≡ countByte (length ns) (not (p .same)) k
-  pub zeros : z ≡ padTail k
 
 module _ (ns : List ℕ) (p : Plan) (q : (p .same ≡ alike ns) × (p .code ≡ shortestCode ns) × (p .bare ≡ bare ns)) where
-  pub code-is : (x code : ℕ) → x ≡ cond (ltb (p .code) 3) 1 2 + p .bare → code ≡ cond (eqb (p .length) x) (p .code) 3
-      → code ≡ cond (eqb (p .length) (shortest ns)) (shortestCode ns) 3
-  code-is x code e f =
-      f ∙ ap (λ (n : ℕ). cond (eqb (p .length) n) (p .code) 3) (shortest-is ns (p .code) (p .bare) x (q .1) (q .2) e)
+  code-is : {k x code : ℕ} → Worked p k x code → code ≡ cond (eqb (p .length) (shortest ns)) (shortestCode ns) 3
+  code-is {k} {x} {code} r =
+      r .coded ∙ ap (λ (n : ℕ). cond (eqb (p .length) n) (p .code) 3)
+      (shortest-is ns (p .code) (p .bare) x (q .1) (q .2) (r .least))
       ∙ ap (λ (n : ℕ). cond (eqb (p .length) (shortest ns)) n 3) (q .1)
 
-  pub code-four : (x code : ℕ) → x ≡ cond (ltb (p .code) 3) 1 2 + p .bare → code ≡ cond (eqb (p .length) x) (p .code) 3 → code < 4
-  code-four x code e f = omega (arith, code-is x code e f, code-less ns (eqb (p .length) (shortest ns)))
+  pub code-four : {k x code : ℕ} → Worked p k x code → code < 4
+  code-four r = omega (arith, code-is r, code-less ns (eqb (p .length) (shortest ns)))
 
-  pub whole-is : (c : ℕ) (frames : List ℕ) (k x code b z : ℕ) → Worked ns p k x code b z
-      → wholeOf (8 * c + code) (eqb code 3) b k (not (p .same)) ns frames z ≡ packetOf c ns frames (p .length)
+  pub whole-is : (c : ℕ) (frames : List ℕ) {k x code : ℕ} → Worked p k x code
+      → wholeOf (8 * c + code) (eqb code 3) k (not (p .same)) ns frames ≡ packetOf c ns frames (p .length)
   unfolding packetOf
-  whole-is c frames k x code b z r =
+  whole-is c frames {k} {x} {code} r =
       let v : not (p .same) ≡ not (alike ns) = ap not (q .0) in
-      let j : k ≡ p .length - (2 + bare ns) = r .pads ∙ ap (λ (n : ℕ). p .length - (2 + n)) (q .2) in
-      let d = code-is x code (r .least) (r .coded) in
-      ap (λ (n : ℕ). wholeOf (8 * c + code) (eqb code 3) n k (not (p .same)) ns frames z) (r .byte)
-      ∙ ap (λ (n : ℕ). wholeOf (8 * c + code) (eqb code 3) (countByte (length ns) (not (p .same)) k) k (not (p .same)) ns frames n)
-      (r .zeros)
-      ∙ ap (λ (u : Bool). wholeOf (8 * c + code) (eqb code 3) (countByte (length ns) u k) k u ns frames (padTail k)) v
-      ∙ ap (λ (n : ℕ). wholeOf (8 * c + code) (eqb code 3) (countByte (length ns) (not (alike ns)) n) n (not (alike ns)) ns frames
-      (padTail n)) j
-      ∙ whole-laid c code (not (alike ns)) (p .length - (2 + bare ns)) ns frames (code-four x code (r .least) (r .coded))
-      ∙ ap (λ (n : ℕ). laid (8 * c + n) (not (alike ns)) (p .length - (2 + bare ns)) ns frames
-      (replicate (padTail (p .length - (2 + bare ns))) 0)) d
+      let m = p .length - (2 + bare ns) in
+      let j : k ≡ m = r .pads ∙ ap (λ (n : ℕ). p .length - (2 + n)) (q .2) in
+      ap (λ (u : Bool). wholeOf (8 * c + code) (eqb code 3) k u ns frames) v
+      ∙ ap (λ (n : ℕ). wholeOf (8 * c + code) (eqb code 3) n (not (alike ns)) ns frames) j
+      ∙ whole-laid c code (not (alike ns)) m ns frames (code-four r)
+      ∙ ap (λ (n : ℕ). laid (8 * c + n) (not (alike ns)) m ns frames (replicate (padTail m) 0)) (code-is r)
 
 pub small-most : (ns : List ℕ) → every fitsFrame ns ≡ true → AtMost 1275 ns
 small-most ns e i =

@@ -3,7 +3,8 @@ use Prim.Native.Nat.{ℕ, _-_}
 use mathlib.Core.Bool.{Bool, cond}
 use mathlib.Core.List.{List, [], _∷_, _++_}
 use lib.ListN.{length, replicate}
-use Rattle.framing.specs.Padding.{padCode}
+use Rattle.framing.specs.Padding.{padCode, padTail}
+use Rattle.framing.specs.Writing.{countByte}
 use Rattle.numerals.specs.Put.{Put}
 use Rattle.packet_plan.specs.Inner.{codesOf}
 
@@ -19,5 +20,7 @@ frontOf toc three b k = toc ∷ cond three (b ∷ padCode k) []
 abbrev pub middleOf : Bool → List ℕ → List ℕ
 middleOf varied ns = cond varied (codesOf ns (length ns - 1)) []
 
-abbrev pub wholeOf : ℕ → Bool → ℕ → ℕ → Bool → List ℕ → List ℕ → ℕ → List ℕ
-wholeOf toc three b k varied ns frames zeros = frontOf toc three b k ++ (middleOf varied ns ++ (frames ++ replicate zeros 0))
+-- all of it: then the frames, and the padding's bytes
+abbrev pub wholeOf : ℕ → Bool → ℕ → Bool → List ℕ → List ℕ → List ℕ
+wholeOf toc three k varied ns frames =
+    frontOf toc three (countByte (length ns) varied k) k ++ (middleOf varied ns ++ (frames ++ replicate (padTail k) 0))

@@ -53,7 +53,8 @@ fn put_length_run(out: &mut [u8], at: usize, n: usize) -> usize
 
 // The lengths of the first n frames.
 fn put_lengths_run(out: &mut [u8], at: usize, sizes: &[u16], n: usize) -> usize
-    requires { ⌜ (n ≤ length (now sizes)) × AtMost 1275 (now sizes) × (at + length (codesOf (now sizes) n) ≤ length (now out)) ⌝ }
+    requires { ⌜ (n ≤ length (now sizes)) × AtMost 1275 (now sizes)
+        × (at + length (codesOf (now sizes) n) ≤ length (now out)) ⌝ }
     ensures { λ r. ⌜ Puts (now (out .entry)) at (codesOf (now (sizes .entry)) n) (now (out .exit)) r ⌝ }
 {
     let mut place = at;
@@ -96,7 +97,8 @@ fn put_front_run(out: &mut [u8], toc: u8, three: bool, b: u8, k: usize) -> usize
 }
 
 fn put_middle_run(out: &mut [u8], at: usize, varied: bool, sizes: &[u16]) -> usize
-    requires { ⌜ (1 ≤ length (now sizes)) × AtMost 1275 (now sizes) × (at + length (middleOf varied (now sizes)) ≤ length (now out)) ⌝ }
+    requires { ⌜ (1 ≤ length (now sizes)) × AtMost 1275 (now sizes)
+        × (at + length (middleOf varied (now sizes)) ≤ length (now out)) ⌝ }
     ensures { λ r. ⌜ Puts (now (out .entry)) at (middleOf varied (now (sizes .entry))) (now (out .exit)) r ⌝ }
 {
     if varied {
@@ -104,48 +106,6 @@ fn put_middle_run(out: &mut [u8], at: usize, varied: bool, sizes: &[u16]) -> usi
         return put_lengths_run(out, at, sizes, n);
     }
     at
-}
-
-fn put_whole_run(
-    out: &mut [u8],
-    toc: u8,
-    three: bool,
-    b: u8,
-    k: usize,
-    varied: bool,
-    sizes: &[u16],
-    frames: &[u8],
-    zeros: usize,
-) -> usize
-    requires { ⌜ (k ≤ 16384) × (1 ≤ length (now sizes)) × AtMost 1275 (now sizes) ⌝ }
-    requires { ⌜ length (wholeOf toc three b k varied (now sizes) (now frames) zeros) ≤ length (now out) ⌝ }
-    ensures { λ r.
-        ⌜ Puts (now (out .entry)) 0 (wholeOf toc three b k varied (now (sizes .entry)) (now (frames .entry)) zeros) (now (out .exit)) r ⌝ }
-{
-    let first = put_front_run(out, toc, three, b, k);
-    let second = put_middle_run(out, first, varied, sizes);
-    let third = put_word_run(out, second, frames);
-    put_same_run(out, third, zeros, 0)
-}
-
-// ---- the call
-
-fn less(a: usize, b: usize) -> usize
-    ensures { λ r. ⌜ r ≡ a - b ⌝ }
-{
-    if b <= a {
-        return a - b;
-    }
-    0
-}
-
-fn final_code(code: usize, m: usize, shortest: usize) -> usize
-    ensures { λ r. ⌜ r ≡ cond (eqb m shortest) code 3 ⌝ }
-{
-    if m == shortest {
-        return code;
-    }
-    3
 }
 
 fn flag(t: bool) -> usize
@@ -176,22 +136,66 @@ fn tail_run(k: usize) -> usize
     n - n / 255
 }
 
+// The first byte, in arrangement 3 the count byte and the padding's length bytes, the written lengths, the frames, and
+// the padding's bytes.
+fn put_whole_run(
+    out: &mut [u8],
+    toc: u8,
+    three: bool,
+    k: usize,
+    varied: bool,
+    sizes: &[u16],
+    frames: &[u8],
+) -> usize
+    requires { ⌜ (k ≤ 16384) × (1 ≤ length (now sizes)) × (length (now sizes) ≤ 12) × AtMost 1275 (now sizes) ⌝ }
+    requires { ⌜ length (wholeOf toc three k varied (now sizes) (now frames)) ≤ length (now out) ⌝ }
+    ensures { λ r.
+        ⌜ Puts (now (out .entry)) 0 (wholeOf toc three k varied (now (sizes .entry)) (now (frames .entry)))
+        (now (out .exit)) r ⌝ }
+{
+    let b = count_byte(sizes.len(), varied, k) as u8;
+    let zeros = tail_run(k);
+    let first = put_front_run(out, toc, three, b, k);
+    let second = put_middle_run(out, first, varied, sizes);
+    let third = put_word_run(out, second, frames);
+    put_same_run(out, third, zeros, 0)
+}
+
+// ---- the call
+
+fn less(a: usize, b: usize) -> usize
+    ensures { λ r. ⌜ r ≡ a - b ⌝ }
+{
+    if b <= a {
+        return a - b;
+    }
+    0
+}
+
+fn final_code(code: usize, m: usize, shortest: usize) -> usize
+    ensures { λ r. ⌜ r ≡ cond (eqb m shortest) code 3 ⌝ }
+{
+    if m == shortest {
+        return code;
+    }
+    3
+}
+
 fn write_run(buf: &mut [u8], c: usize, frames: &[u8], sizes: &[u16], p: Plan) -> usize
     requires { ⌜ Writable (length (now buf)) c (length (now frames)) (now sizes) (p .length) ⌝ }
     requires { ⌜ (p .same ≡ alike (now sizes)) × (p .code ≡ shortestCode (now sizes)) × (p .bare ≡ bareOf (now sizes)) ⌝ }
-    ensures { λ r. ⌜ now (buf .exit) ≡ sets (now (buf .entry)) 0 (packetOf c (now (sizes .entry)) (now (frames .entry)) (p .length)) ⌝ }
+    ensures { λ r.
+        ⌜ now (buf .exit) ≡
+        sets (now (buf .entry)) 0 (packetOf c (now (sizes .entry)) (now (frames .entry)) (p .length)) ⌝ }
 {
     let m = p.length;
     let k = less(m, 2 + p.bare);
     let shortest = own_run(p.code, p.bare);
     let code = final_code(p.code, m, shortest);
     let varied = !p.same;
-    let n = sizes.len();
-    let b = count_byte(n, varied, k) as u8;
-    let zeros = tail_run(k);
     let toc = (8 * c + code) as u8;
     let three = code == 3;
-    put_whole_run(buf, toc, three, b, k, varied, sizes, frames, zeros)
+    put_whole_run(buf, toc, three, k, varied, sizes, frames)
 }
 
 // A packet written into a lent buffer, or why it is not.

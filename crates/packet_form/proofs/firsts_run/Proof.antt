@@ -8,15 +8,6 @@ use Rattle.framing.proofs.Kept.{head-varied, head-equal, firsts-varied, none-fi
 use Rattle.packet_form.proofs.firsts_run.Statement.{statement}
 use Rattle.packet_form.proofs.firsts_run.Tie as tie
 
-add-at : tie.Need-add-at
-add-at c = search needs
-
-sub-n : tie.Need-sub-n
-sub-n c = search needs
-
-lengths-run-requires : tie.Need-lengths-run-requires
-lengths-run-requires c κs = search needs
-
 returns : tie.Need-returns
 returns c =
     let b = c .before .before .before in
@@ -38,4 +29,5 @@ returns-2 c =
     ((sym (none-first (a .f) (a .s .now) v), omega (arith, head-equal (a .f) (a .s .now) v)), (omega arith, omega arith))
 
 pub firsts-run-spec : {M : Type 1} → statement M
-firsts-run-spec = tie.close (tie.spec add-at sub-n lengths-run-requires returns returns-2)
+firsts-run-spec = tie.close
+    (tie.spec (λ c. search needs) (λ c. search needs) (λ c κs. search needs) returns returns-2)

@@ -26,21 +26,12 @@ code-is s b n e h = ap (λ (x : ℕ). x % 4) (sym e) ∙ h
 code-three : (s : List ℕ) (b : ℕ) → b ≡ getD s 0 0 → (b % 4 ≡ 0 → ⊥) → (b % 4 ≡ 1 → ⊥) → (b % 4 ≡ 2 → ⊥) → codeOf s ≡ 3
 code-three s b e h i j = code-is s b 3 e (omega arith)
 
-byte-at-requires : tie.Need-byte-at-requires
-byte-at-requires c κs = search needs
-
-plain-requires : tie.Need-plain-requires
-plain-requires c κs = search needs
-
 returns : tie.Need-returns
 returns c =
     let b = c .before .before in
     let s = b .before .before .args .s .now in
     plainly s _ (plainOf 1 false) (c .plain .ensures) (form-0 s (code-is s _ 0 (b .byte-at .ensures .0) (c .before .if1 .taken)))
     (omega arith)
-
-plain-requires-2 : tie.Need-plain-requires-2
-plain-requires-2 c κs = search needs
 
 returns-2 : tie.Need-returns-2
 returns-2 c =
@@ -49,21 +40,12 @@ returns-2 c =
     plainly s _ (plainOf 2 false) (c .plain2 .ensures) (form-1 s (code-is s _ 1 (b .byte-at .ensures .0) (c .before .if2 .taken)))
     (omega arith)
 
-plain-requires-3 : tie.Need-plain-requires-3
-plain-requires-3 c κs = search needs
-
 returns-3 : tie.Need-returns-3
 returns-3 c =
     let b = c .before .before .before .before in
     let s = b .before .before .args .s .now in
     plainly s _ (plainOf 2 true) (c .plain3 .ensures) (form-2 s (code-is s _ 2 (b .byte-at .ensures .0) (c .before .if3 .taken)))
     (omega arith)
-
-byte-at-requires-2 : tie.Need-byte-at-requires-2
-byte-at-requires-2 c κs = search needs
-
-padding-run-requires : tie.Need-padding-run-requires
-padding-run-requires c κs = search needs
 
 returns-4 : tie.Need-returns-4
 returns-4 c =
@@ -93,15 +75,5 @@ returns-5 c =
 pub form-run-spec : {M : Type 1} → statement M
 form-run-spec =
     tie.close
-    (tie.spec
-    byte-at-requires
-    plain-requires
-    returns
-    plain-requires-2
-    returns-2
-    plain-requires-3
-    returns-3
-    byte-at-requires-2
-    padding-run-requires
-    returns-4
-    returns-5)
+    (tie.spec (λ c κs. search needs) (λ c κs. search needs) returns (λ c κs. search needs) returns-2
+    (λ c κs. search needs) returns-3 (λ c κs. search needs) (λ c κs. search needs) returns-4 returns-5)

@@ -6,27 +6,12 @@ use Rattle.framing.proofs.Steps.{length-one, length-two}
 use Rattle.packet_form.proofs.length_run.Statement.{statement}
 use Rattle.packet_form.proofs.length_run.Tie as tie
 
-byte-at-requires : tie.Need-byte-at-requires
-byte-at-requires c κs = search needs
-
 returns : tie.Need-returns
 returns c =
     let a = c .before .before .before .args in
     let b = c .before .byte-at .ensures in
     let e = length-one (a .s .now) (a .at) (omega (arith, b .0, c .if1 .taken)) in
     ((b .0 ∙ e .0, e .1), (omega arith, omega arith))
-
-add-byte-at : tie.Need-add-byte-at
-add-byte-at c = search needs
-
-byte-at-requires-2 : tie.Need-byte-at-requires-2
-byte-at-requires-2 c κs = search needs
-
-mul-t6 : tie.Need-mul-t6
-mul-t6 c = search needs
-
-add-t7 : tie.Need-add-t7
-add-t7 c = search needs
 
 returns-2 : tie.Need-returns-2
 returns-2 c =
@@ -37,4 +22,6 @@ returns-2 c =
     ((omega (arith, b .0, d .0, e .0), e .1), (omega arith, omega arith))
 
 pub length-run-spec : {M : Type 1} → statement M
-length-run-spec = tie.close (tie.spec byte-at-requires returns add-byte-at byte-at-requires-2 mul-t6 add-t7 returns-2)
+length-run-spec = tie.close
+    (tie.spec (λ c κs. search needs) returns (λ c. search needs) (λ c κs. search needs) (λ c. search needs)
+    (λ c. search needs) returns-2)

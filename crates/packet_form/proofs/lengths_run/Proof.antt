@@ -61,9 +61,6 @@ abbrev μ-loop : tie.MeasureT-loop
 loop-holds : tie.Need-loop-holds Inv-loop μ-loop
 loop-holds c = start (c .before .args .s .now) (c .before .args .at) (c .before .args .n)
 
-add-length-run : tie.Need-add-length-run Inv-loop μ-loop
-add-length-run c = search needs
-
 length-run-requires : tie.Need-length-run-requires Inv-loop μ-loop
 length-run-requires c κs = omega arith
 
@@ -75,9 +72,6 @@ add-width c = omega arith
 
 add-k : tie.Need-add-k Inv-loop μ-loop
 add-k c = omega arith
-
-loop-less : tie.Need-loop-less Inv-loop μ-loop
-loop-less c = search needs
 
 loop-again : tie.Need-loop-again Inv-loop μ-loop
 loop-again c =
@@ -103,15 +97,5 @@ returns c =
 pub lengths-run-spec : {M : Type 1} → statement M
 lengths-run-spec =
     tie.close
-    (tie.spec
-    Inv-loop
-    μ-loop
-    loop-holds
-    add-length-run
-    length-run-requires
-    add-value
-    add-width
-    add-k
-    loop-less
-    loop-again
-    returns)
+    (tie.spec Inv-loop μ-loop loop-holds (λ c. search needs) length-run-requires add-value add-width add-k
+    (λ c. search needs) loop-again returns)

@@ -42,9 +42,6 @@ loop-holds c = start (c .before .args .s .now) (c .before .args .at)
 add-byte-at : tie.Need-add-byte-at Inv-loop μ-loop
 add-byte-at c = omega arith
 
-byte-at-requires : tie.Need-byte-at-requires Inv-loop μ-loop
-byte-at-requires c κs = search needs
-
 add-n : tie.Need-add-n Inv-loop μ-loop
 add-n c = omega arith
 
@@ -68,9 +65,6 @@ mul-value c = omega arith
 add-byte-at-2 : tie.Need-add-byte-at-2 Inv-loop μ-loop
 add-byte-at-2 c = omega arith
 
-byte-at-requires-2 : tie.Need-byte-at-requires-2 Inv-loop μ-loop
-byte-at-requires-2 c κs = search needs
-
 add-value : tie.Need-add-value Inv-loop μ-loop
 add-value c = omega arith
 
@@ -90,18 +84,5 @@ returns c =
 pub padding-run-spec : {M : Type 1} → statement M
 padding-run-spec =
     tie.close
-    (tie.spec
-    Inv-loop
-    μ-loop
-    loop-holds
-    add-byte-at
-    byte-at-requires
-    add-n
-    loop-less
-    loop-again
-    mul-value
-    add-byte-at-2
-    byte-at-requires-2
-    add-value
-    add-t8
-    returns)
+    (tie.spec Inv-loop μ-loop loop-holds add-byte-at (λ c κs. search needs) add-n loop-less loop-again mul-value
+    add-byte-at-2 (λ c κs. search needs) add-value add-t8 returns)

@@ -23,16 +23,10 @@ one h room a e = even-share h 1 room a (e ∙ ap (λ (m : ℕ). closedOf h m) (s
 of-count : (h m n room : ℕ) (a : Span) → n ≡ m → a ≡ sharedOf h m room → a ≡ sharedOf h n room
 of-count h m n room a q e = e ∙ ap (λ (i : ℕ). sharedOf h i room) (sym q)
 
-closed-requires : tie.Need-closed-requires
-closed-requires c κs = search needs
-
 returns : tie.Need-returns
 returns c =
     let a = c .before .before .args in
     of-count (a .head) 1 (a .n) (a .room) _ (c .before .if1 .taken) (one (a .head) (a .room) _ (c .closed .ensures))
-
-closed-requires-2 : tie.Need-closed-requires-2
-closed-requires-2 c κs = search needs
 
 returns-2 : tie.Need-returns-2
 returns-2 c =
@@ -41,31 +35,16 @@ returns-2 c =
     of-count (a .head) 2 (a .n) (a .room) _ (b .if2 .taken)
     (even-share (a .head) 2 (a .room) _ (c .closed2 .ensures) (c .before .if3 .taken))
 
-none-requires : tie.Need-none-requires
-none-requires c κs = search needs
-
 returns-3 : tie.Need-returns-3
 returns-3 c =
     let b = c .before .before in
     let a = b .before .before .args in
     of-count (a .head) 2 (a .n) (a .room) _ (b .if2 .taken) (uneven (a .head) 2 (a .room) _ (c .none .ensures) (c .before .if3 .left))
 
-rem-if4 : tie.Need-rem-if4
-rem-if4 c = search needs
-
-div-closed : tie.Need-div-closed
-div-closed c = search needs
-
-closed-requires-3 : tie.Need-closed-requires-3
-closed-requires-3 c κs = search needs
-
 returns-4 : tie.Need-returns-4
 returns-4 c =
     let a = c .before .before .before .before .args in
     even-share (a .head) (a .n) (a .room) _ (c .closed3 .ensures) (c .before .if4 .taken)
-
-none-requires-2 : tie.Need-none-requires-2
-none-requires-2 c κs = search needs
 
 returns-5 : tie.Need-returns-5
 returns-5 c =
@@ -75,16 +54,5 @@ returns-5 c =
 pub shared-run-spec : {M : Type 1} → statement M
 shared-run-spec =
     tie.close
-    (tie.spec
-    closed-requires
-    returns
-    closed-requires-2
-    returns-2
-    none-requires
-    returns-3
-    rem-if4
-    div-closed
-    closed-requires-3
-    returns-4
-    none-requires-2
-    returns-5)
+    (tie.spec (λ c κs. search needs) returns (λ c κs. search needs) returns-2 (λ c κs. search needs) returns-3
+    (λ c. search needs) (λ c. search needs) (λ c κs. search needs) returns-4 (λ c κs. search needs) returns-5)

@@ -27,38 +27,11 @@ module _ (s : List ℕ) (f : Form) (e : f ≡ formOf s) (toc : ℕ) (p : toc ≡
       let l : f .count * duration (configOf s) ≤ 1200 = leb-true _ _ (sym (timed s (f .count) toc b p q) ∙ t) in
       record { some = omega arith; time = l; at = h; firstly = x; fits = u }
 
-none-requires : tie.Need-none-requires
-none-requires c κs = search needs
-
 returns : tie.Need-returns
 returns c =
     let a = c .before .before .before .args in
     let p = c .before .before .before .pre .1 in
     c .none .ensures ∙ broken (a .s .now) (a .f) (p .0) (λ k. omega (arith, k .some, c .before .if1 .taken))
-
-byte-at-requires : tie.Need-byte-at-requires
-byte-at-requires c κs = search needs
-
-in-time-requires : tie.Need-in-time-requires
-in-time-requires c κs = search needs
-
-firsts-run-requires : tie.Need-firsts-run-requires
-firsts-run-requires c κs = search needs
-
-add-head : tie.Need-add-head
-add-head c = search needs
-
-add-head-2 : tie.Need-add-head-2
-add-head-2 c = search needs
-
-add-used : tie.Need-add-used
-add-used c = search needs
-
-add-if3 : tie.Need-add-if3
-add-if3 c = search needs
-
-none-requires-2 : tie.Need-none-requires-2
-none-requires-2 c κs = search needs
 
 returns-2 : tie.Need-returns-2
 returns-2 c =
@@ -68,15 +41,6 @@ returns-2 c =
     let r = g .firsts-run .ensures .0 in
     c .none2 .ensures
     ∙ broken (a .s .now) (a .f) (z .before .pre .1 .0) (λ k. omega (arith, k .fits, c .before .if3 .taken, r .0, r .1))
-
-sub-room : tie.Need-sub-room
-sub-room c = search needs
-
-sub-closed : tie.Need-sub-closed
-sub-closed c = search needs
-
-closed-requires : tie.Need-closed-requires
-closed-requires c κs = search needs
 
 returns-3 : tie.Need-returns-3
 returns-3 c =
@@ -93,9 +57,6 @@ returns-3 c =
     (r .0) (r .1) (c .before .before .before .if3 .left) in
     c .closed .ensures ∙ closes-varied (a .s .now) (a .f) e y _ _ h (c .before .before .if4 .taken)
 
-shared-run-requires : tie.Need-shared-run-requires
-shared-run-requires c κs = search needs
-
 returns-4 : tie.Need-returns-4
 returns-4 c =
     let g = c .before .before .before .before .before .before .before in
@@ -111,9 +72,6 @@ returns-4 c =
     (r .0) (r .1) (c .before .before .if3 .left) in
     c .shared-run .ensures ∙ closes-shared (a .s .now) (a .f) e y _ _ h (c .before .if4 .left)
 
-none-requires-3 : tie.Need-none-requires-3
-none-requires-3 c κs = search needs
-
 returns-5 : tie.Need-returns-5
 returns-5 c =
     let b = c .before .before .before in
@@ -126,23 +84,7 @@ returns-5 c =
 pub span-run-spec : {M : Type 1} → statement M
 span-run-spec =
     tie.close
-    (tie.spec
-    none-requires
-    returns
-    byte-at-requires
-    in-time-requires
-    firsts-run-requires
-    add-head
-    add-head-2
-    add-used
-    add-if3
-    none-requires-2
-    returns-2
-    sub-room
-    sub-closed
-    closed-requires
-    returns-3
-    shared-run-requires
-    returns-4
-    none-requires-3
-    returns-5)
+    (tie.spec (λ c κs. search needs) returns (λ c κs. search needs) (λ c κs. search needs) (λ c κs. search needs)
+    (λ c. search needs) (λ c. search needs) (λ c. search needs) (λ c. search needs) (λ c κs. search needs) returns-2
+    (λ c. search needs) (λ c. search needs) (λ c κs. search needs) returns-3 (λ c κs. search needs) returns-4
+    (λ c κs. search needs) returns-5)

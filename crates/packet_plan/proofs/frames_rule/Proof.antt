@@ -12,12 +12,6 @@ returns c =
     let a = c .before .before .args in
     frames-10 (a .config) (a .sizes .now) (λ i j k. omega (arith, c .if1 .taken))
 
-small-run-requires : tie.Need-small-run-requires
-small-run-requires c κs = search needs
-
-in-time-requires : tie.Need-in-time-requires
-in-time-requires c κs = search needs
-
 returns-2 : tie.Need-returns-2
 returns-2 c =
     let t = c .before .before in
@@ -48,4 +42,5 @@ returns-5 c =
 
 pub frames-rule-spec : {M : Type 1} → statement M
 frames-rule-spec =
-    tie.close (tie.spec returns small-run-requires in-time-requires returns-2 returns-3 returns-4 returns-5)
+    tie.close
+    (tie.spec returns (λ c κs. search needs) (λ c κs. search needs) returns-2 returns-3 returns-4 returns-5)

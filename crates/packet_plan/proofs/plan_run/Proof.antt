@@ -10,9 +10,6 @@ use Rattle.packet_plan.proofs.PlanLaws.{stopped}
 use Rattle.packet_plan.proofs.plan_run.Statement.{statement}
 use Rattle.packet_plan.proofs.plan_run.Tie as tie
 
-stop-requires : tie.Need-stop-requires
-stop-requires c κs = search needs
-
 returns : tie.Need-returns
 returns c =
     let a = c .before .before .before .args in
@@ -20,19 +17,10 @@ returns c =
     stopped (a .len) (a .config) (a .n) s (a .length) _ 1 (omega arith) (c .stop .ensures)
     (stops-1 (a .len) (a .config) (a .n) s (a .length) (c .before .if1 .taken))
 
-adds-up-requires : tie.Need-adds-up-requires
-adds-up-requires c κs = search needs
-
 room-run-requires : tie.Need-room-run-requires
 room-run-requires c κs =
     let a = c .before .before .before .before .args in
     (c .before .before .if1 .left, eqb-true (a .n) (total (a .sizes .now)) (sym (c .before .adds-up .ensures) ∙ c .if2 .taken))
-
-returns-2 : tie.Need-returns-2
-returns-2 c = search needs
-
-stop-requires-2 : tie.Need-stop-requires-2
-stop-requires-2 c κs = search needs
 
 returns-3 : tie.Need-returns-3
 returns-3 c =
@@ -45,11 +33,5 @@ returns-3 c =
 pub plan-run-spec : {M : Type 1} → statement M
 plan-run-spec =
     tie.close
-    (tie.spec
-    stop-requires
-    returns
-    adds-up-requires
-    room-run-requires
-    returns-2
-    stop-requires-2
-    returns-3)
+    (tie.spec (λ c κs. search needs) returns (λ c κs. search needs) room-run-requires (λ c. search needs)
+    (λ c κs. search needs) returns-3)

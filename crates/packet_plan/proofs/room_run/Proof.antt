@@ -27,9 +27,6 @@ known ns l w n c x m e d h p q r =
     let s : x ≡ shortest ns = shortest-is ns c (w + n) x p b q in
     record { plain = b; least = s; wanted = r ∙ ap (λ (k : ℕ). cond (eqb l 0) k l) s }
 
-stop-requires : tie.Need-stop-requires
-stop-requires c κs = search needs
-
 returns : tie.Need-returns
 returns c =
     let z = c .before .before .before in
@@ -37,15 +34,6 @@ returns c =
     let s = a .sizes .now in
     too-long (a .len) (a .config) (a .n) s (a .length) _ (z .pre .0) (z .pre .1) (c .stop .ensures)
     (omega (arith, z .pre .1, c .before .if1 .taken, total-bare s))
-
-alike-run-requires : tie.Need-alike-run-requires
-alike-run-requires c κs = search needs
-
-widths-run-requires : tie.Need-widths-run-requires
-widths-run-requires c κs = search needs
-
-stop-requires-2 : tie.Need-stop-requires-2
-stop-requires-2 c κs = search needs
 
 returns-2 : tie.Need-returns-2
 returns-2 c =
@@ -55,20 +43,8 @@ returns-2 c =
     too-long (a .len) (a .config) (a .n) (a .sizes .now) (a .length) _ (z .pre .0) (z .pre .1) (c .stop2 .ensures)
     (w .widths-run .ensures .more (c .before .if2 .taken))
 
-code-run-requires : tie.Need-code-run-requires
-code-run-requires c κs = search needs
-
-add-bare : tie.Need-add-bare
-add-bare c = search needs
-
 own-run-requires : tie.Need-own-run-requires
 own-run-requires c κs = omega (arith, c .before .before .widths-run .ensures .most, c .before .before .before .before .if1 .left)
-
-asked-requires : tie.Need-asked-requires
-asked-requires c κs = search needs
-
-stop-requires-3 : tie.Need-stop-requires-3
-stop-requires-3 c κs = search needs
 
 returns-3 : tie.Need-returns-3
 returns-3 c =
@@ -83,9 +59,6 @@ returns-3 c =
     no-room (a .len) (a .config) (a .n) s (a .length) _ (z .pre .0) (z .pre .1) (c .stop3 .ensures)
     (λ i j. omega (arith, c .before .if3 .taken, k .least, k .wanted))
 
-stop-requires-4 : tie.Need-stop-requires-4
-stop-requires-4 c κs = search needs
-
 returns-4 : tie.Need-returns-4
 returns-4 c =
     let q = c .before .before .before in
@@ -98,9 +71,6 @@ returns-4 c =
     (q .before .before .code-run .ensures) (q .before .own-run .ensures) (q .asked .ensures) in
     no-room (a .len) (a .config) (a .n) s (a .length) _ (z .pre .0) (z .pre .1) (c .stop4 .ensures)
     (λ i j. omega (arith, c .before .if4 .taken, k .wanted))
-
-frames-rule-requires : tie.Need-frames-rule-requires
-frames-rule-requires c κs = search needs
 
 returns-5 : tie.Need-returns-5
 returns-5 c =
@@ -127,20 +97,6 @@ returns-5 c =
 pub room-run-spec : {M : Type 1} → statement M
 room-run-spec =
     tie.close
-    (tie.spec
-    stop-requires
-    returns
-    alike-run-requires
-    widths-run-requires
-    stop-requires-2
-    returns-2
-    code-run-requires
-    add-bare
-    own-run-requires
-    asked-requires
-    stop-requires-3
-    returns-3
-    stop-requires-4
-    returns-4
-    frames-rule-requires
-    returns-5)
+    (tie.spec (λ c κs. search needs) returns (λ c κs. search needs) (λ c κs. search needs) (λ c κs. search needs)
+    returns-2 (λ c κs. search needs) (λ c. search needs) own-run-requires (λ c κs. search needs)
+    (λ c κs. search needs) returns-3 (λ c κs. search needs) returns-4 (λ c κs. search needs) returns-5)

@@ -20,29 +20,11 @@ Inv-loop sizes n width₀ k₀ width k = (k ≤ n) × (width ≡ length (codesOf
 abbrev μ-loop : tie.MeasureT-loop
 μ-loop sizes n width₀ k₀ width k = n - k
 
-sub-n : tie.Need-sub-n Inv-loop μ-loop
-sub-n c = search needs
-
 loop-holds : tie.Need-loop-holds Inv-loop μ-loop
 loop-holds c = (omega arith, none, omega arith)
 
-mul-bytes-of : tie.Need-mul-bytes-of Inv-loop μ-loop
-mul-bytes-of c = search needs
-
-shared-slice-read-bytes-of : tie.Need-shared-slice-read-bytes-of Inv-loop μ-loop
-shared-slice-read-bytes-of c = search needs
-
-bytes-of-requires : tie.Need-bytes-of-requires Inv-loop μ-loop
-bytes-of-requires c κs = search needs
-
 add-width : tie.Need-add-width Inv-loop μ-loop
 add-width c = omega arith
-
-add-k : tie.Need-add-k Inv-loop μ-loop
-add-k c = search needs
-
-loop-less : tie.Need-loop-less Inv-loop μ-loop
-loop-less c = search needs
 
 loop-again : tie.Need-loop-again Inv-loop μ-loop
 loop-again c =
@@ -65,16 +47,5 @@ returns c =
 pub width-run-spec : {M : Type 1} → statement M
 width-run-spec =
     tie.close
-    (tie.spec
-    Inv-loop
-    μ-loop
-    sub-n
-    loop-holds
-    mul-bytes-of
-    shared-slice-read-bytes-of
-    bytes-of-requires
-    add-width
-    add-k
-    loop-less
-    loop-again
-    returns)
+    (tie.spec Inv-loop μ-loop (λ c. search needs) loop-holds (λ c. search needs) (λ c. search needs)
+    (λ c κs. search needs) add-width (λ c. search needs) (λ c. search needs) loop-again returns)

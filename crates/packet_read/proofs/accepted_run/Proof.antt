@@ -19,24 +19,12 @@ answer : (s : List ℕ) (f : Form) (head last toc : ℕ) (p : Places) (a : Packe
 answer s f head last toc p a r t q e =
     e ∙ answered s f (r .form) (r .rules) toc t head (r .head) (p .start) (p .size) (q .size) (q .start)
 
-few-run-requires : tie.Need-few-run-requires
-few-run-requires c κs = search needs
-
-answer-run-requires : tie.Need-answer-run-requires
-answer-run-requires c κs = search needs
-
 returns : tie.Need-returns
 returns c =
     let z = c .before .before .before .before .before in
     let a = z .args in
     answer (a .s .now) (a .f) (a .head) (a .last) (a .toc) _ _ (z .pre .0) (z .pre .2) (c .before .few-run .ensures)
     (c .answer-run .ensures)
-
-many-run-requires : tie.Need-many-run-requires
-many-run-requires c κs = search needs
-
-answer-run-requires-2 : tie.Need-answer-run-requires-2
-answer-run-requires-2 c κs = search needs
 
 returns-2 : tie.Need-returns-2
 returns-2 c =
@@ -47,4 +35,6 @@ returns-2 c =
 
 pub accepted-run-spec : {M : Type 1} → statement M
 accepted-run-spec =
-    tie.close (tie.spec few-run-requires answer-run-requires returns many-run-requires answer-run-requires-2 returns-2)
+    tie.close
+    (tie.spec (λ c κs. search needs) (λ c κs. search needs) returns (λ c κs. search needs) (λ c κs. search needs)
+    returns-2)

@@ -1,121 +1,61 @@
--- `each_run` meets its contract. The loop's invariant: the first k frames stand in their places. Its measure: how many are left.
--- Assumes nothing.
+-- `each_run` meets its contract. The loop's invariant: a turn begins. Its measure: how many frames are left. Assumes
+-- nothing.
 use borrow.Author.Needs.{needs}
-use Prim.Native.Nat.{_-_}
+use Prim.Native.Nat.{_+_, _-_, _≤_, _<_}
 use native.Mathlib.Omega.{arith}
-use Rattle.framing.specs.Form.{sizes}
-use Rattle.packet_read.proofs.PlaceLaws.{First, none-yet, one-more, all-stand}
-use Rattle.packet_read.proofs.NextLaws.{Reads, many, start-near, begun, next-of, read-on}
+use Rattle.packet_read.proofs.TurnLaws.{Turn, turn-start, turn-near, turn-next, turn-more, turn-end}
 use Rattle.packet_read.proofs.each_run.Statement.{statement}
 use Rattle.packet_read.proofs.each_run.Tie as tie
 
 abbrev Inv-loop : tie.InvT-loop
-Inv-loop s f head last p₀ n at₀ place₀ k₀ p at place k = First (sizes f s) head (p .start) (p .size) place k × Reads s f at k
+Inv-loop s f head last p₀ n at₀ place₀ k₀ p at place k = Turn s f head (p .start) (p .size) at place k
 
 abbrev μ-loop : tie.MeasureT-loop
 μ-loop s f head last p₀ n at₀ place₀ k₀ p at place k = n - k
 
-add-at : tie.Need-add-at Inv-loop μ-loop
-add-at c = search needs
+abbrev start : tie.At-loop Inv-loop μ-loop → tie.Start Inv-loop μ-loop
+start b = b .before .before .before
+
+below : (c : tie.In-loop Inv-loop μ-loop) → c .before .loop .k < 12
+below c = omega (arith, c .loop-test .taken, start (c .before) .pre .1)
+
+near : (c : tie.In-loop Inv-loop μ-loop) → (c .before .loop .place + 1275 ≤ 31684) × (c .before .loop .at ≤ 20024)
+near c = turn-near (start (c .before) .pre .0) (c .before .loop .inv) (below c)
 
 loop-holds : tie.Need-loop-holds Inv-loop μ-loop
-loop-holds c =
-    let z = c .before .before in
-    let a = z .args in
-    (none-yet (sizes (a .f) (a .s .now)) (a .head), begun (a .s .now) (a .f) (a .head) (a .last) (z .pre .0))
+loop-holds c = turn-start (c .before .before .pre .0)
 
 next-run-requires : tie.Need-next-run-requires Inv-loop μ-loop
-next-run-requires c κs =
-    let b = c .before in
-    let z = b .before .before .before in
-    let a = z .args in
-    next-of (a .s .now) (a .f) (a .head) (a .last) (z .pre .0) _ _ (b .loop .inv .1) (omega (arith, c .loop-test .taken))
+next-run-requires c κs = turn-next (start (c .before) .pre .0) (c .before .loop .inv) (omega (arith, c .loop-test .taken))
 
-cast-p : tie.Need-cast-p Inv-loop μ-loop
-cast-p c =
-    let b = c .before .before in
-    let z = b .before .before .before in
-    let a = z .args in
-    let h = start-near (a .s .now) (a .f) (a .head) (a .last) (z .pre .0) in
-    omega (arith, b .loop .inv .0 .near, h, c .before .loop-test .taken, z .pre .1)
-
-mul-p : tie.Need-mul-p Inv-loop μ-loop
-mul-p c = omega (arith, c .before .loop-test .taken, c .before .before .before .before .before .pre .1)
-
-element-write-p : tie.Need-element-write-p Inv-loop μ-loop
-element-write-p c = omega (arith, c .before .loop-test .taken, c .before .before .before .before .before .pre .1)
-
-cast-p-2 : tie.Need-cast-p-2 Inv-loop μ-loop
-cast-p-2 c = omega (arith, c .before .next-run .ensures .small)
-
-mul-p-2 : tie.Need-mul-p-2 Inv-loop μ-loop
-mul-p-2 c = omega (arith, c .before .before .loop-test .taken, c .before .before .before .before .before .before .pre .1)
-
-element-write-p-2 : tie.Need-element-write-p-2 Inv-loop μ-loop
-element-write-p-2 c = omega (arith, c .before .before .loop-test .taken, c .before .before .before .before .before .before .pre .1)
-
-add-at-2 : tie.Need-add-at-2 Inv-loop μ-loop
-add-at-2 c =
-    let n = c .before .before in
-    let b = n .before .before in
-    omega (arith, b .loop .inv .1 .close, n .next-run .ensures .short, n .before .loop-test .taken, b .before .before .before .pre .1)
+add-at : tie.Need-add-at-2 Inv-loop μ-loop
+add-at c = let n = c .before .before in omega (arith, near (n .before) .1, n .next-run .ensures .short)
 
 add-place : tie.Need-add-place Inv-loop μ-loop
-add-place c =
-    let n = c .before .before .before in
-    let b = n .before .before in
-    let z = b .before .before .before in
-    let a = z .args in
-    let h = start-near (a .s .now) (a .f) (a .head) (a .last) (z .pre .0) in
-    omega (arith, b .loop .inv .0 .near, h, n .before .loop-test .taken, n .next-run .ensures .small, z .pre .1)
-
-add-k : tie.Need-add-k Inv-loop μ-loop
-add-k c = omega (arith, c .before .before .before .before .loop-test .taken)
-
-loop-less : tie.Need-loop-less Inv-loop μ-loop
-loop-less c = omega (arith, c .before .before .before .before .loop-test .taken)
+add-place c = let n = c .before .before .before in omega (arith, near (n .before) .0, n .next-run .ensures .small)
 
 loop-again : tie.Need-loop-again Inv-loop μ-loop
 loop-again c =
     let n = c .before .before .before in
     let b = n .before .before in
-    let z = b .before .before .before in
-    let a = z .args in
-    let r = n .next-run .ensures in
-    let m = many (a .s .now) (a .f) (a .head) (a .last) (z .pre .0) in (
-      one-more (sizes (a .f) (a .s .now)) (a .head) _ _ _ _ _ (b .loop .inv .0) (omega (arith, m, z .pre .1))
-          (omega (arith, m, n .before .loop-test .taken))
-          (r .value) (r .small),
-      read-on (a .s .now) (a .f) _ _ _ (b .loop .inv .1) r,
-    )
+    turn-more (start b .pre .0) (start b .pre .1) (b .loop .inv) (omega (arith, n .before .loop-test .taken)) (n .next-run .ensures)
 
 returns : tie.Need-returns Inv-loop μ-loop
-returns c =
-    let b = c .before in
-    let z = b .before .before .before in
-    let a = z .args in
-    let m = many (a .s .now) (a .f) (a .head) (a .last) (z .pre .0) in
-    all-stand (sizes (a .f) (a .s .now)) (a .head) (b .loop .p) _ _ (b .loop .inv .0)
-    (omega (arith, m, c .loop-test .left, b .loop .inv .0 .most))
+returns c = let b = c .before in turn-end (b .loop .p) (start b .pre .0) (b .loop .inv) (omega (arith, c .loop-test .left))
 
 pub each-run-spec : {M : Type 1} → statement M
 each-run-spec =
     tie.close
-    (tie.spec
-    Inv-loop
-    μ-loop
+    (tie.spec Inv-loop μ-loop (λ c. search needs) loop-holds next-run-requires
+    (λ c. omega (arith, near (c .before) .0))
+    (λ c. omega (arith, below (c .before)))
+    (λ c. omega (arith, below (c .before)))
+    (λ c. omega (arith, c .before .next-run .ensures .small))
+    (λ c. omega (arith, below (c .before .before)))
+    (λ c. omega (arith, below (c .before .before)))
     add-at
-    loop-holds
-    next-run-requires
-    cast-p
-    mul-p
-    element-write-p
-    cast-p-2
-    mul-p-2
-    element-write-p-2
-    add-at-2
     add-place
-    add-k
-    loop-less
+    (λ c. omega (arith, below (c .before .before .before .before)))
+    (λ c. omega (arith, c .before .before .before .before .loop-test .taken))
     loop-again
     returns)

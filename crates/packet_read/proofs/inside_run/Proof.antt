@@ -20,9 +20,6 @@ returns c =
     let e = length-one (a .s .now) (a .at) (c .if1 .taken) in
     (e, (omega arith, omega arith))
 
-add-second : tie.Need-add-second
-add-second c = search needs
-
 shared-slice-read-second : tie.Need-shared-slice-read-second
 shared-slice-read-second c =
     let a = c .before .before .before .args in
@@ -50,13 +47,5 @@ returns-2 c =
 pub inside-run-spec : {M : Type 1} → statement M
 inside-run-spec =
     tie.close
-    (tie.spec
-    shared-slice-read-first
-    cast-first
-    returns
-    add-second
-    shared-slice-read-second
-    cast-second
-    mul-t8
-    add-t10
-    returns-2)
+    (tie.spec shared-slice-read-first cast-first returns (λ c. search needs) shared-slice-read-second cast-second
+    mul-t8 add-t10 returns-2)

@@ -27,17 +27,11 @@ module _ (s : List ℕ) (f : Form) (head last : ℕ) (p : Spanned s f head last)
   ones : f .varied ≡ true → head ≡ f .own + f .lens + (f .count - 1) → widths (f .count - 1) (behind f s) ≡ f .count - 1
   ones v e = omega (arith, head-is s f (p .form) (p .rules) head (p .head), head-varied f s v)
 
-add-at : tie.Need-add-at
-add-at c = search needs
-
 sub-n : tie.Need-sub-n
 sub-n c =
     let z = c .before .before .before .before in
     let a = z .args in
     omega (arith, some (a .s .now) (a .f) (a .head) (a .last) (z .pre .0))
-
-add-if2 : tie.Need-add-if2
-add-if2 c = search needs
 
 bytes-run-requires : tie.Need-bytes-run-requires
 bytes-run-requires c κs =
@@ -59,11 +53,7 @@ returns c =
     let e = sizes-read (a .s .now) (a .f) (p .form) (a .last) (p .last) (c .before .before .before .before .if1 .taken) in
     subst (λ (ns : List ℕ). Stands ns (a .head) (c .bytes-run .result)) e (c .bytes-run .ensures)
 
-each-run-requires : tie.Need-each-run-requires
-each-run-requires c κs = search needs
-
-returns-2 : tie.Need-returns-2
-returns-2 c = search needs
-
 pub many-run-spec : {M : Type 1} → statement M
-many-run-spec = tie.close (tie.spec add-at sub-n add-if2 bytes-run-requires returns each-run-requires returns-2)
+many-run-spec = tie.close
+    (tie.spec (λ c. search needs) sub-n (λ c. search needs) bytes-run-requires returns (λ c κs. search needs)
+    (λ c. search needs))

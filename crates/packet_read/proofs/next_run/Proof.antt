@@ -8,9 +8,6 @@ use Rattle.packet_read.proofs.CallLaws.{last-small}
 use Rattle.packet_read.proofs.next_run.Statement.{statement}
 use Rattle.packet_read.proofs.next_run.Tie as tie
 
-add-if2 : tie.Need-add-if2
-add-if2 c = search needs
-
 inside-run-requires : tie.Need-inside-run-requires
 inside-run-requires c κs =
     let z = c .before .before .before .before in
@@ -55,4 +52,5 @@ returns-3 c =
     }
 
 pub next-run-spec : {M : Type 1} → statement M
-next-run-spec = tie.close (tie.spec add-if2 inside-run-requires returns returns-2 returns-3)
+next-run-spec = tie.close
+    (tie.spec (λ c. search needs) inside-run-requires returns returns-2 returns-3)

@@ -21,9 +21,6 @@ returns-3 c =
     let a = c .before .before .before .args in
     sym (too-many (a .count) (a .config) (omega (arith, c .before .if2 .left)) (c .if3 .taken))
 
-duration-run-requires : tie.Need-duration-run-requires
-duration-run-requires c κs = search needs
-
 mul-result : tie.Need-mul-result
 mul-result c =
     let a = c .before .before .before .before .args in
@@ -38,4 +35,5 @@ returns-4 c =
     ap (λ (d : ℕ). leb (a .count * d) 1200) (c .duration-run .ensures)
 
 pub in-time-spec : {M : Type 1} → statement M
-in-time-spec = tie.close (tie.spec returns returns-2 returns-3 duration-run-requires mul-result returns-4)
+in-time-spec = tie.close
+    (tie.spec returns returns-2 returns-3 (λ c κs. search needs) mul-result returns-4)

@@ -21,43 +21,44 @@ planned : (len c n : ℕ) (ns : List ℕ) (l : ℕ) (p : Plan) → Planned len c
 planned len c n ns l p d z =
     subst (λ (m : ℕ). Writable len c n ns m) (sym (d .runs z .length)) (writable len c n ns l (sym (d .rule) ∙ z))
 
-plan-run-requires : tie.Need-plan-run-requires
-plan-run-requires c κs = search needs
+abbrev plan : tie.Then1 → tie.After-plan-run
+plan t = t .before .before
 
-cast-m : tie.Need-cast-m
-cast-m c =
-    let a = c .before .before .before .before .before .before .before .args in
-    let d = c .before .before .before .plan-run .ensures in
-    let f = d .runs (c .before .if1 .taken) in
-    let w = planned (length (a .buf .now)) (a .config) (length (a .frames .now)) (a .sizes .now) (a .length) _ d (c .before .if1 .taken) in
-    omega (arith, w .room, w .buffer)
+abbrev start : tie.After-plan-run → tie.Start
+start p = p .before .before .before .before
+
+fits : (t : tie.Then1)
+    → Writable (length (start (plan t) .args .buf .now)) (start (plan t) .args .config) (length (start (plan t) .args .frames .now))
+    (start (plan t) .args .sizes .now) (plan t .plan-run .result .length)
+fits t =
+    let a = start (plan t) .args in
+    planned (length (a .buf .now)) (a .config) (length (a .frames .now)) (a .sizes .now) (a .length) _ (plan t .plan-run .ensures)
+    (t .if1 .taken)
 
 write-run-requires : tie.Need-write-run-requires
 write-run-requires c κs =
-    let a = c .before .before .before .before .before .before .before .before .args in
-    let d = c .before .before .before .before .plan-run .ensures in
-    let z = c .before .before .if1 .taken in
-    let f = d .runs z in
-    (planned (length (a .buf .now)) (a .config) (length (a .frames .now)) (a .sizes .now) (a .length) _ d z, (f .same, f .code, f .bare))
-
-same-length : tie.Need-same-length
-same-length c = search needs
+    let t = c .before .before in
+    let f = plan t .plan-run .ensures .runs (t .if1 .taken) in
+    (fits t, (f .same, f .code, f .bare))
 
 returns : tie.Need-returns
 returns c =
-    let a = c .before .before .before .before .before .before .before .before .before .before .before .args in
-    let d = c .before .before .before .before .before .before .before .plan-run .ensures in
-    let z = c .before .before .before .before .before .if1 .taken in
-    ap (λ (b : List ℕ). made b 0 (c .before .before .before .before .before .before .before .plan-run .result .length))
-    (c .before .before .write-run .ensures)
-    ∙ wrote-is (a .buf .now) (a .config) (a .frames .now) (a .sizes .now) (a .length) _ (sym (d .rule) ∙ z) (d .runs z .length)
+    let w = c .before .before in
+    let t = w .before .before .before in
+    let a = start (plan t) .args in
+    let d = plan t .plan-run .ensures in
+    ap (λ (b : List ℕ). made b 0 (plan t .plan-run .result .length)) (w .write-run .ensures)
+    ∙ wrote-is (a .buf .now) (a .config) (a .frames .now) (a .sizes .now) (a .length) _ (sym (d .rule) ∙ t .if1 .taken)
+    (d .runs (t .if1 .taken) .length)
 
 returns-2 : tie.Need-returns-2
 returns-2 c =
-    let a = c .before .before .before .before .before .before .args in
-    kept-is (a .buf .now) (a .config) (a .frames .now) (a .sizes .now) (a .length) _ (c .before .before .plan-run .ensures .rule)
-    (c .if1 .left)
+    let p = c .before .before in
+    let a = start p .args in
+    kept-is (a .buf .now) (a .config) (a .frames .now) (a .sizes .now) (a .length) _ (p .plan-run .ensures .rule) (c .if1 .left)
 
 pub packet-write-spec : {M : Type 1} → statement M
 packet-write-spec =
-    tie.close (tie.spec plan-run-requires cast-m write-run-requires same-length returns returns-2)
+    tie.close
+    (tie.spec (λ c κs. search needs) (λ c. omega (arith, fits (c .before) .room, fits (c .before) .buffer))
+    write-run-requires (λ c. search needs) returns returns-2)

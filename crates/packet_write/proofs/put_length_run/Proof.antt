@@ -10,16 +10,10 @@ use Rattle.packet_plan.proofs.SizeLaws.{code-short, code-long}
 use Rattle.packet_write.proofs.put_length_run.Statement.{statement}
 use Rattle.packet_write.proofs.put_length_run.Tie as tie
 
-cast-b : tie.Need-cast-b
-cast-b c = search needs
-
 put-byte-run-requires : tie.Need-put-byte-run-requires
 put-byte-run-requires c κs =
     let a = c .before .before .before .args in
     omega (arith, ap length (code-short (a .n) (c .before .if1 .taken)))
-
-same-length : tie.Need-same-length
-same-length c = search needs
 
 returns : tie.Need-returns
 returns c =
@@ -27,18 +21,6 @@ returns c =
     let a = b .before .before .before .before .args in
     let e : a .n ∷ [] ≡ lengthCode (a .n) = code-short (a .n) (b .before .before .if1 .taken) in
     put-as (b .put-byte-run .ensures) e (omega (arith, ap length e))
-
-add-first : tie.Need-add-first
-add-first c = search needs
-
-sub-second : tie.Need-sub-second
-sub-second c = search needs
-
-cast-a : tie.Need-cast-a
-cast-a c = search needs
-
-cast-b-2 : tie.Need-cast-b-2
-cast-b-2 c = search needs
 
 put-byte-run-requires-2 : tie.Need-put-byte-run-requires-2
 put-byte-run-requires-2 c κs =
@@ -51,9 +33,6 @@ put-byte-run-requires-3 c κs =
     let a = b .before .before .before .before .args in
     omega (arith, b .put-byte-run2 .ensures .behind, ap length (code-long (a .n) (b .before .before .if1 .left)))
 
-same-length-2 : tie.Need-same-length-2
-same-length-2 c = search needs
-
 returns-2 : tie.Need-returns-2
 returns-2 c =
     let b = c .before .before in
@@ -65,16 +44,6 @@ returns-2 c =
 pub put-length-run-spec : {M : Type 1} → statement M
 put-length-run-spec =
     tie.close
-    (tie.spec
-    cast-b
-    put-byte-run-requires
-    same-length
-    returns
-    add-first
-    sub-second
-    cast-a
-    cast-b-2
-    put-byte-run-requires-2
-    put-byte-run-requires-3
-    same-length-2
-    returns-2)
+    (tie.spec (λ c. search needs) put-byte-run-requires (λ c. search needs) returns (λ c. search needs)
+    (λ c. search needs) (λ c. search needs) (λ c. search needs) put-byte-run-requires-2 put-byte-run-requires-3
+    (λ c. search needs) returns-2)

@@ -26,12 +26,6 @@ abbrev μ-loop : tie.MeasureT-loop
 loop-holds : tie.Need-loop-holds Inv-loop μ-loop
 loop-holds c = (search needs, search needs, put-as (put-none _ _) none (omega arith))
 
-mul-size : tie.Need-mul-size Inv-loop μ-loop
-mul-size c = search needs
-
-shared-slice-read-size : tie.Need-shared-slice-read-size Inv-loop μ-loop
-shared-slice-read-size c = search needs
-
 cast-size : tie.Need-cast-size Inv-loop μ-loop
 cast-size c = omega (arith, c .before .before .before .before .before .pre .1 (c .before .before .loop .k))
 
@@ -53,12 +47,6 @@ put-length-run-requires c κs =
       ),
     )
 
-add-k : tie.Need-add-k Inv-loop μ-loop
-add-k c = search needs
-
-loop-less : tie.Need-loop-less Inv-loop μ-loop
-loop-less c = search needs
-
 loop-again : tie.Need-loop-again Inv-loop μ-loop
 loop-again c =
     let b = c .before .before .before .before .before .before in
@@ -72,9 +60,6 @@ loop-again c =
           (omega (arith, ap length e, length-append (codesOf ns k) (lengthCode (getD ns k 0)))),
     )
 
-same-length : tie.Need-same-length Inv-loop μ-loop
-same-length c = search needs
-
 returns : tie.Need-returns Inv-loop μ-loop
 returns c =
     let b = c .before in
@@ -87,16 +72,5 @@ returns c =
 pub put-lengths-run-spec : {M : Type 1} → statement M
 put-lengths-run-spec =
     tie.close
-    (tie.spec
-    Inv-loop
-    μ-loop
-    loop-holds
-    mul-size
-    shared-slice-read-size
-    cast-size
-    put-length-run-requires
-    add-k
-    loop-less
-    loop-again
-    same-length
-    returns)
+    (tie.spec Inv-loop μ-loop loop-holds (λ c. search needs) (λ c. search needs) cast-size put-length-run-requires
+    (λ c. search needs) (λ c. search needs) loop-again (λ c. search needs) returns)

@@ -1,55 +1,45 @@
 -- `put_padding_run` meets its contract. Assumes nothing.
 use borrow.Author.Needs.{needs}
-use Prim.Native.Nat.{ℕ, _-_, _/_}
+use Prim.Native.Nat.{ℕ, _+_, _-_, _/_}
+use mathlib.Core.Path.{_≡_}
 use native.Mathlib.Omega.{arith}
-use lib.ListN.{length-replicate}
+use lib.ListN.{length, length-replicate}
+use Rattle.framing.specs.Padding.{padCode}
 use Rattle.numerals.specs.Put.{put-none, put-then, put-as}
 use Rattle.packet_write.proofs.PieceLaws.{pad-none, pad-some, pad-some-length}
 use Rattle.packet_write.proofs.put_padding_run.Statement.{statement}
 use Rattle.packet_write.proofs.put_padding_run.Tie as tie
 
+abbrev start : tie.Else1 → tie.Start
+start e = e .before .before
+
+long : (e : tie.Else1) → (start e .args .k - 1) / 255 + 1 ≡ length (padCode (start e .args .k))
+long e = pad-some-length (start e .args .k) (e .if1 .left)
+
 returns : tie.Need-returns
 returns c = put-as (put-none _ _) (pad-none (c .before .before .args .k) (c .if1 .taken)) (omega arith)
 
-sub-n : tie.Need-sub-n
-sub-n c = search needs
-
-cast-last : tie.Need-cast-last
-cast-last c = search needs
-
-put-same-run-requires : tie.Need-put-same-run-requires
-put-same-run-requires c κs = omega (arith, pad-some-length (c .before .before .before .args .k) (c .before .if1 .left))
-
 put-byte-run-requires : tie.Need-put-byte-run-requires
 put-byte-run-requires c κs =
-    let a = c .before .before .before .before .before .before .before .args in
+    let s = c .before .before .before in
+    let e = s .before .before in
     omega (
       arith,
-      c .before .before .before .put-same-run .ensures .behind,
-      length-replicate {A = ℕ}
-          ((a .k - 1) / 255) 255,
-      pad-some-length (a .k) (c .before .before .before .before .before .if1 .left),
+      s .put-same-run .ensures .behind,
+      length-replicate {A = ℕ} ((start e .args .k - 1) / 255) 255,
+      long e,
     )
-
-same-length : tie.Need-same-length
-same-length c = search needs
 
 returns-2 : tie.Need-returns-2
 returns-2 c =
-    let a = c .before .before .before .before .before .before .before .before .before .before .args in
-    put-as (put-then (c .before .before .before .before .before .before .put-same-run .ensures)
-    (c .before .before .put-byte-run .ensures))
-    (pad-some (a .k) (c .before .before .before .before .before .before .before .before .if1 .left))
-    (omega (arith, pad-some-length (a .k) (c .before .before .before .before .before .before .before .before .if1 .left)))
+    let b = c .before .before in
+    let s = b .before .before .before .before in
+    let e = s .before .before in
+    put-as (put-then (s .put-same-run .ensures) (b .put-byte-run .ensures)) (pad-some (start e .args .k) (e .if1 .left))
+    (omega (arith, long e))
 
 pub put-padding-run-spec : {M : Type 1} → statement M
 put-padding-run-spec =
     tie.close
-    (tie.spec
-    returns
-    sub-n
-    cast-last
-    put-same-run-requires
-    put-byte-run-requires
-    same-length
-    returns-2)
+    (tie.spec returns (λ c. search needs) (λ c. search needs) (λ c κs. omega (arith, long (c .before)))
+    put-byte-run-requires (λ c. search needs) returns-2)

@@ -24,12 +24,6 @@ put-byte-run-requires c κs =
     let p = b .loop .inv .2 in
     omega (arith, p .behind, length-replicate (b .loop .k) (a .b))
 
-add-k : tie.Need-add-k Inv-loop μ-loop
-add-k c = search needs
-
-loop-less : tie.Need-loop-less Inv-loop μ-loop
-loop-less c = search needs
-
 loop-again : tie.Need-loop-again Inv-loop μ-loop
 loop-again c =
     let b = c .before .before .before .before .before in
@@ -39,9 +33,6 @@ loop-again c =
       search needs,
       put-as (put-then (b .loop .inv .2) (c .before .before .put-byte-run .ensures)) (replicate-append-replicate k 1 (a .b)) (omega arith),
     )
-
-same-length : tie.Need-same-length Inv-loop μ-loop
-same-length c = search needs
 
 returns : tie.Need-returns Inv-loop μ-loop
 returns c =
@@ -53,13 +44,5 @@ returns c =
 pub put-same-run-spec : {M : Type 1} → statement M
 put-same-run-spec =
     tie.close
-    (tie.spec
-    Inv-loop
-    μ-loop
-    loop-holds
-    put-byte-run-requires
-    add-k
-    loop-less
-    loop-again
-    same-length
-    returns)
+    (tie.spec Inv-loop μ-loop loop-holds put-byte-run-requires (λ c. search needs) (λ c. search needs) loop-again
+    (λ c. search needs) returns)

@@ -19,14 +19,9 @@ some (suc n) h = let e : suc n - 1 ≡ n = omega arith in rw e
 returns : tie.Need-returns
 returns c = none (c .before .args .k) (c .if1 .taken)
 
-sub-n : tie.Need-sub-n
-sub-n c = search needs
-
-sub-result : tie.Need-sub-result
-sub-result c = search needs
-
 returns-2 : tie.Need-returns-2
 returns-2 c = some (c .before .args .k) (c .if1 .left)
 
 pub tail-run-spec : {M : Type 1} → statement M
-tail-run-spec = tie.close (tie.spec returns sub-n sub-result returns-2)
+tail-run-spec = tie.close
+    (tie.spec returns (λ c. search needs) (λ c. search needs) returns-2)

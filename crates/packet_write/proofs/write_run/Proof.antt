@@ -1,145 +1,75 @@
 -- `write_run` meets its contract. Assumes nothing.
 use borrow.Author.Needs.{needs}
-use Prim.Native.Nat.{ℕ}
-use mathlib.Core.Path.{ap, _∙_}
+use Prim.Native.Nat.{ℕ, _+_, _*_, _≤_, _<_}
+use mathlib.Core.Path.{_≡_, ap, _∙_}
+use mathlib.Core.Bool.{not}
 use mathlib.Core.List.{List}
 use native.Mathlib.Omega.{arith}
+use lib.Dec.{eqb}
 use lib.ListN.{length}
 use lib.Seq.{sets}
+use Rattle.framing.specs.Writing.{packetOf}
 use Rattle.framing.proofs.Shortest.{shortest-range}
 use Rattle.framing.proofs.Written.{at-most-twelve, packet-length}
+use Rattle.packet_write.specs.Inner.{wholeOf}
 use Rattle.packet_write.proofs.WholeLaws.{Worked, code-four, whole-is, small-most}
 use Rattle.packet_write.proofs.write_run.Statement.{statement}
 use Rattle.packet_write.proofs.write_run.Tie as tie
 
-add-less : tie.Need-add-less
-add-less c =
-    let a = c .before .before .before .before .args in
-    let s = a .sizes .now in
-    let w = c .before .before .before .before .pre .0 in
-    let q = c .before .before .before .before .pre .1 in
-    omega (arith, w .long, w .room, w .buffer, shortest-range s .0, q .2)
+abbrev start : tie.After-struct-known → tie.Start
+start c = c .before .before .before .before
 
-less-requires : tie.Need-less-requires
-less-requires c κs = search needs
+-- behind the calls that work the numbers out
+abbrev begun : tie.After-final-code → tie.Start
+begun f = start (f .before .before .before)
 
-own-run-requires : tie.Need-own-run-requires
-own-run-requires c κs =
-    let a = c .before .before .before .before .before .args in
-    let s = a .sizes .now in
-    let w = c .before .before .before .before .before .pre .0 in
-    let q = c .before .before .before .before .before .pre .1 in
-    omega (arith, w .long, w .room, w .buffer, shortest-range s .0, q .2)
+short : (c : tie.After-struct-known) → start c .args .p .bare ≤ 16384
+short c =
+    let w = start c .pre .0 in
+    omega (arith, w .long, w .room, w .buffer, shortest-range (start c .args .sizes .now) .0, start c .pre .1 .2)
 
-final-code-requires : tie.Need-final-code-requires
-final-code-requires c κs = search needs
+worked : (f : tie.After-final-code)
+    → Worked (begun f .args .p) (f .before .before .less .result) (f .before .own-run .result) (f .final-code .result)
+worked f =
+    record { pads = f .before .before .less .ensures; least = f .before .own-run .ensures; coded = f .final-code .ensures }
 
-count-byte-requires : tie.Need-count-byte-requires
-count-byte-requires c κs =
-    let a = c .before .before .before .before .before .before .before .before .args in
-    let s = a .sizes .now in
-    let w = c .before .before .before .before .before .before .before .before .pre .0 in
-    let q = c .before .before .before .before .before .before .before .before .pre .1 in
-    at-most-twelve (length s) (a .c) (w .config) (w .time)
+first-byte : (f : tie.After-final-code) → 8 * begun f .args .c + f .final-code .result < 256
+first-byte f =
+    let z = begun f in
+    omega (arith, z .pre .0 .config, code-four (z .args .sizes .now) (z .args .p) (z .pre .1) (worked f))
 
-cast-b : tie.Need-cast-b
-cast-b c = search needs
-
-tail-run-requires : tie.Need-tail-run-requires
-tail-run-requires c κs = search needs
-
-mul-toc : tie.Need-mul-toc
-mul-toc c = search needs
-
-add-toc : tie.Need-add-toc
-add-toc c =
-    let a = c .before .before .before .before .before .before .before .before .before .before .args in
-    let s = a .sizes .now in
-    let w = c .before .before .before .before .before .before .before .before .before .before .pre .0 in
-    let q = c .before .before .before .before .before .before .before .before .before .before .pre .1 in
-    omega (
-      arith,
-      w .config,
-      code-four s (a .p) q _ _ (c .before .before .before .before .own-run .ensures)
-          (c .before .before .before .final-code .ensures),
-    )
-
-cast-toc : tie.Need-cast-toc
-cast-toc c =
-    let a = c .before .before .before .before .before .before .before .before .before .before .args in
-    let s = a .sizes .now in
-    let w = c .before .before .before .before .before .before .before .before .before .before .pre .0 in
-    let q = c .before .before .before .before .before .before .before .before .before .before .pre .1 in
-    omega (
-      arith,
-      w .config,
-      code-four s (a .p) q _ _ (c .before .before .before .before .own-run .ensures)
-          (c .before .before .before .final-code .ensures),
-    )
+packet : (f : tie.After-final-code)
+    → wholeOf (8 * begun f .args .c + f .final-code .result) (eqb (f .final-code .result) 3) (f .before .before .less .result)
+    (not (begun f .args .p .same)) (begun f .args .sizes .now) (begun f .args .frames .now)
+    ≡ packetOf (begun f .args .c) (begun f .args .sizes .now) (begun f .args .frames .now) (begun f .args .p .length)
+packet f =
+    let a = begun f .args in
+    whole-is (a .sizes .now) (a .p) (begun f .pre .1) (a .c) (a .frames .now) (worked f)
 
 put-whole-run-requires : tie.Need-put-whole-run-requires
 put-whole-run-requires c κs =
-    let a = c .before .before .before .before .before .before .before .before .before .before .before .args in
+    let f = c .before .before in
+    let a = begun f .args in
     let s = a .sizes .now in
-    let w = c .before .before .before .before .before .before .before .before .before .before .before .pre .0 in
-    let q = c .before .before .before .before .before .before .before .before .before .before .before .pre .1 in
-    let r : Worked s (a .p) (c .before .before .before .before .before .before .less .result)
-    (c .before .before .before .before .before .own-run .result) (c .before .before .before .before .final-code .result)
-    (c .before .before .count-byte .result) (c .before .tail-run .result) =
-    record {
-      pads = c .before .before .before .before .before .before .less .ensures;
-      least = c .before .before .before .before .before .own-run .ensures;
-      coded = c .before .before .before .before .final-code .ensures;
-      byte = c .before .before .count-byte .ensures .0;
-      zeros = c .before .tail-run .ensures;
-    } in
-    let e = whole-is s (a .p) q (a .c) (a .frames .now) _ _ _ _ _ r in (
+    let w = begun f .pre .0 in (
       (
-        omega (arith, c .before .before .before .before .before .before .less .ensures, w .room, w .buffer),
+        omega (arith, f .before .before .less .ensures, w .room, w .buffer),
         w .some,
-        small-most s
-            (w .small),
+        at-most-twelve (length s) (a .c) (w .config) (w .time),
+        small-most s (w .small),
       ),
-      omega (arith, ap length e, packet-length _ (a .c) (a .frames .now) s (a .p .length) w, w .room),
+      omega (arith, ap length (packet f), packet-length _ (a .c) (a .frames .now) s (a .p .length) w, w .room),
     )
-
-same-length : tie.Need-same-length
-same-length c = search needs
 
 returns : tie.Need-returns
 returns c =
-    let a = c .before .before .before .before .before .before .before .before .before .before .before .before .before .before .args in
-    let s = a .sizes .now in
-    let w = c .before .before .before .before .before .before .before .before .before .before .before .before .before .before .pre .0 in
-    let q = c .before .before .before .before .before .before .before .before .before .before .before .before .before .before .pre .1 in
-    let r : Worked s (a .p) (c .before .before .before .before .before .before .before .before .before .less .result)
-    (c .before .before .before .before .before .before .before .before .own-run .result)
-    (c .before .before .before .before .before .before .before .final-code .result)
-    (c .before .before .before .before .before .count-byte .result) (c .before .before .before .before .tail-run .result) =
-    record {
-      pads = c .before .before .before .before .before .before .before .before .before .less .ensures;
-      least = c .before .before .before .before .before .before .before .before .own-run .ensures;
-      coded = c .before .before .before .before .before .before .before .final-code .ensures;
-      byte = c .before .before .before .before .before .count-byte .ensures .0;
-      zeros = c .before .before .before .before .tail-run .ensures;
-    } in
-    let e = whole-is s (a .p) q (a .c) (a .frames .now) _ _ _ _ _ r in
-    c .before .before .put-whole-run .ensures .is ∙ ap (λ (t : List ℕ). sets (a .buf .now) 0 t) e
+    let r = c .before .before in
+    let f = r .before .before .before in
+    r .put-whole-run .ensures .is ∙ ap (λ (t : List ℕ). sets (begun f .args .buf .now) 0 t) (packet f)
 
 pub write-run-spec : {M : Type 1} → statement M
 write-run-spec =
     tie.close
-    (tie.spec
-    add-less
-    less-requires
-    own-run-requires
-    final-code-requires
-    count-byte-requires
-    cast-b
-    tail-run-requires
-    mul-toc
-    add-toc
-    cast-toc
-    put-whole-run-requires
-    same-length
-    returns)
+    (tie.spec (λ c. omega (arith, short c)) (λ c κs. search needs) (λ c κs. omega (arith, short (c .before)))
+    (λ c κs. search needs) (λ c. search needs) (λ c. omega (arith, first-byte (c .before)))
+    (λ c. omega (arith, first-byte (c .before))) put-whole-run-requires (λ c. search needs) returns)
