@@ -19,7 +19,7 @@ use Rattle.spectrum.specs.Places.{placedAll, places}
 use Rattle.spectrum.specs.Residuals.{residuals, listOf, predictorIn}
 use Rattle.spectrum.specs.Stabilising.{Stable, stabilise, kept16}
 use Rattle.spectrum.specs.Values.{at, Within}
-use Rattle.nlsf_stabilize.specs.Asked.{MoveOk}
+use Rattle.nlsf_stabilize_move.specs.Asked.{MoveOk}
 use Rattle.nlsf_places.specs.Asked.{Rows, predictorAt, predictorBy, residualsBy, placesBy, PlacesOk}
 use Rattle.nlsf_decode.specs.Asked.{Indexed}
 

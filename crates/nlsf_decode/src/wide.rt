@@ -8,7 +8,7 @@ ghost use Rattle.spectrum.specs.Stabilising.{kept16, stabilise};
 ghost use Rattle.nlsf_decode.specs.Asked.{Indexed};
 use nlsf_places::places_run;
 use nlsf_stabilize::stabilise_run;
-use nlsf_stabilize::stays::stays_run;
+use nlsf_stabilize_stays::stays_run;
 use tables::books::wide_gaps;
 use tables::books::wide_predictors;
 use tables::books::wide_selectors_run;

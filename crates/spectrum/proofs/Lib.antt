@@ -1,4 +1,6 @@
 pub mod Extremes
+pub mod Widened
+pub mod SumLaws
 pub mod Kept
 pub mod Results
 pub mod SameStores

@@ -38,6 +38,15 @@ good-at (g ∷ (h ∷ gs)) r (suc i) =
     let t = good-total (h ∷ gs) (r .1) in
     let q = good-at (h ∷ gs) (r .1) i in (q .0, omega (arith, up-sum g (total (h ∷ gs)), t .0, r .0, q .1))
 
+-- the last gap is 1 or more
+pub last-gap : (g : List ℤ) (n : ℕ) → length g ≡ suc n → Good g → 1 ≤ up (at g n)
+unfolding Good
+last-gap [] n l r = absurd r
+last-gap (a ∷ []) zero l r = r .1
+last-gap (a ∷ []) (suc n) l r = absurd (omega arith)
+last-gap (a ∷ (b ∷ g)) zero l r = absurd (omega arith)
+last-gap (a ∷ (b ∷ g)) (suc n) l r = last-gap (b ∷ g) n (suc-inj l) (r .1)
+
 pub record Cut (g : List ℤ) (i n : ℕ) : Type 0 where
   pub before0 : down (total (take i g)) ≡ 0
   pub here0 : down (at g i) ≡ 0

@@ -9,8 +9,8 @@ use Rattle.spectrum.proofs.BookLaws.{narrow-usable}
 use Rattle.spectrum.specs.Places.{places}
 use Rattle.spectrum.specs.Stabilising.{Stable, stabilise, kept16}
 use Rattle.spectrum.specs.Values.{total}
-use Rattle.nlsf_stabilize.proofs.StayLaws.{stays-still}
-use Rattle.nlsf_stabilize.specs.Asked.{MoveOk}
+use Rattle.nlsf_stabilize_stays.proofs.StayLaws.{stays-still}
+use Rattle.nlsf_stabilize_move.specs.Asked.{MoveOk}
 use Rattle.nlsf_places.specs.Asked.{Rows, rows}
 use Rattle.nlsf_decode.proofs.RowLaws.{RowsOf, stabilised-by, places-ok, book-moves}
 use Rattle.nlsf_decode.specs.Asked.{Indexed}
