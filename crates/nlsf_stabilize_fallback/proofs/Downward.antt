@@ -11,7 +11,7 @@ use lib.ListN.{length, drop}
 use Rattle.ints.specs.Order.{parts-alone}
 use Rattle.ints.specs.Parts.{up, down}
 use Rattle.spectrum.proofs.Extremes.{min-right}
-use Rattle.spectrum.proofs.WholeMoves.{within-at}
+use Rattle.spectrum.proofs.Results.{within-at}
 use Rattle.spectrum.specs.Fallback.{front, lowered}
 use Rattle.spectrum.specs.Values.{at, top, minZ, Within}
 

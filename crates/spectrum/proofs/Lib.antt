@@ -8,7 +8,6 @@ pub mod MoveBounds
 pub mod Sorting
 pub mod Settled
 pub mod FirstSmallest
-pub mod WholeMoves
 pub mod ResidualBounds
 pub mod CallLaws
 pub mod PlaceLaws

@@ -7,7 +7,7 @@ use borrow.Author.Needs.{needs}
 use lib.IntN.{ℤ}
 use lib.ListN.{length, drop}
 use Rattle.spectrum.proofs.Kept.{length-sorted, length-raised}
-use Rattle.spectrum.proofs.WholeMoves.{fallback-within}
+use Rattle.spectrum.proofs.Results.{fallback-within}
 use Rattle.spectrum.specs.Fallback.{sorted, raised, lowered, fallback}
 use Rattle.spectrum.specs.Gaps.{Ruled}
 use Rattle.spectrum.specs.Values.{Within}
