@@ -1,6 +1,6 @@
 -- The rows that a book has for one vector: what placing asks, and that placing by them is placing by the book. Assumes nothing.
 use Prim.Native.Nat.{ℕ, suc, _+_, _*_, _/_, _≤_, _<_}
-use mathlib.Core.Path.{_≡_, refl, sym, ap, ap₂, subst, subst⁻¹, _∙_}
+use mathlib.Core.Path.{_≡_, refl, sym, ap, ap₂, subst⁻¹, _∙_}
 use mathlib.Core.List.{List, [], map}
 use native.Mathlib.Omega.{arith}
 use borrow.Author.Tests.{eq-eqb, ne-eqb}
@@ -8,20 +8,21 @@ use lib.IntN.{ℤ, pos, negsuc, natAbs}
 use lib.ListN.{length, getD, take, drop, length-drop}
 use lib.Seq.{length-take-le}
 use Rattle.ints.specs.Parts.{up, down}
-use Rattle.sheet.specs.Books.{Book, narrowBook, wideBook}
+use Rattle.sheet.specs.Books.{Book, narrowBook, wideBook, narrow-shaped, wide-shaped}
 use Rattle.tables.specs.PredictorRow.{predictorRow, predictor-row-length, predictor-row-at}
 use Rattle.spectrum.proofs.BookLaws.{Usable, gaps-long}
 use Rattle.spectrum.proofs.CallLaws.{Accepted}
 use Rattle.spectrum.proofs.PlaceLaws.{residuals-alike}
 use Rattle.spectrum.proofs.Results.{ruled}
 use Rattle.spectrum.specs.Calls.{bookOf, decoded}
+use Rattle.spectrum.specs.Gaps.{Ruled}
 use Rattle.spectrum.specs.Places.{placedAll, places}
 use Rattle.spectrum.specs.Residuals.{residuals, listOf, predictorIn}
 use Rattle.spectrum.specs.Stabilising.{Stable, stabilise, kept16}
-use Rattle.spectrum.specs.Values.{at, Within}
-use Rattle.nlsf_stabilize.specs.Asked.{MoveOk}
+use Rattle.spectrum.specs.Values.{at, total, Within}
+use Rattle.nlsf_stabilize_move.specs.Asked.{MoveOk}
 use Rattle.nlsf_places.specs.Asked.{Rows, predictorAt, predictorBy, residualsBy, placesBy, PlacesOk}
-use Rattle.nlsf_decode.specs.Asked.{Indexed}
+use Rattle.nlsf_decode.specs.Asked.{Indexed, spectrumOf}
 
 pub record RowsOf (b : Book) (v : ℕ) (t : Rows) : Type 0 where
   pub step : t .step ≡ b .step
@@ -55,12 +56,7 @@ module _ (b : Book) (v : ℕ) (t : Rows) (r : RowsOf b v t) (u : Usable b) where
       ∙ ap (placedAll (getD (b .vectors) v []) (getD (b .weights) v []))
       (residuals-alike (b .step) (predictorBy t) (predictorIn (getD (b .selectors) v []) (b .predictors)) (b .order) predictors-by 0 xs (omega arith))
 
-  -- what the stabiliser leaves of the places by these rows, under the book's gaps
-  pub stabilised-by : (xs : List ℤ) → length xs ≡ b .order → {s : Stable} {g w : List ℤ} → s ≡ stabilise kept16 g w → g ≡ map pos (b .gaps)
-      → w ≡ placesBy t xs → s ≡ stabilise kept16 (map pos (b .gaps)) (places b v xs)
-  stabilised-by xs l e f h = e ∙ ap₂ (stabilise kept16) f (h ∙ places-by xs l)
-
-  pub places-ok : (w xs : List ℤ) → Indexed (b .order) w v xs → PlacesOk t w xs
+  places-ok : (w xs : List ℤ) → Indexed (b .order) w v xs → PlacesOk t w xs
   places-ok w xs i =
       let s = u .shaped in
       let ws : length (getD (b .weights) v []) ≡ b .order = s .weights .width v (i .row) in
@@ -78,51 +74,75 @@ module _ (b : Book) (v : ℕ) (t : Rows) (r : RowsOf b v t) (u : Usable b) where
             (u .sized .heavy v k (omega (arith, i .row, s .weights .count)) (omega (arith, ws, i .long)));
       }
 
--- what the stabiliser asks of a vector of the order, with the book's gaps
-pub book-moves : (b : Book) → Usable b → (w : List ℤ) → length w ≡ b .order → MoveOk (map pos (b .gaps)) w 0
-book-moves b u w l =
-    let g = gaps-long b u in
-    record {
-      rule = ruled (b .order) (map pos (b .gaps)) g (u .sized .gaps);
-      long = g ∙ ap suc (sym l);
-      some = omega (arith, u .some);
-      few = omega (arith, u .few);
-      place = omega arith;
-    }
+-- ---- what the stabiliser is handed: gaps g and places p. It is what a move asks, and what the stabiliser leaves of it is vector v
+-- of the book b, moved by the indices xs
 
--- ---- the book of a rate
+pub record Handed (b : Book) (v : ℕ) (xs g p : List ℤ) : Type 0 where
+  pub asked : MoveOk g p 0
+  pub sum : total g ≡ total (map pos (b .gaps))
+  pub answer : {s : Stable} → s ≡ stabilise kept16 g p → s ≡ spectrumOf b v xs
 
-pub book-wide : (khz : ℕ) → khz ≡ 16 → bookOf khz ≡ wideBook
+module _ {b : Book} {n v : ℕ} {t : Rows} {w xs : List ℤ} (u : Usable b) (o : b .order ≡ n) (r : RowsOf b v t) (i : Indexed n w v xs) where
+  pub places-asked : PlacesOk t w xs
+  places-asked = places-ok b v t r u w xs (subst⁻¹ (λ (m : ℕ). Indexed m w v xs) o i)
+
+  pub handed : {g p : List ℤ} → g ≡ map pos (b .gaps) → p ≡ placesBy t xs → length p ≡ length w → Handed b v xs g p
+  handed {g} {p} e f l =
+      let k = gaps-long b u in
+      let z : length g ≡ suc (b .order) = ap length e ∙ k in
+      record {
+        asked =
+            record {
+              rule = subst⁻¹ Ruled e (ruled (b .order) (map pos (b .gaps)) k (u .sized .gaps));
+              long = omega (arith, l, i .long);
+              some = omega (arith, l, i .long, u .some);
+              few = omega (arith, l, i .long, u .few);
+              place = omega arith;
+            };
+        sum = ap total e;
+        answer = λ h. h ∙ ap₂ (stabilise kept16) e (f ∙ places-by b v t r u xs (i .many ∙ sym o));
+      }
+
+-- ---- the book of a rate, and its order n
+
+pub record Under (khz : ℕ) (b : Book) (n : ℕ) : Type 0 where
+  pub book : bookOf khz ≡ b
+  pub order : b .order ≡ n
+  pub few : n ≤ 16
+
+pub wide-under : (khz : ℕ) → khz ≡ 16 → Under khz wideBook 16
 unfolding bookOf
-book-wide khz e = rw (eq-eqb khz 16 e)
+wide-under khz e = record { book = rw (eq-eqb khz 16 e); order = wide-shaped .order; few = omega arith }
 
-pub book-narrow : (khz : ℕ) → (khz ≡ 16 → ⊥) → bookOf khz ≡ narrowBook
+pub narrow-under : (khz : ℕ) → (khz ≡ 16 → ⊥) → Under khz narrowBook 10
 unfolding bookOf
-book-narrow khz e = rw (ne-eqb khz 16 e)
+narrow-under khz e = record { book = rw (ne-eqb khz 16 e); order = narrow-shaped .order; few = omega arith }
+
+pub order-is : {khz n : ℕ} {b : Book} → Under khz b n → n ≡ bookOf khz .order
+order-is u = sym (ap (λ (c : Book). c .order) (u .book) ∙ u .order)
 
 -- a first index of 0 or more, as the machine casts it
-pub natural-is : (z : ℤ) → down z ≡ 0 → natAbs z ≡ up z
+natural-is : (z : ℤ) → down z ≡ 0 → natAbs z ≡ up z
 natural-is (pos n) d = refl
 natural-is (negsuc n) d = absurd (omega arith)
 
--- an accepted call's indices, under its book b of order n
-module _ (b : Book) (n : ℕ) (index : List ℤ) (khz : ℕ) (e : bookOf khz ≡ b) (o : b .order ≡ n) where
-  order : bookOf khz .order ≡ n
-  order = ap (λ (c : Book). c .order) e ∙ o
-
-  pub indexed : (v : List ℤ) → length index ≡ 17 → n ≤ 16 → Accepted v index khz → Indexed n v (natAbs (at index 0)) (take n (drop 1 index))
-  indexed v l h a =
+-- an accepted call's indices
+module _ {khz n : ℕ} {b : Book} (u : Under khz b n) (index : List ℤ) where
+  pub indexed : (v : List ℤ) → length index ≡ 17 → Accepted v index khz → Indexed n v (natAbs (at index 0)) (take n (drop 1 index))
+  indexed v l a =
+      let o = order-is u in
       let d : length (drop 1 index) ≡ 16 = omega (arith, length-drop 1 index) in
       record {
-        long = a .long ∙ order;
-        many = length-take-le n (drop 1 index) (omega arith);
-        tens = subst (λ (m : ℕ). Within 10 10 (take m (drop 1 index))) order (a .tens);
+        long = a .long ∙ sym o;
+        many = length-take-le n (drop 1 index) (omega (arith, u .few));
+        tens = subst⁻¹ (λ (m : ℕ). Within 10 10 (take m (drop 1 index))) o (a .tens);
         row = omega (arith, natural-is (at index 0) (a .first0), a .first);
       }
 
-  pub decoded-as : down (at index 0) ≡ 0
-      → stabilise kept16 (map pos (b .gaps)) (places b (natAbs (at index 0)) (take n (drop 1 index))) ≡ decoded kept16 (bookOf khz) index
+  pub decoded-as : down (at index 0) ≡ 0 → spectrumOf b (natAbs (at index 0)) (take n (drop 1 index)) ≡ decoded kept16 (bookOf khz) index
   unfolding decoded
   decoded-as d =
-      ap₂ (λ (m k : ℕ). stabilise kept16 (map pos (b .gaps)) (places b m (take k (drop 1 index)))) (natural-is (at index 0) d) (sym o)
-      ∙ ap (λ (c : Book). stabilise kept16 (map pos (c .gaps)) (places c (up (at index 0)) (take (c .order) (drop 1 index)))) (sym e)
+      ap₂ (λ (m k : ℕ). stabilise kept16 (map pos (b .gaps)) (places b m (take k (drop 1 index)))) (natural-is (at index 0) d)
+      (sym (u .order))
+      ∙ ap (λ (c : Book). stabilise kept16 (map pos (c .gaps)) (places c (up (at index 0)) (take (c .order) (drop 1 index))))
+      (sym (u .book))

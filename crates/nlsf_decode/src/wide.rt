@@ -1,14 +1,10 @@
 // Decoding under the wide book (16 kHz): its rows for one vector, then the places, then the stabiliser.
 ghost use mathlib.Core.Path.{_≡_};
-ghost use mathlib.Core.List.{map};
-ghost use lib.IntN.{pos};
 ghost use Rattle.sheet.specs.Books.{wideBook};
-ghost use Rattle.spectrum.specs.Places.{places};
-ghost use Rattle.spectrum.specs.Stabilising.{kept16, stabilise};
-ghost use Rattle.nlsf_decode.specs.Asked.{Indexed};
+ghost use Rattle.nlsf_decode.specs.Asked.{Indexed, spectrumOf};
 use nlsf_places::places_run;
 use nlsf_stabilize::stabilise_run;
-use nlsf_stabilize::stays::stays_run;
+use nlsf_stabilize_stays::stays_run;
 use tables::books::wide_gaps;
 use tables::books::wide_predictors;
 use tables::books::wide_selectors_run;
@@ -21,7 +17,7 @@ const GAP_SUM: i32 = 583;
 // The spectrum of vector v and the indices of its places, stabilised, with the number of moves.
 pub fn wide_run(vector: &mut [i16], v: usize, xs: &[i8]) -> u32
     requires { ⌜ Indexed 16 (now vector) v (now xs) ⌝ }
-    ensures { λ m. ⌜ record { vector = now (vector .exit); moves = m } ≡ stabilise kept16 (map pos (wideBook .gaps)) (places wideBook v (now (xs .entry))) ⌝ }
+    ensures { λ m. ⌜ record { vector = now (vector .exit); moves = m } ≡ spectrumOf wideBook v (now (xs .entry)) ⌝ }
 {
     let value = wide_vector_run(v);
     let weight = wide_weights_run(v);

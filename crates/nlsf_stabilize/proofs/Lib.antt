@@ -1,9 +1,2 @@
-pub mod DiffLaws
-pub mod Downward
-pub mod Sinking
-pub mod Upward
-pub mod PairLaws
-pub mod MoveLaws
-pub mod Widened
-pub mod StayLaws
-pub mod SumLaws
+pub mod RunLaws
+pub mod CallLaws

@@ -1,27 +1,24 @@
-// The stabiliser of line spectra (RFC 6716, section 4.2.7.5.4): at most 20 moves, then the fallback. Names as in the crate's NLSF_stabilize.rs.
+// The stabiliser of line spectra (RFC 6716, section 4.2.7.5.4): at most 20 moves, then the fallback. Names as in the crate's
+// NLSF_stabilize.rs.
 ghost use mathlib.Core.Path.{_≡_};
 ghost use mathlib.Core.Bool.{false};
 ghost use Rattle.spectrum.specs.Values.{total};
 ghost use Rattle.spectrum.specs.Stabilising.{kept16, stabilise};
 ghost use Rattle.spectrum.specs.Calls.{lengthsOk, stabiliseCall};
-ghost use Rattle.nlsf_stabilize.specs.Asked.{MoveOk, stays};
-use distances::place_of_run;
-use distances::smallest_run;
-use fallback::fall_back_run;
+ghost use Rattle.nlsf_stabilize_stays.specs.Asked.{stays};
+ghost use Rattle.nlsf_stabilize_move.specs.Asked.{MoveOk};
 use gaps::ruled_sum_run;
-use moves::move_at_run;
+use nlsf_stabilize_fallback::fall_back_run;
+use nlsf_stabilize_move::move_at_run;
+use nlsf_stabilize_search::place_of_run;
+use nlsf_stabilize_search::smallest_run;
+use nlsf_stabilize_stays::stays_run;
 use spectrum::Moves;
-use stays::stays_run;
 
-mod distances; // distances.rt: which gap is mended
-mod fallback; // fallback.rt: what follows the last move
 mod gaps; // gaps.rt: the gap set's rule
-mod moves; // moves.rt: one move
-mod sort; // sort.rt: sorting
-pub mod stays; // stays.rt: vectors that keep every gap
 
-// A vector that does not stay, stabilised, with the number of moves; sum is that of the gaps. The test stands behind the move, since callers
-// have made it before. Behind the last move it spares the fallback, which leaves a vector that stays as it is.
+// A vector that does not stay, stabilised, with the number of moves; sum is that of the gaps. The test stands behind the move, since
+// callers have made it before. Behind the last move it spares the fallback, which leaves a vector that stays as it is.
 pub fn stabilise_run(v: &mut [i16], g: &[i16], sum: i32) -> u32
     requires { ⌜ (MoveOk (now g) (now v) 0 × (sum ≡ total (now g))) × (stays (now g) (now v) ≡ false) ⌝ }
     ensures { λ r. ⌜ record { vector = now (v .exit); moves = r } ≡ stabilise kept16 (now (g .entry)) (now (v .entry)) ⌝ }

@@ -11,12 +11,6 @@ rowCount = 166
 unfoldable pub rowOf : ℕ → List ℕ
 rowOf k = getD sheet k []
 
--- ---- the header
-
--- redundancy flags of 2 or 3 frames (section 4.2.4)
-abbrev pub flagRow : ℕ → List ℕ
-flagRow frames = rowOf (frames - 2)
-
 -- ---- the side indices
 
 -- type and offset, active 0 or 1 (section 4.2.7.3)

@@ -43,7 +43,8 @@ sized b e =
     record {
       small = leb-true (b .step) 11796 (p .0);
       heavy = λ v i h k.
-          leb-true 1 (getD (getD (b .weights) v []) i 0) (every-at (leb 1) (getD (b .weights) v []) 0 (every-at (every (leb 1)) (b .weights) [] (q .0) v h) i k);
+          leb-true 1 (getD (getD (b .weights) v []) i 0)
+          (every-at (leb 1) (getD (b .weights) v []) 0 (every-at (every (leb 1)) (b .weights) [] (q .0) v h) i k);
       gaps = t .0;
       last = leb-true 2 (up (at (map pos (b .gaps)) (b .order))) (t .1);
     }

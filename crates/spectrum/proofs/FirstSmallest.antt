@@ -45,7 +45,8 @@ least-at [] = refl
 least-at (x ∷ []) = refl
 least-at (x ∷ (y ∷ r)) = go (leZ x (least (y ∷ r))) (least-at (y ∷ r))
   where
-    go : (t : Bool) → least (y ∷ r) ≡ at (y ∷ r) (firstLeast (y ∷ r)) → cond t x (least (y ∷ r)) ≡ at (x ∷ (y ∷ r)) (cond t 0 (suc (firstLeast (y ∷ r))))
+    go : (t : Bool) → least (y ∷ r) ≡ at (y ∷ r) (firstLeast (y ∷ r))
+        → cond t x (least (y ∷ r)) ≡ at (x ∷ (y ∷ r)) (cond t 0 (suc (firstLeast (y ∷ r))))
     go true e = refl
     go false e = e
 
@@ -93,7 +94,8 @@ unfolding diffs
 diff-first p v vs [] h = absurd (not-suc-le-zero h)
 diff-first p v vs (g ∷ gs) h = refl
 
-pub diff-between : (p : ℤ) (v g : List ℤ) (i : ℕ) → length g ≡ suc (length v) → suc i < length v → at (diffs p v g) (suc i) ≡ at v (suc i) -ℤ (at v i +ℤ at g (suc i))
+pub diff-between : (p : ℤ) (v g : List ℤ) (i : ℕ) → length g ≡ suc (length v) → suc i < length v
+    → at (diffs p v g) (suc i) ≡ at v (suc i) -ℤ (at v i +ℤ at g (suc i))
 unfolding diffs
 diff-between p [] g i l h = absurd (not-suc-le-zero h)
 diff-between p (v ∷ []) g i l h = absurd (not-suc-le-zero (le-of-suc-le-suc h))
@@ -102,7 +104,8 @@ diff-between p (v ∷ (w ∷ vs)) (a ∷ []) i l h = absurd (omega arith)
 diff-between p (v ∷ (w ∷ vs)) (a ∷ (b ∷ g)) zero l h = refl
 diff-between p (v ∷ (w ∷ vs)) (a ∷ (b ∷ g)) (suc i) l h = diff-between v (w ∷ vs) (b ∷ g) i (suc-inj l) (le-of-suc-le-suc h)
 
-pub diff-last : (p : ℤ) (v g : List ℤ) (i : ℕ) → length g ≡ suc (length v) → suc i ≡ length v → at (diffs p v g) (suc i) ≡ top -ℤ (at v i +ℤ at g (suc i))
+pub diff-last : (p : ℤ) (v g : List ℤ) (i : ℕ) → length g ≡ suc (length v) → suc i ≡ length v
+    → at (diffs p v g) (suc i) ≡ top -ℤ (at v i +ℤ at g (suc i))
 unfolding diffs
 diff-last p [] g i l h = absurd (omega arith)
 diff-last p (v ∷ vs) [] i l h = absurd (omega arith)
@@ -122,7 +125,8 @@ pub turn-stop : (store : ℤ → ℤ) (m n : ℕ) (g v : List ℤ) → length g 
 turn-stop store m n g v l r e =
     ap (after m) (run-settled store n g v l r e) ∙ (let z : m + 0 ≡ m = omega arith in ap (λ (k : ℕ). record { vector = v; moves = k }) z)
 
-pub turn-move : (store : ℤ → ℤ) (m n : ℕ) (g v : List ℤ) → keeps g v ≡ false → after m (run store (suc n) g v) ≡ after (m + 1) (run store n g (move store g v (place g v)))
+pub turn-move : (store : ℤ → ℤ) (m n : ℕ) (g v : List ℤ) → keeps g v ≡ false
+    → after m (run store (suc n) g v) ≡ after (m + 1) (run store n g (move store g v (place g v)))
 unfolding run
 turn-move store m n g v e =
     let s = run store n g (move store g v (place g v)) in

@@ -34,7 +34,8 @@ unfolding Good total
 good-total [] r = absurd r
 good-total (g ∷ []) r = (omega (arith, down-sum g (pos 0)), omega (arith, up-sum g (pos 0)))
 good-total (g ∷ (h ∷ gs)) r =
-    let i = good-total (h ∷ gs) (r .1) in (omega (arith, down-sum g (total (h ∷ gs)), i .0, r .0), omega (arith, up-sum g (total (h ∷ gs)), i .0, i .1, r .0))
+    let i = good-total (h ∷ gs) (r .1) in
+    (omega (arith, down-sum g (total (h ∷ gs)), i .0, r .0), omega (arith, up-sum g (total (h ∷ gs)), i .0, i .1, r .0))
 
 -- ---- the test and the fact
 
@@ -123,7 +124,9 @@ climb-above s p g (h ∷ gs) (v ∷ vs) l r k b =
     let d : down g ≡ 0 = r .0 in
     let t = good-total (h ∷ gs) (r .1) in
     let x = maxZ v (sat16 (p +ℤ g)) in
-    let c : pos (s + up g) ≼ sat16 (p +ℤ g) = held-above (negsuc 32767) (pos 32767) (p +ℤ g) (pos (s + up g)) (omega (arith, up-sum g (total (h ∷ gs)), t .0, t .1, d)) (omega (arith, sum-parts p g, d)) in
+    let c : pos (s + up g) ≼ sat16 (p +ℤ g) =
+    held-above (negsuc 32767) (pos 32767) (p +ℤ g) (pos (s + up g)) (omega (arith, up-sum g (total (h ∷ gs)), t .0, t .1, d))
+    (omega (arith, sum-parts p g, d)) in
     let f : pos (s + up g) ≼ x = omega (arith, c, max-right v (sat16 (p +ℤ g))) in
     (f, climb-above (s + up g) x h gs vs (suc-inj l) (r .1) f (omega (arith, up-sum g (total (h ∷ gs)), t .0, d)))
 
@@ -159,7 +162,8 @@ length-climb p (g ∷ gs) (v ∷ vs) = ap suc (length-climb (maxZ v (sat16 (p +�
 
 -- ---- the fallback keeps every gap, whatever the vector
 
-pub fallen-kept : (g u : List ℤ) → length g ≡ suc (length u) → Good g → up (total g) ≤ 32768 → Kept (pos 0) (lowered (drop 1 g) (raised g u)) g
+pub fallen-kept : (g u : List ℤ) → length g ≡ suc (length u) → Good g → up (total g) ≤ 32768
+    → Kept (pos 0) (lowered (drop 1 g) (raised g u)) g
 unfolding raised lowered Kept Good Rest Above total
 fallen-kept [] u l r b = absurd r
 fallen-kept (g ∷ gs) [] l r b =
@@ -178,7 +182,9 @@ fallen-kept (g ∷ (h ∷ gs)) (v ∷ vs) l r b =
     let k : pos (up g) ≼ x = omega (arith, max-right v g, d) in
     let m : up g + up (total (h ∷ gs)) ≤ 32768 = omega (arith, up-sum g (total (h ∷ gs)), t .0, d) in
     let n : length gs ≡ length vs = suc-inj (suc-inj l) in
-    let i = lowered-keeps (up g) h gs x (climb x vs (h ∷ gs)) (n ∙ sym (length-climb x (h ∷ gs) vs)) (r .1) (k, climb-above (up g) x h gs vs n (r .1) k m) m in
+    let i =
+    lowered-keeps (up g) h gs x (climb x vs (h ∷ gs)) (n ∙ sym (length-climb x (h ∷ gs) vs)) (r .1)
+    (k, climb-above (up g) x h gs vs n (r .1) k m) m in
     let y = front (lowered (h ∷ gs) (x ∷ climb x vs (h ∷ gs))) in
     let f : pos (up g) ≼ y = i .0 in
     (omega (arith, sum-parts (pos 0) g, f, d), i .1)
@@ -212,7 +218,8 @@ length-run store (suc n) g v =
     chosen (λ (s : Stable). length (s .vector) ≡ length v) (keeps g v) (λ e. refl)
     (λ e. length-run store n g (move store g v (place g v)) ∙ length-move store g v (place g v))
 
-pub run-kept : (store : ℤ → ℤ) (n : ℕ) (g v : List ℤ) → length g ≡ suc (length v) → Good g → up (total g) ≤ 32768 → Kept (pos 0) (run store n g v .vector) g
+pub run-kept : (store : ℤ → ℤ) (n : ℕ) (g v : List ℤ) → length g ≡ suc (length v) → Good g → up (total g) ≤ 32768
+    → Kept (pos 0) (run store n g v .vector) g
 unfolding run
 run-kept store zero g v l r b = fallback-kept g v l r b
 run-kept store (suc n) g v l r b =
@@ -225,12 +232,14 @@ pub moves-most : (store : ℤ → ℤ) (n : ℕ) (g v : List ℤ) → run store 
 unfolding run
 moves-most store zero g v = omega arith
 moves-most store (suc n) g v =
-    chosen (λ (s : Stable). s .moves ≤ suc n) (keeps g v) (λ e. omega arith) (λ e. omega (arith, moves-most store n g (move store g v (place g v))))
+    chosen (λ (s : Stable). s .moves ≤ suc n) (keeps g v) (λ e. omega arith)
+    (λ e. omega (arith, moves-most store n g (move store g v (place g v))))
 
 -- a vector that keeps its gaps is handed back, with 0 moves
 pub run-still : (store : ℤ → ℤ) (n : ℕ) (g v : List ℤ) → keeps g v ≡ true → run store (suc n) g v ≡ record { vector = v; moves = 0 }
 unfolding run
-run-still store n g v e = ap (λ (t : Bool). cond t (record { vector = v; moves = 0 }) (oneMore (run store n g (move store g v (place g v))))) e
+run-still store n g v e =
+    ap (λ (t : Bool). cond t (record { vector = v; moves = 0 }) (oneMore (run store n g (move store g v (place g v))))) e
 
 -- and 0 moves are made of no other
 pub run-moved : (store : ℤ → ℤ) (n : ℕ) (g v : List ℤ) → run store (suc n) g v .moves ≡ 0 → keeps g v ≡ true

@@ -1,4 +1,6 @@
 pub mod Extremes
+pub mod Widened
+pub mod SumLaws
 pub mod Kept
 pub mod Results
 pub mod SameStores
@@ -6,7 +8,6 @@ pub mod MoveBounds
 pub mod Sorting
 pub mod Settled
 pub mod FirstSmallest
-pub mod WholeMoves
 pub mod ResidualBounds
 pub mod CallLaws
 pub mod PlaceLaws

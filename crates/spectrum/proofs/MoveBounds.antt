@@ -23,7 +23,8 @@ use Rattle.spectrum.proofs.Kept.{good-total, length-move}
 use Rattle.spectrum.proofs.SameStores.{kept16-keeps, run-same}
 use Rattle.spectrum.specs.Distances.{diffs, least, firstLeast, keeps, place, lower, upper, centre, newLow, move}
 use Rattle.spectrum.specs.Gaps.{Good, Ruled}
-use Rattle.spectrum.specs.Stabilising.{stabilise, kept16, whole}
+use Rattle.spectrum.specs.Stabilising.{stabilise, kept16}
+use Rattle.spectrum.specs.Statement.{SameTwo}
 use Rattle.spectrum.specs.Stores.{fits16, Keeps16, stores, calm}
 use Rattle.spectrum.specs.Values.{at, top, _≼_, held, half, total}
 
@@ -37,6 +38,15 @@ good-at (g ∷ (h ∷ gs)) r zero =
 good-at (g ∷ (h ∷ gs)) r (suc i) =
     let t = good-total (h ∷ gs) (r .1) in
     let q = good-at (h ∷ gs) (r .1) i in (q .0, omega (arith, up-sum g (total (h ∷ gs)), t .0, r .0, q .1))
+
+-- the last gap is 1 or more
+pub last-gap : (g : List ℤ) (n : ℕ) → length g ≡ suc n → Good g → 1 ≤ up (at g n)
+unfolding Good
+last-gap [] n l r = absurd r
+last-gap (a ∷ []) zero l r = r .1
+last-gap (a ∷ []) (suc n) l r = absurd (omega arith)
+last-gap (a ∷ (b ∷ g)) zero l r = absurd (omega arith)
+last-gap (a ∷ (b ∷ g)) (suc n) l r = last-gap (b ∷ g) n (suc-inj l) (r .1)
 
 pub record Cut (g : List ℤ) (i n : ℕ) : Type 0 where
   pub before0 : down (total (take i g)) ≡ 0
@@ -90,7 +100,8 @@ limits g i n m c =
     let b = total (drop (suc i) g) in
     let h = half (at g i) in
     let l1 : up (a +ℤ h) ≡ up a + up h = omega (arith, up-sum a h, c .before0, f .0) in
-    let u1 : up ((top -ℤ b) -ℤ h) + up b + up h ≡ 32768 = omega (arith, up-diff (top -ℤ b) h, up-diff top b, down-diff top b, c .behind0, f .0, f .1 .0, c .all) in
+    let u1 : up ((top -ℤ b) -ℤ h) + up b + up h ≡ 32768 =
+    omega (arith, up-diff (top -ℤ b) h, up-diff top b, down-diff top b, c .behind0, f .0, f .1 .0, c .all) in
     record {
       low0 = omega (arith, down-sum a h, c .before0, f .0);
       low = l1;
@@ -135,7 +146,8 @@ module _ (store : ℤ → ℤ) (k : Keeps16 store) where
       let z = centre g i a b in
       let s : store z ≡ z = k z (fits-nat z (e .nat) (omega (arith, e .most, c .some))) in
       ap (λ (y : ℤ). store (y -ℤ half (at g i))) s
-      ∙ k (z -ℤ half (at g i)) (fits-nat (z -ℤ half (at g i)) (omega (arith, down-diff z (half (at g i)), e .nat, f .0, e .least)) (omega (arith, up-diff z (half (at g i)), e .nat, f .0, e .most, c .some)))
+      ∙ k (z -ℤ half (at g i))
+      (fits-nat (z -ℤ half (at g i)) (omega (arith, down-diff z (half (at g i)), e .nat, f .0, e .least)) (omega (arith, up-diff z (half (at g i)), e .nat, f .0, e .most, c .some)))
 
   pub record Stored (g : List ℤ) (i n : ℕ) (z : ℤ) : Type 0 where
     pub nat : down z ≡ 0
@@ -189,16 +201,19 @@ module _ (store : ℤ → ℤ) (k : Keeps16 store) (g : List ℤ) (r : Ruled g) 
   last-fits : (n : ℕ) → 1 ≤ up (at g n) → fits16 (top -ℤ at g n) ≡ true
   last-fits n h =
       let q = good-at g (r .good) n in
-      fits-nat (top -ℤ at g n) (omega (arith, down-diff top (at g n), q .0, q .1, r .most)) (omega (arith, up-diff top (at g n), q .0, q .1, r .most))
+      fits-nat (top -ℤ at g n) (omega (arith, down-diff top (at g n), q .0, q .1, r .most))
+      (omega (arith, up-diff top (at g n), q .0, q .1, r .most))
 
-  stores-fit : (v : List ℤ) (i : ℕ) → length g ≡ suc (length v) → 0 < length v → 2 ≤ up (at g (length v)) → i ≤ length v → every fits16 (stores store g v i) ≡ true
+  stores-fit : (v : List ℤ) (i : ℕ) → length g ≡ suc (length v) → 0 < length v → 2 ≤ up (at g (length v)) → i ≤ length v
+      → every fits16 (stores store g v i) ≡ true
   unfolding stores newLow
   stores-fit v zero l h t p = both-and (fits16 (at g 0)) true (first-fits (length v) l h) refl
   stores-fit v (suc j) l h t p =
       chosen (λ (s : List ℤ). every fits16 s ≡ true) (eqb (suc j) (length v))
       (λ e.
       let q : suc j ≡ length v = eqb-true (suc j) (length v) e in
-      both-and (fits16 (top -ℤ at g (suc j))) true (subst (λ (n : ℕ). fits16 (top -ℤ at g n) ≡ true) (sym q) (last-fits (length v) (omega (arith, t)))) refl)
+      both-and (fits16 (top -ℤ at g (suc j))) true
+      (subst (λ (n : ℕ). fits16 (top -ℤ at g n) ≡ true) (sym q) (last-fits (length v) (omega (arith, t)))) refl)
       (λ e.
       let q : suc j ≢ length v = eqb-false (suc j) (length v) e in
       let c = cut g (suc j) (length v) l (omega (arith, p, q)) (r .good) in
@@ -208,7 +223,8 @@ module _ (store : ℤ → ℤ) (k : Keeps16 store) (g : List ℤ) (r : Ruled g) 
       let f = half-nat (at g (suc j)) (c .here0) in
       let s : store z ≡ z = k z (fits-nat z (d .nat) (omega (arith, d .most, c .some))) in
       let w = high-within store k g (suc j) (length v) (at v j) (at v (suc j)) (r .most) c in
-      both-and (fits16 z) (fits16 (store z -ℤ y) && (fits16 (store (store z -ℤ y) +ℤ at g (suc j)) && true)) (fits-nat z (d .nat) (omega (arith, d .most, c .some)))
+      both-and (fits16 z) (fits16 (store z -ℤ y) && (fits16 (store (store z -ℤ y) +ℤ at g (suc j)) && true))
+      (fits-nat z (d .nat) (omega (arith, d .most, c .some)))
       (both-and (fits16 (store z -ℤ y)) (fits16 (store (store z -ℤ y) +ℤ at g (suc j)) && true)
       (subst (λ (x : ℤ). fits16 (x -ℤ y) ≡ true) (sym s)
       (fits-nat (z -ℤ y) (omega (arith, down-diff z y, d .nat, f .0, d .least)) (omega (arith, up-diff z y, d .nat, f .0, d .most, c .some))))
@@ -225,6 +241,6 @@ module _ (store : ℤ → ℤ) (k : Keeps16 store) (g : List ℤ) (r : Ruled g) 
       (stores-fit v (place g v) l h t (place-most v g l))
       (calm-two n (move store g v (place g v)) (l ∙ ap suc (sym m)) (omega (arith, m, h)) (subst (λ (i : ℕ). 2 ≤ up (at g i)) (sym m) t)))
 
-pub same-two : (g v : List ℤ) → Ruled g → length g ≡ suc (length v) → 0 < length v → 2 ≤ up (at g (length v)) → stabilise kept16 g v ≡ stabilise whole g v
+pub same-two : SameTwo
 unfolding stabilise
 same-two g v r l h t = run-same kept16 kept16-keeps 20 g v (calm-two kept16 kept16-keeps g r 20 v l h t)

@@ -7,10 +7,10 @@ use native.Mathlib.Nat.{suc-inj, not-suc-le-zero, le-of-suc-le-suc, zero-mul}
 use lib.IntN.{ℤ, pos, _+ℤ_, +ℤ-idl}
 use lib.Signed.{shrZ}
 use lib.ListN.{length, getD}
-use Rattle.sheet.specs.Books.{Book}
 use Rattle.spectrum.proofs.ResidualBounds.{placed-within}
 use Rattle.spectrum.specs.Places.{placed, placedAll, places}
 use Rattle.spectrum.specs.Residuals.{scaled, predicted, leading, residuals, predictorIn}
+use Rattle.spectrum.specs.Statement.{PlacesWithin}
 use Rattle.spectrum.specs.Values.{at, Within}
 
 -- nothing behind adds nothing
@@ -94,7 +94,7 @@ placed-all-within (b ∷ bs) (w ∷ ws) (r ∷ rs) =
     let p = placed-within b w r in ((omega (arith, p .0), p .1), placed-all-within bs ws rs)
 
 -- so what decoding hands to the stabiliser does
-pub places-within : (b : Book) (v : ℕ) (xs : List ℤ) → Within 0 32767 (places b v xs)
+pub places-within : PlacesWithin
 unfolding places
 places-within b v xs =
     placed-all-within (getD (b .vectors) v []) (getD (b .weights) v [])

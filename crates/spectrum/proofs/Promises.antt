@@ -1,4 +1,5 @@
--- What the two calls promise besides their definitions: how many moves, which gaps are kept, and when a vector stays. Assumes nothing.
+-- What the two calls promise besides their definitions (`specs/Statement`): how many moves, which gaps are kept, and when a vector stays.
+-- Assumes nothing.
 use Prim.Native.Nat.{ℕ, suc, _≤_, _<_}
 use mathlib.Core.Path.{_≡_, refl, sym, ap, subst, subst⁻¹, _∙_}
 use mathlib.Core.Bool.{true}
@@ -18,6 +19,8 @@ use Rattle.spectrum.specs.Calls.{Called, called, answered, stabiliseRefu
 use Rattle.spectrum.specs.Gaps.{goodGaps, EveryGap}
 use Rattle.spectrum.specs.Places.{places}
 use Rattle.spectrum.specs.Stabilising.{Stable, stabilise, kept16, whole}
+use Rattle.spectrum.specs.Statement.{Stabilises, StabiliseMoves, StabiliseGaps, StabiliseStays, StabiliseStayed}
+use Rattle.spectrum.specs.Statement.{Decodes, DecodeMoves, DecodeGaps, DecodeWhole}
 use Rattle.spectrum.specs.Values.{at}
 use Rattle.spectrum.specs.declared.Spectrum.{Spectrum}
 
@@ -28,11 +31,11 @@ unfolding answered
 answered-moves n v s h =
     chosen (λ (c : Called). c .answer .moves ≤ 20) (eqb n 0) (λ e. h) (λ e. omega arith)
 
-pub stabilise-moves : (v g : List ℤ) → stabiliseCall v g .answer .moves ≤ 20
+pub stabilise-moves : StabiliseMoves
 unfolding stabiliseCall
 stabilise-moves v g = answered-moves (stabiliseRefusal v g) v (stabilise kept16 g v) (few-moves kept16 g v)
 
-pub decode-moves : (v : List ℤ) (s : Spectrum) (khz : ℕ) → decodeCall v s khz .answer .moves ≤ 20
+pub decode-moves : DecodeMoves
 unfolding decodeCall decoded
 decode-moves v s khz =
     let b = bookOf khz in
@@ -41,7 +44,7 @@ decode-moves v s khz =
 
 -- ---- an accepted stabiliser
 
-module _ (v g : List ℤ) (e : stabiliseRefusal v g ≡ 0) where
+module _ (v g : List ℤ) (e : Stabilises v g) where
   answers : stabiliseCall v g ≡ called (stabilise kept16 g v .vector) 0 (stabilise kept16 g v .moves)
   answers = sym (stabilise-answers v g (stabilise kept16 g v .vector) (stabilise kept16 g v .moves) e refl)
 
@@ -54,18 +57,21 @@ module _ (v g : List ℤ) (e : stabiliseRefusal v g ≡ 0) where
   some : 0 < length v
   some = omega (arith, sizes .least)
 
-  -- every gap is kept
-  pub stabilise-gaps : EveryGap g (stabiliseCall v g .vector)
-  stabilise-gaps =
-      subst⁻¹ (λ (c : Called). EveryGap g (c .vector)) answers (every-gap kept16 g v long (stabilise-accepted v g e .1) some)
+  rule : goodGaps (length v) g ≡ true
+  rule = stabilise-accepted v g e .1
 
-  -- a vector that keeps every gap stays, with 0 moves; 0 moves are made of no other
-  pub stabilise-stays : EveryGap g v → stabiliseCall v g ≡ called v 0 0
-  stabilise-stays k =
-      answers ∙ ap (λ (s : Stable). called (s .vector) 0 (s .moves)) (still kept16 g v long (stabilise-accepted v g e .1) some k)
+pub stabilise-gaps : StabiliseGaps
+stabilise-gaps v g e =
+    subst⁻¹ (λ (c : Called). EveryGap g (c .vector)) (answers v g e) (every-gap kept16 g v (long v g e) (rule v g e) (some v g e))
 
-  pub stabilise-stayed : stabiliseCall v g .answer .moves ≡ 0 → EveryGap g v
-  stabilise-stayed k = moved-not kept16 g v long (stabilise-accepted v g e .1) some (sym (ap (λ (c : Called). c .answer .moves) answers) ∙ k)
+pub stabilise-stays : StabiliseStays
+stabilise-stays v g e k =
+    answers v g e
+    ∙ ap (λ (s : Stable). called (s .vector) 0 (s .moves)) (still kept16 g v (long v g e) (rule v g e) (some v g e) k)
+
+pub stabilise-stayed : StabiliseStayed
+stabilise-stayed v g e k =
+    moved-not kept16 g v (long v g e) (rule v g e) (some v g e) (sym (ap (λ (c : Called). c .answer .moves) (answers v g e)) ∙ k)
 
 -- ---- accepted decoding
 
@@ -73,7 +79,7 @@ indices-long : (n : ℕ) (index : List ℤ) → length index ≡ 17 → n ≤ 16
 indices-long n index l h =
     let d : length (drop 1 index) ≡ 16 = omega (arith, length-drop 1 index) in length-take-le n (drop 1 index) (omega arith)
 
-module _ (v : List ℤ) (s : Spectrum) (khz : ℕ) (w : length (s .index) ≡ 17) (e : decodeRefusal v (s .index) khz ≡ 0) where
+module _ (v : List ℤ) (s : Spectrum) (khz : ℕ) (w : length (s .index) ≡ 17) (e : Decodes v s khz) where
   -- what the stabiliser gets
   abbrev handed : List ℤ
   handed = places (bookOf khz) (up (at (s .index) 0)) (placeIndices (bookOf khz .order) (s .index))
@@ -87,24 +93,35 @@ module _ (v : List ℤ) (s : Spectrum) (khz : ℕ) (w : length (s .index) ≡ 17
       places-long (bookOf khz) u (up (at (s .index) 0)) (placeIndices (bookOf khz .order) (s .index)) (omega (arith, accepted .first))
       (indices-long (bookOf khz .order) (s .index) w (u .few))
 
-  -- every gap of the book is kept
-  pub decode-gaps : EveryGap (map pos (bookOf khz .gaps)) (decodeCall v s khz .vector)
-  unfolding decoded
-  decode-gaps =
-      let u = book-usable khz in
-      let g = map pos (bookOf khz .gaps) in
-      let d = decoded kept16 (bookOf khz) (s .index) in
-      let l : length g ≡ suc (length handed) = gaps-long (bookOf khz) u ∙ ap suc (sym handed-long) in
-      subst (λ (c : Called). EveryGap g (c .vector)) (decode-answers v s khz (d .vector) (d .moves) e refl)
-      (every-gap kept16 g handed l (subst⁻¹ (λ (n : ℕ). goodGaps n g ≡ true) handed-long (u .sized .gaps)) (omega (arith, handed-long, u .some)))
+  -- the book's gaps are those of what is handed on
+  abbrev gaps : List ℤ
+  gaps = map pos (bookOf khz .gaps)
 
-  -- moves in whole numbers would give the same: the last gap of either book is 2 or more
-  pub decode-whole : decoded kept16 (bookOf khz) (s .index) ≡ decoded whole (bookOf khz) (s .index)
+  gaps-many : length gaps ≡ suc (length handed)
+  gaps-many = gaps-long (bookOf khz) (book-usable khz) ∙ ap suc (sym handed-long)
+
+  gaps-rule : goodGaps (length handed) gaps ≡ true
+  gaps-rule = subst⁻¹ (λ (n : ℕ). goodGaps n gaps ≡ true) handed-long (book-usable khz .sized .gaps)
+
+  handed-some : 0 < length handed
+  handed-some = omega (arith, handed-long, book-usable khz .some)
+
+  book-gaps : EveryGap gaps (decodeCall v s khz .vector)
   unfolding decoded
-  decode-whole =
-      let u = book-usable khz in
-      let g = map pos (bookOf khz .gaps) in
-      let l : length g ≡ suc (length handed) = gaps-long (bookOf khz) u ∙ ap suc (sym handed-long) in
-      same-two g handed (ruled (length handed) g l (subst⁻¹ (λ (n : ℕ). goodGaps n g ≡ true) handed-long (u .sized .gaps))) l
-      (omega (arith, handed-long, u .some))
-      (subst⁻¹ (λ (n : ℕ). 2 ≤ up (at g n)) handed-long (u .sized .last))
+  book-gaps =
+      let d = decoded kept16 (bookOf khz) (s .index) in
+      subst (λ (c : Called). EveryGap gaps (c .vector)) (decode-answers v s khz (d .vector) (d .moves) e refl)
+      (every-gap kept16 gaps handed gaps-many gaps-rule handed-some)
+
+  -- the last gap of either book is 2 or more
+  book-whole : decoded kept16 (bookOf khz) (s .index) ≡ decoded whole (bookOf khz) (s .index)
+  unfolding decoded
+  book-whole =
+      same-two gaps handed (ruled (length handed) gaps gaps-many gaps-rule) gaps-many handed-some
+      (subst⁻¹ (λ (n : ℕ). 2 ≤ up (at gaps n)) handed-long (book-usable khz .sized .last))
+
+pub decode-gaps : DecodeGaps
+decode-gaps = book-gaps
+
+pub decode-whole : DecodeWhole
+decode-whole = book-whole

@@ -15,6 +15,7 @@ use Rattle.ints.specs.Sums.{up-sum, down-sum, up-diff, down-diff, up-times, dow
 use Rattle.spectrum.proofs.Extremes.{chosen-ltZ, held-least, held-most}
 use Rattle.spectrum.specs.Places.{placed}
 use Rattle.spectrum.specs.Residuals.{nudged, scaled, predicted, leading, residuals}
+use Rattle.spectrum.specs.Statement.{ResidualsWithin, MovedFits}
 use Rattle.spectrum.specs.Values.{held, Mag, Within}
 
 pub nudged-within : (x : ℤ) → Mag 10 x → Mag 10138 (nudged x)
@@ -60,18 +61,20 @@ module _ (step : ℕ) (predictor : ℕ → ℕ) (h : step ≤ 11796) (e : (i : �
       let b = scaled-within step x h (f .0 .1, f .0 .0) in
       (omega (arith, up-sum (predicted (predictor k) r) (scaled step x), a .0, b .0), omega (arith, down-sum (predicted (predictor k) r) (scaled step x), a .1, b .1))
 
-  -- every residual, for at most 16 places
-  pub residuals-within : (k : ℕ) (xs : List ℤ) → length xs ≤ 16 → Within 10 10 xs → Within 29200 29200 (residuals step predictor k xs)
+  every-residual : (k : ℕ) (xs : List ℤ) → length xs ≤ 16 → Within 10 10 xs → Within 29200 29200 (residuals step predictor k xs)
   unfolding residuals Within
-  residuals-within k [] n f = tt
-  residuals-within k (x ∷ []) n f = let a = first-residual k (x ∷ []) f in ((omega (arith, a .1), omega (arith, a .0)), tt)
-  residuals-within k (x ∷ y ∷ xs) n f =
+  every-residual k [] n f = tt
+  every-residual k (x ∷ []) n f = let a = first-residual k (x ∷ []) f in ((omega (arith, a .1), omega (arith, a .0)), tt)
+  every-residual k (x ∷ y ∷ xs) n f =
       let a = first-residual k (x ∷ y ∷ xs) f in
-      ((omega (arith, a .1), omega (arith, a .0)), residuals-within (suc k) (y ∷ xs) (omega arith) (f .1))
+      ((omega (arith, a .1), omega (arith, a .0)), every-residual (suc k) (y ∷ xs) (omega arith) (f .1))
+
+pub residuals-within : ResidualsWithin
+residuals-within = every-residual
 
 -- ---- placing: what the division gives, and the sum, fit 32 bits; the place lies in 0 .. 32,767
 
-pub moved-fits : (w : ℕ) (r : ℤ) → Mag 29200 r → Mag 478412800 (r *ℤ pos 16384) × Mag 478412800 (quotZ (r *ℤ pos 16384) (pos w))
+pub moved-fits : MovedFits
 moved-fits w r m =
     let t = times-within r 16384 29200 16384 m (omega arith) in
     let z = r *ℤ pos 16384 in

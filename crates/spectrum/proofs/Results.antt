@@ -9,18 +9,19 @@ use native.Mathlib.Nat.{suc-inj, not-suc-le-zero, le-of-suc-le-suc}
 use lib.IntN.{ℤ, pos, _+ℤ_}
 use lib.Signed.{leZ}
 use lib.ListN.{length}
-use mir.Syntax.{w16}
-use mir.Val.{SFits}
 use Rattle.ints.specs.Order.{parts-alone, leZ-true, parts-le}
+use Rattle.ints.specs.Parts.{up, down}
 use Rattle.ints.specs.Sums.{sum-parts}
-use Rattle.ints.specs.Widths.{parts-fit}
 use Rattle.tests.specs.Both.{and-both}
 use Rattle.lists.specs.Every.{every}
 use Rattle.spectrum.proofs.Extremes.{le-parts}
-use Rattle.spectrum.proofs.Kept.{Kept, good-total, kept-keeps, keeps-kept, length-run, run-kept, moves-most, run-still, run-moved}
+use Rattle.spectrum.proofs.Kept.{Kept, good-total, kept-keeps, keeps-kept, fallback-kept, length-fallback}
+use Rattle.spectrum.proofs.Kept.{length-run, run-kept, moves-most, run-still, run-moved}
 use Rattle.spectrum.specs.Distances.{keeps}
+use Rattle.spectrum.specs.Fallback.{fallback}
 use Rattle.spectrum.specs.Gaps.{goodGaps, Good, Ruled, EveryGap}
 use Rattle.spectrum.specs.Stabilising.{stabilise}
+use Rattle.spectrum.specs.Statement.{StoresGaps, Twice, ResultWithin}
 use Rattle.spectrum.specs.Values.{at, top, _≼_, total, Within}
 
 -- ---- the gap set's test
@@ -115,11 +116,17 @@ kept-within p (x ∷ v) (a ∷ (b ∷ g)) l r z k =
     let b1 : x ≼ pos 32767 = kept-below x v (b ∷ g) (suc-inj l) (r .1) (k .1) in
     ((omega (arith, parts-alone x), omega (arith, parts-alone x)), kept-within x v (b ∷ g) (suc-inj l) (r .1) b0 (k .1))
 
-pub within-fits : (v : List ℤ) → Within 0 32767 v → (i : ℕ) → SFits w16 (at v i)
+-- so does each of the fallback's result
+pub fallback-within : (g v : List ℤ) → Ruled g → length g ≡ suc (length v) → Within 0 32767 (fallback g v)
+fallback-within g v r l =
+    kept-within (pos 0) (fallback g v) g (l ∙ ap suc (sym (length-fallback g v))) (r .good) (omega arith)
+    (fallback-kept g v l (r .good) (r .most))
+
+pub within-at : (lo hi : ℕ) (v : List ℤ) → Within lo hi v → (i : ℕ) → (down (at v i) ≤ lo) × (up (at v i) ≤ hi)
 unfolding Within
-within-fits [] h i = parts-fit (pos 0) (omega arith) (omega arith)
-within-fits (x ∷ v) h zero = parts-fit x (omega (arith, h .0 .1)) (omega (arith, h .0 .0))
-within-fits (x ∷ v) h (suc i) = within-fits v (h .1) i
+within-at lo hi [] h i = (omega arith, omega arith)
+within-at lo hi (x ∷ v) h zero = h .0
+within-at lo hi (x ∷ v) h (suc i) = within-at lo hi v (h .1) i
 
 -- at most 20 moves, whatever the gaps
 pub few-moves : (store : ℤ → ℤ) (g v : List ℤ) → stabilise store g v .moves ≤ 20
@@ -156,19 +163,18 @@ module _ (store : ℤ → ℤ) (g v : List ℤ) (l : length g ≡ suc (length v)
   long : length g ≡ suc (length (stabilise store g v .vector))
   long = l ∙ ap suc (sym as-long)
 
-  -- the result keeps the first gap from 0, each gap between neighbours and the last from 32,768
-  pub every-gap : 0 < length v → EveryGap g (stabilise store g v .vector)
-  every-gap h = kept-every (stabilise store g v .vector) g (omega (arith, as-long)) kept
+-- ---- the laws that are promised
 
-  -- stabilising twice is stabilising once, whatever the second store
-  pub twice : (again : ℤ → ℤ) → stabilise again g (stabilise store g v .vector) ≡ record { vector = stabilise store g v .vector; moves = 0 }
-  unfolding stabilise
-  twice again = run-still again 19 g (stabilise store g v .vector) (kept-keeps (stabilise store g v .vector) g kept)
+pub every-gap : StoresGaps
+every-gap store g v l e h =
+    kept-every (stabilise store g v .vector) g (omega (arith, as-long store g v l e)) (kept store g v l e)
 
-  -- each value of the result lies in 0 .. 32,767
-  pub result-within : Within 0 32767 (stabilise store g v .vector)
-  result-within =
-      kept-within (pos 0) (stabilise store g v .vector) g long (ruled (length v) g l e .good) (omega arith) kept
+pub twice : Twice
+unfolding stabilise
+twice store g v l e again =
+    run-still again 19 g (stabilise store g v .vector) (kept-keeps (stabilise store g v .vector) g (kept store g v l e))
 
-  pub result-fits : (i : ℕ) → SFits w16 (at (stabilise store g v .vector) i)
-  result-fits = within-fits (stabilise store g v .vector) result-within
+pub result-within : ResultWithin
+result-within store g v l e =
+    kept-within (pos 0) (stabilise store g v .vector) g (long store g v l e) (ruled (length v) g l e .good) (omega arith)
+    (kept store g v l e)

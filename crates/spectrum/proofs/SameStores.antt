@@ -15,6 +15,7 @@ use Rattle.tests.specs.Both.{and-both}
 use Rattle.lists.specs.Every.{every}
 use Rattle.spectrum.specs.Distances.{keeps, place, centre, newLow, newHigh, move}
 use Rattle.spectrum.specs.Stabilising.{oneMore, run, stabilise, kept16, whole}
+use Rattle.spectrum.specs.Statement.{SameStabiliser}
 use Rattle.spectrum.specs.Stores.{fits16, Keeps16, stores, calm}
 use Rattle.spectrum.specs.Values.{at, top, half}
 
@@ -22,11 +23,13 @@ pub kept16-keeps : Keeps16 kept16
 unfolding fits16
 kept16-keeps z e =
     let b = and-both (leZ (negsuc 32767) z) (leZ z (pos 32767)) e in
-    wrap16-is z z 0 0 refl (omega (arith, parts-alone z, leZ-true z (pos 32767) (b .1))) (omega (arith, parts-alone z, leZ-true (negsuc 32767) z (b .0)))
+    wrap16-is z z 0 0 refl (omega (arith, parts-alone z, leZ-true z (pos 32767) (b .1)))
+    (omega (arith, parts-alone z, leZ-true (negsuc 32767) z (b .0)))
 
 module _ (store : ℤ → ℤ) (k : Keeps16 store) where
   -- the move's last branch
-  apart-same : (g : List ℤ) (i : ℕ) (a b : ℤ) → every fits16 (centre g i a b ∷ ((store (centre g i a b) -ℤ half (at g i)) ∷ ((newLow store g i a b +ℤ at g i) ∷ []))) ≡ true
+  apart-same : (g : List ℤ) (i : ℕ) (a b : ℤ)
+      → every fits16 (centre g i a b ∷ ((store (centre g i a b) -ℤ half (at g i)) ∷ ((newLow store g i a b +ℤ at g i) ∷ []))) ≡ true
       → (newLow store g i a b ≡ newLow whole g i a b) × (newHigh store g i a b ≡ newHigh whole g i a b)
   unfolding newLow newHigh
   apart-same g i a b e =
@@ -49,8 +52,10 @@ module _ (store : ℤ → ℤ) (k : Keeps16 store) where
 
       go : (t : Bool) → every fits16 (cond t ((top -ℤ at g (suc j)) ∷ [])
           (centre g (suc j) (at v j) (at v (suc j)) ∷ ((store (centre g (suc j) (at v j) (at v (suc j))) -ℤ half (at g (suc j))) ∷ ((newLow store g (suc j) (at v j) (at v (suc j)) +ℤ at g (suc j)) ∷ [])))) ≡ true
-          → cond t (set v j (store (top -ℤ at g (suc j)))) (set (set v j (newLow store g (suc j) (at v j) (at v (suc j)))) (suc j) (newHigh store g (suc j) (at v j) (at v (suc j))))
-          ≡ cond t (set v j (top -ℤ at g (suc j))) (set (set v j (newLow whole g (suc j) (at v j) (at v (suc j)))) (suc j) (newHigh whole g (suc j) (at v j) (at v (suc j))))
+          → cond t (set v j (store (top -ℤ at g (suc j))))
+          (set (set v j (newLow store g (suc j) (at v j) (at v (suc j)))) (suc j) (newHigh store g (suc j) (at v j) (at v (suc j))))
+          ≡ cond t (set v j (top -ℤ at g (suc j)))
+          (set (set v j (newLow whole g (suc j) (at v j) (at v (suc j)))) (suc j) (newHigh whole g (suc j) (at v j) (at v (suc j))))
       go true f = ap (λ (z : ℤ). set v j z) (k (top -ℤ at g (suc j)) (and-both (fits16 (top -ℤ at g (suc j))) true f .0))
       go false f =
           let q = apart-same g (suc j) (at v j) (at v (suc j)) f in
@@ -73,6 +78,6 @@ module _ (store : ℤ → ℤ) (k : Keeps16 store) where
           ap oneMore (h (move store g v (place g v)) (b .1) ∙ ap (λ (w : List ℤ). run whole n g w) (m (b .0)))
 
 -- 16 bits kept, and moves in whole numbers: the same wherever no store leaves 16 bits
-pub same-stabiliser : (g v : List ℤ) → calm kept16 20 g v ≡ true → stabilise kept16 g v ≡ stabilise whole g v
+pub same-stabiliser : SameStabiliser
 unfolding stabilise
 same-stabiliser g v e = run-same kept16 kept16-keeps 20 g v e

@@ -1,7 +1,7 @@
 -- The fallback leaves a vector that keeps its gaps as it is, so a run that comes to one ends with it, whatever moves are left. Assumes nothing.
 use Prim.Native.Nat.{ℕ, zero, suc, _<_}
 use mathlib.Core.Path.{_≡_, refl, sym, ap, ap₂, _∙_}
-use mathlib.Core.Bool.{Bool, true, cond}
+use mathlib.Core.Bool.{Bool, cond}
 use mathlib.Core.List.{List, [], _∷_}
 use native.Mathlib.Omega.{arith}
 use native.Mathlib.Nat.{suc-inj}
@@ -14,10 +14,10 @@ use Rattle.spectrum.proofs.Kept.{Kept, keeps-kept, run-still}
 use Rattle.spectrum.proofs.MoveBounds.{good-at}
 use Rattle.spectrum.proofs.Results.{kept-at}
 use Rattle.spectrum.proofs.Sorting.{sorts}
-use Rattle.spectrum.specs.Distances.{keeps}
 use Rattle.spectrum.specs.Fallback.{sorted, sat16, climb, raised, front, lowered, fallback}
 use Rattle.spectrum.specs.Gaps.{Good}
 use Rattle.spectrum.specs.Stabilising.{run}
+use Rattle.spectrum.specs.Statement.{RunSettled}
 use Rattle.spectrum.specs.Values.{at, _≼_, maxZ, minZ, held}
 
 max-own : (a b : ℤ) → b ≼ a → maxZ a b ≡ a
@@ -92,7 +92,7 @@ fallback-still (a ∷ g) v l r k =
 
 -- ---- the run, for any store
 
-pub run-settled : (store : ℤ → ℤ) (n : ℕ) (g v : List ℤ) → length g ≡ suc (length v) → Good g → keeps g v ≡ true → run store n g v ≡ record { vector = v; moves = 0 }
+pub run-settled : RunSettled
 unfolding run
 run-settled store zero g v l r e =
     ap (λ (w : List ℤ). record { vector = w; moves = 0 }) (fallback-still g v l r (keeps-kept v g l e))

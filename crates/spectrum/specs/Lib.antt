@@ -8,4 +8,5 @@ pub mod Stabilising
 pub mod Stores
 pub mod Order
 pub mod Calls
+pub mod Statement
 pub mod Cases

@@ -4,17 +4,15 @@ ghost use mathlib.Core.List.{[]};
 ghost use Prim.Native.Nat.{_<_};
 ghost use lib.ListN.{getD};
 ghost use Rattle.table_entries.specs.Entries.{entryOf, noEntry, rowTables};
+use book::book_entry_run;
 use entry::NO_ENTRY;
 use entry::byte_at;
-use narrow::narrow_entry_run;
 use tables::rows::header_rows;
 use tables::rows::index_rows;
 use tables::rows::pulse_rows;
-use wide::wide_entry_run;
 
+mod book; // book.rt: entries of a book
 mod entry; // entry.rt: an entry of a list
-mod narrow; // narrow.rt: entries of the narrow book
-mod wide; // wide.rt: entries of the wide book
 
 fn row_entry(table: u32, place: usize) -> u32
     requires { ⌜ table < 3 ⌝ }
@@ -42,10 +40,10 @@ pub extern "C" fn tg_table_entry(table: u32, place: usize) -> u32
         return row_entry(table, place);
     }
     if table < 8 {
-        return narrow_entry_run(table - 3, place);
+        return book_entry_run(false, table - 3, place);
     }
     if table < 13 {
-        return wide_entry_run(table - 8, place);
+        return book_entry_run(true, table - 8, place);
     }
     NO_ENTRY
 }

@@ -1,6 +1,7 @@
--- What document 01's "What the contracts owe" asks of each exported call: any two outcomes that its contract admits on the same input coincide, in the
--- answer and in each slice lent for writing. `Post` is the contract itself, as the toolchain reads it from the call's `ensures`. Assumes nothing.
+-- Each exported call has one outcome on one input (`specs/Statement`). `Post` is the contract itself, as the toolchain reads it from the call's
+-- `ensures`. Assumes nothing.
 use mathlib.Core.Path.{_≡_, sym, ap, _∙_}
+use Rattle.tignarops.specs.Statement.{Answers, Leaves}
 use Rattle.tignarops.proofs.tg_dec_open.Reads as dec-open
 use Rattle.tignarops.proofs.tg_dec_account.Reads as dec-account
 use Rattle.tignarops.proofs.tg_dec_bit.Reads as dec-bit
@@ -23,15 +24,6 @@ use Rattle.tignarops.proofs.tg_nlsf_decode.Reads as nlsf-decode
 use Rattle.tignarops.proofs.tg_nlsf_stabilise.Reads as nlsf-stabilise
 use Rattle.tignarops.proofs.tg_packet_read.Reads as packet-read
 use Rattle.tignarops.proofs.tg_packet_write.Reads as packet-write
-
--- a contract over the lifetimes, what is passed, the answer and what is left, where nothing is lent for writing: one answer
-abbrev pub Answers : {K X A E : Type 0} → (K → X → A → E → Type 0) → Type 0
-Answers {K = K} {X = X} {A = A} {E = E} post = (k : K) (x : X) (a c : A) (e f : E) → post k x a e → post k x c f → a ≡ c
-
--- and where a slice is lent: one answer, and one slice
-abbrev pub Leaves : {K X A E S : Type 0} → (K → X → A → E → Type 0) → (E → S) → Type 0
-Leaves {K = K} {X = X} {A = A} {E = E} post slice =
-    (k : K) (x : X) (a c : A) (e f : E) → post k x a e → post k x c f → (a ≡ c) × (slice e ≡ slice f)
 
 -- two values of one equation agree in whatever they are made of
 one : {D A : Type 0} (part : D → A) {p q d : D} → p ≡ d → q ≡ d → part p ≡ part q

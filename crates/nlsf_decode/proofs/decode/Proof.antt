@@ -1,4 +1,4 @@
--- `decode` meets its contract. Assumes nothing.
+-- `decode` meets its contract: either arm is the book of its rate. Assumes nothing.
 use Prim.Native.Nat.{_≤_}
 use mathlib.Core.Path.{_≡_, _∙_}
 use native.Mathlib.Omega.{arith}
@@ -11,10 +11,9 @@ use mir.Syntax.{w8, w64}
 use mir.Val.{SFits, Fits}
 use mir.Facts.{toZ-ofZ}
 use Rattle.ints.specs.Parts.{up, down}
-use Rattle.sheet.specs.Books.{narrowBook, wideBook, narrow-shaped, wide-shaped}
-use Rattle.spectrum.proofs.CallLaws.{decode-accepted}
+use Rattle.spectrum.proofs.CallLaws.{Accepted, decode-accepted}
 use Rattle.spectrum.specs.Values.{at}
-use Rattle.nlsf_decode.proofs.RowLaws.{book-wide, book-narrow, indexed, decoded-as}
+use Rattle.nlsf_decode.proofs.RowLaws.{wide-under, narrow-under, indexed, decoded-as}
 use Rattle.nlsf_decode.proofs.decode.Statement.{statement}
 use Rattle.nlsf_decode.proofs.decode.Tie as tie
 
@@ -23,87 +22,62 @@ as-natural : (z : ℤ) → down z ≡ 0 → up z ≤ 31 → T (nonNeg z) × Fits
 as-natural (pos n) d u = (tt, omega arith)
 as-natural (negsuc n) d u = absurd (omega arith)
 
-array-copy-out-v : tie.Need-array-copy-out-v
-array-copy-out-v c = search needs
+-- the indices behind the reading of the first: 17 numbers of 8 bits, of an accepted call
+first-fits : (b : tie.After-v) → SFits w8 (at (b .before .args .t2) 0)
+first-fits b = sfits-of (b .v .given)
+
+all-there : (b : tie.After-v) → length (b .before .args .t2) ≡ 17
+all-there b = search needs
+
+taken : (b : tie.After-v) → let a = b .before .args in Accepted (a .vector .now) (a .t2) (a .khz)
+taken b = let a = b .before .args in decode-accepted (a .vector .now) (a .t2) (a .khz) (b .before .pre)
 
 cast-v : tie.Need-cast-v
-cast-v c = let f : SFits w8 (at (c .before .args .t2) 0) = sfits-of (c .v .given) in let a = decode-accepted (c .before .args .vector .now) (c .before .args .t2) (c .before .args .khz) (c .before .pre) in rw (toZ-ofZ f) (as-natural (at (c .before .args .t2) 0) (a .first0) (a .first))
+cast-v c = rw (toZ-ofZ (first-fits c)) (as-natural (at (c .before .args .t2) 0) (taken c .first0) (taken c .first))
 
-sub-wide-run : tie.Need-sub-wide-run
-sub-wide-run c = search needs
-
-part-wide-run-start : tie.Need-part-wide-run-start
-part-wide-run-start c = search needs
-
-part-wide-run-end : tie.Need-part-wide-run-end
-part-wide-run-end c = search needs
-
-wide-run-requires : tie.Need-wide-run-requires
-wide-run-requires c κs =
-    let b = c .before .before .before .before in
+wide-asks : tie.Need-wide-run-requires
+wide-asks c κs =
+    let t = c .before .before .before in
+    let b = t .before in
     let a = b .before .args in
-    let f : SFits w8 (at (a .t2) 0) = sfits-of (b .v .given) in
-    let e = book-wide (a .khz) (c .before .before .before .if1 .taken) in
-    let l : length (a .t2) ≡ 17 = search needs in
-    rw (toZ-ofZ f) (indexed wideBook 16 (a .t2) (a .khz) e (wide-shaped .order) (a .vector .now) l (omega arith) (decode-accepted (a .vector .now) (a .t2) (a .khz) (b .before .pre)))
+    rw (toZ-ofZ (first-fits b)) (indexed (wide-under (a .khz) (t .if1 .taken)) (a .t2) (a .vector .now) (all-there b) (taken b))
 
-same-length : tie.Need-same-length
-same-length c = search needs
+wide-answers : tie.Need-returns
+wide-answers c =
+    let t = c .before .before .before .before .before in
+    let b = t .before in
+    (rw (toZ-ofZ (first-fits b)) at (c .before .wide-run .ensures))
+    ∙ decoded-as (wide-under (b .before .args .khz) (t .if1 .taken)) (b .before .args .t2) (taken b .first0)
 
-returns : tie.Need-returns
-returns c =
-    let b = c .before .before .before .before .before .before in
+narrow-asks : tie.Need-narrow-run-requires
+narrow-asks c κs =
+    let t = c .before .before .before in
+    let b = t .before in
     let a = b .before .args in
-    let f : SFits w8 (at (a .t2) 0) = sfits-of (b .v .given) in
-    let e = book-wide (a .khz) (c .before .before .before .before .before .if1 .taken) in
-    let o = decode-accepted (a .vector .now) (a .t2) (a .khz) (b .before .pre) in
-    (rw (toZ-ofZ f) at (c .before .wide-run .ensures)) ∙ decoded-as wideBook 16 (a .t2) (a .khz) e (wide-shaped .order) (o .first0)
+    rw (toZ-ofZ (first-fits b)) (indexed (narrow-under (a .khz) (t .if1 .left)) (a .t2) (a .vector .now) (all-there b) (taken b))
 
-sub-narrow-run : tie.Need-sub-narrow-run
-sub-narrow-run c = search needs
-
-part-narrow-run-start : tie.Need-part-narrow-run-start
-part-narrow-run-start c = search needs
-
-part-narrow-run-end : tie.Need-part-narrow-run-end
-part-narrow-run-end c = search needs
-
-narrow-run-requires : tie.Need-narrow-run-requires
-narrow-run-requires c κs =
-    let b = c .before .before .before .before in
-    let a = b .before .args in
-    let f : SFits w8 (at (a .t2) 0) = sfits-of (b .v .given) in
-    let e = book-narrow (a .khz) (c .before .before .before .if1 .left) in
-    let l : length (a .t2) ≡ 17 = search needs in
-    rw (toZ-ofZ f) (indexed narrowBook 10 (a .t2) (a .khz) e (narrow-shaped .order) (a .vector .now) l (omega arith) (decode-accepted (a .vector .now) (a .t2) (a .khz) (b .before .pre)))
-
-same-length-2 : tie.Need-same-length-2
-same-length-2 c = search needs
-
-returns-2 : tie.Need-returns-2
-returns-2 c =
-    let b = c .before .before .before .before .before .before in
-    let a = b .before .args in
-    let f : SFits w8 (at (a .t2) 0) = sfits-of (b .v .given) in
-    let e = book-narrow (a .khz) (c .before .before .before .before .before .if1 .left) in
-    let o = decode-accepted (a .vector .now) (a .t2) (a .khz) (b .before .pre) in
-    (rw (toZ-ofZ f) at (c .before .narrow-run .ensures)) ∙ decoded-as narrowBook 10 (a .t2) (a .khz) e (narrow-shaped .order) (o .first0)
+narrow-answers : tie.Need-returns-2
+narrow-answers c =
+    let t = c .before .before .before .before .before in
+    let b = t .before in
+    (rw (toZ-ofZ (first-fits b)) at (c .before .narrow-run .ensures))
+    ∙ decoded-as (narrow-under (b .before .args .khz) (t .if1 .left)) (b .before .args .t2) (taken b .first0)
 
 pub decode-spec : {M : Type 1} → statement M
 decode-spec =
     tie.close
     (tie.spec
-    array-copy-out-v
+    (λ c. search needs)
     cast-v
-    sub-wide-run
-    part-wide-run-start
-    part-wide-run-end
-    wide-run-requires
-    same-length
-    returns
-    sub-narrow-run
-    part-narrow-run-start
-    part-narrow-run-end
-    narrow-run-requires
-    same-length-2
-    returns-2)
+    (λ c. search needs)
+    (λ c. search needs)
+    (λ c. search needs)
+    wide-asks
+    (λ c. search needs)
+    wide-answers
+    (λ c. search needs)
+    (λ c. search needs)
+    (λ c. search needs)
+    narrow-asks
+    (λ c. search needs)
+    narrow-answers)

@@ -8,12 +8,6 @@ use Rattle.spectrum.specs.Values.{at}
 use Rattle.nlsf_decode.proofs.numbers_ok.Statement.{statement}
 use Rattle.nlsf_decode.proofs.numbers_ok.Tie as tie
 
-places-ok-requires : tie.Need-places-ok-requires
-places-ok-requires c κs = search needs
-
-array-copy-out-first : tie.Need-array-copy-out-first
-array-copy-out-first c = search needs
-
 returns : tie.Need-returns
 unfolding numbersOk
 returns c =
@@ -21,4 +15,4 @@ returns c =
     rw (toZ-ofZ f, c .before .places-ok .ensures)
 
 pub numbers-ok-spec : {M : Type 1} → statement M
-numbers-ok-spec = tie.close (tie.spec places-ok-requires array-copy-out-first returns)
+numbers-ok-spec = tie.close (tie.spec (λ c κs. search needs) (λ c. search needs) returns)

@@ -1,18 +1,9 @@
 -- `order_of` meets its contract. Assumes nothing.
-use mathlib.Core.Path.{sym}
-use borrow.Author.Tests.{eq-eqb, ne-eqb}
-use Rattle.sheet.specs.Books.{narrow-shaped, wide-shaped}
-use Rattle.spectrum.specs.Calls.{bookOf}
+use Rattle.nlsf_decode.proofs.RowLaws.{wide-under, narrow-under, order-is}
 use Rattle.nlsf_decode.proofs.order_of.Statement.{statement}
 use Rattle.nlsf_decode.proofs.order_of.Tie as tie
 
-returns : tie.Need-returns
-unfolding bookOf
-returns c = rw (eq-eqb _ _ (c .if1 .taken)) (sym (wide-shaped .order))
-
-returns-2 : tie.Need-returns-2
-unfolding bookOf
-returns-2 c = rw (ne-eqb _ _ (c .if1 .left)) (sym (narrow-shaped .order))
-
 pub order-of-spec : {M : Type 1} → statement M
-order-of-spec = tie.close (tie.spec returns returns-2)
+order-of-spec =
+    tie.close
+    (tie.spec (λ c. order-is (wide-under _ (c .if1 .taken))) (λ c. order-is (narrow-under _ (c .if1 .left))))

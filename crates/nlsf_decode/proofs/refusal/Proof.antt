@@ -6,12 +6,6 @@ use Rattle.spectrum.specs.Calls.{decodeRefusal}
 use Rattle.nlsf_decode.proofs.refusal.Statement.{statement}
 use Rattle.nlsf_decode.proofs.refusal.Tie as tie
 
-numbers-ok-requires : tie.Need-numbers-ok-requires
-numbers-ok-requires c κs = search needs
-
-order-of-requires : tie.Need-order-of-requires
-order-of-requires c κs = search needs
-
 returns : tie.Need-returns
 unfolding decodeRefusal
 returns c =
@@ -28,4 +22,4 @@ returns-3 c = rw (sym (c .before .numbers-ok .ensures) ∙ c .if1 .left)
 
 pub refusal-spec : {M : Type 1} → statement M
 refusal-spec =
-    tie.close (tie.spec numbers-ok-requires order-of-requires returns returns-2 returns-3)
+    tie.close (tie.spec (λ c κs. search needs) (λ c κs. search needs) returns returns-2 returns-3)

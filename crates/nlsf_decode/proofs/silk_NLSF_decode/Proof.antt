@@ -7,14 +7,8 @@ use Rattle.spectrum.specs.Calls.{called}
 use Rattle.nlsf_decode.proofs.silk_NLSF_decode.Statement.{statement}
 use Rattle.nlsf_decode.proofs.silk_NLSF_decode.Tie as tie
 
-refusal-requires : tie.Need-refusal-requires
-refusal-requires c κs = search needs
-
 decode-requires : tie.Need-decode-requires
 decode-requires c κs = sym (c .before .before .refusal .ensures) ∙ c .before .if1 .taken
-
-same-length : tie.Need-same-length
-same-length c = search needs
 
 returns : tie.Need-returns
 returns c =
@@ -23,9 +17,6 @@ returns c =
     decode-answers (a .vector .now) (a .indices) (a .khz) (c .before .decode .last .0) (c .before .decode .result)
     (sym (b .refusal .ensures) ∙ c .before .before .before .if1 .taken)
     (c .before .decode .ensures)
-
-same-length-2 : tie.Need-same-length-2
-same-length-2 c = search needs
 
 returns-2 : tie.Need-returns-2
 returns-2 c =
@@ -37,4 +28,4 @@ returns-2 c =
 pub silk-NLSF-decode-spec : {M : Type 1} → statement M
 silk-NLSF-decode-spec =
     tie.close
-    (tie.spec refusal-requires decode-requires same-length returns same-length-2 returns-2)
+    (tie.spec (λ c κs. search needs) decode-requires (λ c. search needs) returns (λ c. search needs) returns-2)

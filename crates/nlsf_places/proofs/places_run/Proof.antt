@@ -13,7 +13,7 @@ use mir.Facts.{toZ-ofZ}
 use Rattle.spectrum.proofs.Passes.{Down, down-start, down-step, down-end}
 use Rattle.spectrum.proofs.PlaceLaws.{length-residuals, residual-at, length-placed, placed-at}
 use Rattle.spectrum.proofs.ResidualBounds.{residuals-within}
-use Rattle.spectrum.proofs.WholeMoves.{within-at}
+use Rattle.spectrum.proofs.Results.{within-at}
 use Rattle.spectrum.specs.Places.{placed}
 use Rattle.spectrum.specs.Residuals.{scaled, predicted, listOf}
 use Rattle.spectrum.specs.Values.{at, Mag}

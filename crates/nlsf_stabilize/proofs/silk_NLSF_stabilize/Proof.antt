@@ -12,8 +12,7 @@ use mir.Facts.{toZ-ofZ}
 use Rattle.spectrum.proofs.CallLaws.{lengths-are, stabilise-answers}
 use Rattle.spectrum.specs.Calls.{lengthsOk}
 use Rattle.spectrum.specs.Gaps.{goodGaps}
-use Rattle.nlsf_stabilize.proofs.MoveLaws.{ruled-sum, ruled-total, refused-lengths, refused-gaps, accepted, move-ok}
-use Rattle.nlsf_stabilize.proofs.StayLaws.{stays-answers}
+use Rattle.nlsf_stabilize.proofs.CallLaws.{ruled-sum, ruled-total, refused-lengths, refused-gaps, accepted, move-ok, stays-answers}
 use Rattle.nlsf_stabilize.proofs.silk_NLSF_stabilize.Statement.{statement}
 use Rattle.nlsf_stabilize.proofs.silk_NLSF_stabilize.Tie as tie
 

@@ -14,9 +14,11 @@ use Rattle.spectrum.proofs.Kept.{length-move}
 use Rattle.spectrum.proofs.MoveBounds.{place-most}
 use Rattle.spectrum.specs.Distances.{place}
 use Rattle.spectrum.specs.Stabilising.{run, stabilise, kept16}
-use Rattle.nlsf_stabilize.specs.Asked.{stays, smallestKey, MoveOk}
-use Rattle.nlsf_stabilize.proofs.MoveLaws.{keep-ok, run-start, placed, run-stop, run-on, run-out}
-use Rattle.nlsf_stabilize.proofs.StayLaws.{stays-keeps}
+use Rattle.nlsf_stabilize_stays.specs.Asked.{stays}
+use Rattle.nlsf_stabilize_search.proofs.DiffLaws.{placed}
+use Rattle.nlsf_stabilize_search.specs.Asked.{smallestKey}
+use Rattle.nlsf_stabilize_move.specs.Asked.{MoveOk}
+use Rattle.nlsf_stabilize.proofs.RunLaws.{keep-ok, run-start, run-stop, run-on, run-out, stays-keeps}
 use Rattle.nlsf_stabilize.proofs.stabilise_run.Statement.{statement}
 use Rattle.nlsf_stabilize.proofs.stabilise_run.Tie as tie
 

@@ -28,15 +28,6 @@ inside z = inRange (toZ w8 (ofZ w8 (z .args .least))) (toZ w8 (ofZ w8 (z .args .
 loop-holds : tie.Need-loop-holds Inv-loop μ-loop
 loop-holds c = (omega arith, sym (ap (every (inside c)) (drop-length (c .args .xs .now))))
 
-sub-j : tie.Need-sub-j Inv-loop μ-loop
-sub-j c = search needs
-
-shared-slice-copy-out-x : tie.Need-shared-slice-copy-out-x Inv-loop μ-loop
-shared-slice-copy-out-x c = search needs
-
-loop-less : tie.Need-loop-less Inv-loop μ-loop
-loop-less c = search needs
-
 loop-again : tie.Need-loop-again Inv-loop μ-loop
 loop-again c =
     let b = c .before .before in
@@ -67,8 +58,8 @@ all-in-range-spec =
     Inv-loop
     μ-loop
     loop-holds
-    sub-j
-    shared-slice-copy-out-x
-    loop-less
+    (λ c. search needs)
+    (λ c. search needs)
+    (λ c. search needs)
     loop-again
     returns)

@@ -4,27 +4,18 @@ use Rattle.table_entries.specs.EntryLaws.{table-rows, table-narrow, tabl
 use Rattle.table_entries.proofs.tg_table_entry.Statement.{statement}
 use Rattle.table_entries.proofs.tg_table_entry.Tie as tie
 
-row-entry-requires : tie.Need-row-entry-requires
-row-entry-requires c κs = search needs
-
 returns : tie.Need-returns
 returns c = let b = c .before .before in rw (table-rows (b .args .table) (c .before .if1 .taken)) (c .row-entry .ensures)
-
-narrow-entry-run-requires : tie.Need-narrow-entry-run-requires
-narrow-entry-run-requires c κs = search needs
 
 returns-2 : tie.Need-returns-2
 returns-2 c =
     let b = c .before .before .before in
-    rw (table-narrow (b .args .table) (c .before .before .if1 .left) (c .before .if2 .taken)) (c .narrow-entry-run .ensures)
-
-wide-entry-run-requires : tie.Need-wide-entry-run-requires
-wide-entry-run-requires c κs = search needs
+    rw (table-narrow (b .args .table) (c .before .before .if1 .left) (c .before .if2 .taken)) (c .book-entry-run .ensures)
 
 returns-3 : tie.Need-returns-3
 returns-3 c =
     let b = c .before .before .before .before in
-    rw (table-wide (b .args .table) (c .before .before .if2 .left) (c .before .if3 .taken)) (c .wide-entry-run .ensures)
+    rw (table-wide (b .args .table) (c .before .before .if2 .left) (c .before .if3 .taken)) (c .book-entry-run2 .ensures)
 
 returns-4 : tie.Need-returns-4
 returns-4 c = let b = c .before .before .before in rw (table-none (b .args .table) (c .if3 .left))
@@ -32,11 +23,4 @@ returns-4 c = let b = c .before .before .before in rw (table-none (b .args .tabl
 pub tg-table-entry-spec : {M : Type 1} → statement M
 tg-table-entry-spec =
     tie.close
-    (tie.spec
-    row-entry-requires
-    returns
-    narrow-entry-run-requires
-    returns-2
-    wide-entry-run-requires
-    returns-3
-    returns-4)
+    (tie.spec (λ c κs. search needs) returns (λ c κs. search needs) returns-2 (λ c κs. search needs) returns-3 returns-4)

@@ -16,7 +16,8 @@ use Rattle.wrapping.proofs.add16.Tie as tie
 module _ (a b : ℤ) (fa : SFits w16 a) (fb : SFits w16 b) where
   sum-fits : SFits w32 (a +ℤ b)
   sum-fits =
-      parts-fit (a +ℤ b) (omega (arith, up-sum a b, fits-up a fa, fits-up b fb)) (omega (arith, down-sum a b, fits-down a fa, fits-down b fb))
+      parts-fit (a +ℤ b) (omega (arith, up-sum a b, fits-up a fa, fits-up b fb))
+      (omega (arith, down-sum a b, fits-down a fa, fits-down b fb))
 
   -- what the machine adds
   adds : toZ w32 (ofZ w32 (toZ w16 (ofZ w16 a))) +ℤ toZ w32 (ofZ w32 (toZ w16 (ofZ w16 b))) ≡ a +ℤ b
@@ -44,7 +45,8 @@ returns : tie.Need-returns
 returns c =
     let fa = c .before .fits .a in
     let fb = c .before .fits .b in
-    toZ-ofZ {w = w16} (sfits-of (c .fold16-run .ok)) ∙ c .fold16-run .ensures ∙ ap wrap16 (rw (adds _ _ fa fb) (toZ-ofZ (sum-fits _ _ fa fb)))
+    toZ-ofZ {w = w16} (sfits-of (c .fold16-run .ok)) ∙ c .fold16-run .ensures
+    ∙ ap wrap16 (rw (adds _ _ fa fb) (toZ-ofZ (sum-fits _ _ fa fb)))
 
 pub add16-spec : {M : Type 1} → statement M
 add16-spec = tie.close (tie.spec cast-fold16-run cast-fold16-run-2 add-fold16-run fold16-run-requires returns)

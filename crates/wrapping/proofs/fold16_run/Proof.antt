@@ -32,7 +32,8 @@ module _ (s : ℤ) (b : (up s ≤ 65535) × (down s ≤ 65536)) where
       parts-fit (s +ℤ pos 65536) (omega (arith, up-sum s (pos 65536))) (omega (arith, down-sum s (pos 65536)))
 
   within : ltZ (pos 32767) s ≡ false → ltZ s (negsuc 32767) ≡ false → SFits w16 s
-  within h k = parts-fit s (omega (arith, parts-alone s, ltZ-false (pos 32767) s h)) (omega (arith, parts-alone s, ltZ-false s (negsuc 32767) k))
+  within h k =
+      parts-fit s (omega (arith, parts-alone s, ltZ-false (pos 32767) s h)) (omega (arith, parts-alone s, ltZ-false s (negsuc 32767) k))
 
 -- the test of the first branch, and the test of the second, of s itself: the machine reads s back from its bits
 sub-result : tie.Need-sub-result

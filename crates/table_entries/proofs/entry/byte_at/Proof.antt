@@ -7,12 +7,6 @@ use Rattle.table_entries.specs.Entries.{noEntry}
 use Rattle.table_entries.proofs.entry.byte_at.Statement.{statement}
 use Rattle.table_entries.proofs.entry.byte_at.Tie as tie
 
-shared-slice-read-byte : tie.Need-shared-slice-read-byte
-shared-slice-read-byte c = search needs
-
-byte-requires : tie.Need-byte-requires
-byte-requires c κs = search needs
-
 returns : tie.Need-returns
 returns c =
     let b = c .before .before .before .before in
@@ -22,4 +16,4 @@ returns-2 : tie.Need-returns-2
 returns-2 c = let b = c .before .before in sym (List·getD-eq-default (b .args .t .now) noEntry (c .if1 .left))
 
 pub byte-at-spec : {M : Type 1} → statement M
-byte-at-spec = tie.close (tie.spec shared-slice-read-byte byte-requires returns returns-2)
+byte-at-spec = tie.close (tie.spec (λ c. search needs) (λ c κs. search needs) returns returns-2)

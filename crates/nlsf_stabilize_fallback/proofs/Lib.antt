@@ -1,0 +1,3 @@
+pub mod Downward
+pub mod Sinking
+pub mod Upward
