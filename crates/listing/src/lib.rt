@@ -48,7 +48,9 @@ pub fn put_numbers_run(out: &mut [u8], at: usize, xs: &[i16]) -> usize
 // A word and numbers, no newline.
 pub fn put_start_run(out: &mut [u8], at: usize, word: &[u8], xs: &[i16]) -> usize
     requires { ⌜ at + (length (now word) + 7 * length (now xs)) ≤ length (now out) ⌝ }
-    ensures { λ n. ⌜ Put (length (now (word .entry)) + 7 * length (now (xs .entry))) (now (out .entry)) at (now (word .entry) ++ spaced (now (xs .entry))) (now (out .exit)) n ⌝ }
+    ensures { λ n.
+        ⌜ Put (length (now (word .entry)) + 7 * length (now (xs .entry))) (now (out .entry)) at
+        (now (word .entry) ++ spaced (now (xs .entry))) (now (out .exit)) n ⌝ }
 {
     let place = put_word_run(out, at, word);
     put_numbers_run(out, place, xs)
@@ -57,7 +59,9 @@ pub fn put_start_run(out: &mut [u8], at: usize, word: &[u8], xs: &[i16]) -> usiz
 // A word and numbers.
 pub fn put_line_run(out: &mut [u8], at: usize, word: &[u8], xs: &[i16]) -> usize
     requires { ⌜ at + (length (now word) + 7 * length (now xs) + 1) ≤ length (now out) ⌝ }
-    ensures { λ n. ⌜ Put (length (now (word .entry)) + 7 * length (now (xs .entry)) + 1) (now (out .entry)) at (line (now (word .entry)) (now (xs .entry))) (now (out .exit)) n ⌝ }
+    ensures { λ n.
+        ⌜ Put (length (now (word .entry)) + 7 * length (now (xs .entry)) + 1) (now (out .entry)) at
+        (line (now (word .entry)) (now (xs .entry))) (now (out .exit)) n ⌝ }
 {
     let place = put_start_run(out, at, word, xs);
     put_byte_run(out, place, 10)
@@ -67,7 +71,9 @@ pub fn put_line_run(out: &mut [u8], at: usize, word: &[u8], xs: &[i16]) -> usize
 pub fn put_counted_run(out: &mut [u8], at: usize, word: &[u8], xs: &[i16]) -> usize
     requires { ⌜ at + (length (now word) + 7 * length (now xs) + 8) ≤ length (now out) ⌝ }
     requires { ⌜ length (now xs) ≤ 320 ⌝ }
-    ensures { λ n. ⌜ Put (length (now (word .entry)) + 7 * length (now (xs .entry)) + 8) (now (out .entry)) at (counted (now (word .entry)) (now (xs .entry))) (now (out .exit)) n ⌝ }
+    ensures { λ n.
+        ⌜ Put (length (now (word .entry)) + 7 * length (now (xs .entry)) + 8) (now (out .entry)) at
+        (counted (now (word .entry)) (now (xs .entry))) (now (out .exit)) n ⌝ }
 {
     let count = [xs.len() as i16];
     let place = put_start_run(out, at, word, &count);

@@ -1,5 +1,5 @@
-// Lists a packet: standard input has the bytes of one whole packet. Prints its configuration, its arrangement, and each frame's start and
-// size, or the refusal.
+// Lists a packet: standard input has the bytes of one whole packet. Prints its configuration, its arrangement, and
+// each frame's start and size, or the refusal.
 use libc::STDIN_FILENO;
 use libc::STDOUT_FILENO;
 

@@ -28,9 +28,6 @@ module _ (s : List ℕ) (a : Packet) (read : a ≡ packetRead s) where
   unfolding packetText
   refused h = ap refusedText number ∙ rw (ne-eqb (packetRead s .refusal) 0 (λ e. h (number ∙ e)))
 
-packet-read-requires : tie.Need-packet-read-requires
-packet-read-requires c κs = search needs
-
 put-accepted-requires : tie.Need-put-accepted-requires
 put-accepted-requires c κs =
     let r = c .before .before .before in
@@ -44,9 +41,6 @@ returns c =
     let r = t .before .before in
     let s = r .before .before .args .input .now in
     printed-put (rw (accepted s _ (r .packet-read .ensures) (omega arith)) at (c .put-accepted .ensures)) (search needs)
-
-slice-aggregate-put-one : tie.Need-slice-aggregate-put-one
-slice-aggregate-put-one c = search needs
 
 put-one-requires : tie.Need-put-one-requires
 put-one-requires c κs =
@@ -65,10 +59,4 @@ returns-2 c =
 pub packet-text-spec : {M : Type 1} → statement M
 packet-text-spec =
     tie.close
-    (tie.spec
-    packet-read-requires
-    put-accepted-requires
-    returns
-    slice-aggregate-put-one
-    put-one-requires
-    returns-2)
+    (tie.spec (λ c κs. search needs) put-accepted-requires returns (λ c. search needs) put-one-requires returns-2)

@@ -17,24 +17,9 @@ Inv-loop out₀ at a count place₀ k₀ out place k = (k ≤ count) × (length 
 abbrev μ-loop : tie.MeasureT-loop
 μ-loop out₀ at a count place₀ k₀ out place k = count - k
 
-cast-count : tie.Need-cast-count Inv-loop μ-loop
-cast-count c = search needs
-
 loop-holds : tie.Need-loop-holds Inv-loop μ-loop
 unfolding frameLines
 loop-holds c = (search needs, search needs, put-none _ _)
-
-mul-start : tie.Need-mul-start Inv-loop μ-loop
-mul-start c = search needs
-
-element-copy-out-start : tie.Need-element-copy-out-start Inv-loop μ-loop
-element-copy-out-start c = search needs
-
-mul-size : tie.Need-mul-size Inv-loop μ-loop
-mul-size c = search needs
-
-element-copy-out-size : tie.Need-element-copy-out-size Inv-loop μ-loop
-element-copy-out-size c = search needs
 
 put-frame-requires : tie.Need-put-frame-requires Inv-loop μ-loop
 put-frame-requires c κs =
@@ -43,20 +28,11 @@ put-frame-requires c κs =
     let h = b .before .before .pre .1 .inside (b .loop .k) (omega arith) in
     (omega (arith, p .behind, p .most), omega arith, omega arith)
 
-add-k : tie.Need-add-k Inv-loop μ-loop
-add-k c = search needs
-
-loop-less : tie.Need-loop-less Inv-loop μ-loop
-loop-less c = search needs
-
 loop-again : tie.Need-loop-again Inv-loop μ-loop
 unfolding frameLines
 loop-again c =
     let b = c .before .before .before .before .before .before .before in
     (search needs, search needs, put-as (put-then (b .loop .inv .2) (c .before .before .put-frame .ensures)) (rw add-one) (omega arith))
-
-same-length : tie.Need-same-length Inv-loop μ-loop
-same-length c = search needs
 
 returns : tie.Need-returns Inv-loop μ-loop
 returns c =
@@ -68,18 +44,6 @@ returns c =
 pub put-frames-spec : {M : Type 1} → statement M
 put-frames-spec =
     tie.close
-    (tie.spec
-    Inv-loop
-    μ-loop
-    cast-count
-    loop-holds
-    mul-start
-    element-copy-out-start
-    mul-size
-    element-copy-out-size
-    put-frame-requires
-    add-k
-    loop-less
-    loop-again
-    same-length
+    (tie.spec Inv-loop μ-loop (λ c. search needs) loop-holds (λ c. search needs) (λ c. search needs) (λ c. search needs)
+    (λ c. search needs) put-frame-requires (λ c. search needs) (λ c. search needs) loop-again (λ c. search needs)
     returns)
