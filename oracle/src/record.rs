@@ -6,6 +6,7 @@ use crate::counters::Counters;
 use crate::hold::Outcome;
 use crate::report;
 use crate::rng::Rng;
+use crate::state::Words;
 
 /// A kind of coder with a list of its own.
 pub trait Recorded: Sides {
@@ -15,9 +16,6 @@ pub trait Recorded: Sides {
     /// The numbers that go with the call, and the table's entries.
     fn asked(ask: Self::Ask<'_>) -> (Vec<u32>, Vec<u8>);
 }
-
-/// A state, in the order of its fields.
-pub type Words = [u32; 11];
 
 /// What the program reads, and what it prints where every call agrees.
 pub struct Files {
@@ -31,7 +29,7 @@ impl Files {
         let lines = calls.iter().map(|(name, n)| format!("{name} {n}\n"));
         let all: u64 = calls.iter().map(|(_, n)| n).sum();
         Files {
-            stdin: list.bytes,
+            stdin: list.written,
             stdout: lines.collect::<String>() + &format!("all {all} agree\n"),
         }
     }
@@ -70,7 +68,7 @@ impl<K: Recorded> Sink<K> for List<K> {
         self.counters.mark(bytes.len(), &state, ask, &answer);
         let (numbers, rest) = K::asked(ask);
         self.records.call(&Recording {
-            call: K::call(ask) as u8 + 1,
+            call: calls::FIRST + K::call(ask) as u8,
             bytes: (&before, bytes),
             states: (K::words(&state), K::words(&answer.state)),
             answer: [answer.refusal, answer.value],
@@ -87,6 +85,26 @@ impl<K: Recorded> Sink<K> for List<K> {
 
 // ---- the layout
 
+/// What a record's third byte tells: that it has bytes alone, or the number of its call.
+pub mod calls {
+    pub const BYTES: u8 = 0;
+    /// The calls of a reader, of a writer and on line spectra follow in the order of `Kind::CALLS`.
+    pub const FIRST: u8 = 1;
+
+    pub const READ_INDICES: u8 = 1;
+    pub const READ_PULSES: u8 = 2;
+    pub const WRITE_INDICES: u8 = 3;
+    pub const WRITE_PULSES: u8 = 4;
+
+    pub const FRAME_LISTER: u8 = 1;
+    pub const NLSF_STABILISER: u8 = 2;
+}
+
+/// What its fourth byte tells of a call, added up: the state is the one that the last call handed back; the
+/// bytes after the call stand last.
+const CHAINED: u8 = 1;
+const CHANGED: u8 = 2;
+
 /// A call with its answer; of bytes and states what was before it and what it left.
 pub struct Recording<'a> {
     pub call: u8,
@@ -100,7 +118,7 @@ pub struct Recording<'a> {
 /// Records one after the other.
 #[derive(Default)]
 pub struct Records {
-    bytes: Vec<u8>,
+    written: Vec<u8>,
     given: Option<Vec<u8>>,
     handed_back: Option<Words>,
 }
@@ -109,7 +127,7 @@ impl Records {
     pub fn call(&mut self, recording: &Recording) {
         let (before, after) = recording.bytes;
         if self.given.as_deref() != Some(before) {
-            self.record(0, 0, before);
+            self.bytes(before);
         }
         let (given, handed_back) = recording.states;
         let chained = self.handed_back == Some(given);
@@ -124,7 +142,7 @@ impl Records {
         if changed {
             rest.extend(after);
         }
-        let how = u8::from(chained) + 2 * u8::from(changed);
+        let how = CHAINED * u8::from(chained) + CHANGED * u8::from(changed);
         self.record(recording.call, how, &rest);
         self.given = Some(after.to_vec());
         self.handed_back = Some(handed_back);
@@ -138,19 +156,23 @@ impl Records {
             let filler = input.last().copied().unwrap_or(0);
             let ends = input.iter().rposition(|&byte| byte != filler);
             let given = &input[..ends.map_or(0, |last| last + 1)];
-            self.record(0, 0, given);
-            self.given = Some(given.to_vec());
+            self.bytes(given);
             filler
         });
         let length = little_endian(&[input.len() as u32]);
         self.record(call, filler, &[&length, text.as_bytes()].concat());
     }
 
+    fn bytes(&mut self, given: &[u8]) {
+        self.record(calls::BYTES, 0, given);
+        self.given = Some(given.to_vec());
+    }
+
     fn record(&mut self, call: u8, how: u8, rest: &[u8]) {
         let size = u16::try_from(rest.len()).unwrap();
-        self.bytes.extend(size.to_le_bytes());
-        self.bytes.extend([call, how]);
-        self.bytes.extend(rest);
+        self.written.extend(size.to_le_bytes());
+        self.written.extend([call, how]);
+        self.written.extend(rest);
     }
 }
 

@@ -3,6 +3,12 @@
 use crate::celt::entcode::ec_ctx;
 use std::fmt::Debug;
 
+/// How many numbers a state has.
+pub const FIELDS: usize = 11;
+
+/// A state's numbers, in the order of its fields.
+pub type Words = [u32; FIELDS];
+
 /// The crate's `ec_ctx` without its buffer, as include/tignarops.h lays it out.
 #[repr(C)]
 #[derive(Clone, Copy, Debug, Default, PartialEq, Eq)]
@@ -32,6 +38,17 @@ pub type Writer = State<i32>;
 pub struct EcCtx<T> {
     pub buf: *mut u8,
     pub fields: State<T>,
+}
+
+#[cfg(libopus)]
+impl<T> EcCtx<T> {
+    #[inline(always)]
+    pub fn beside(bytes: &mut [u8], fields: State<T>) -> Self {
+        EcCtx {
+            buf: bytes.as_mut_ptr(),
+            fields,
+        }
+    }
 }
 
 /// 32 bits, with a sign or without.
@@ -94,8 +111,7 @@ impl<T: Word> State<T> {
         }
     }
 
-    /// In the order of the fields.
-    pub fn words(&self) -> [u32; 11] {
+    pub fn words(&self) -> Words {
         [
             self.storage,
             self.end_offs,

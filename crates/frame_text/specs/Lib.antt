@@ -1,2 +1,2 @@
 pub mod FrameText
-pub mod BlockLaws
+pub mod Widened

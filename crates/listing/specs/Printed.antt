@@ -1,11 +1,11 @@
 -- What a program's library function leaves in a lent buffer: the text, and behind it what was there; it answers the
 -- text's length. Assumes nothing.
 use Prim.Native.Nat.{ℕ, _+_, _≤_}
-use mathlib.Core.Path.{_≡_, ap, ap₂, _∙_}
+use mathlib.Core.Path.{_≡_, sym, ap, ap₂, _∙_}
 use mathlib.Core.List.{List, _++_}
 use native.Mathlib.Omega.{arith}
-use lib.ListN.{length, drop, length-append}
-use lib.Seq.{sets-eq}
+use lib.ListN.{length, take, drop, length-append}
+use lib.Seq.{sets-eq, length-take-le}
 use Rattle.numerals.specs.Put.{Put}
 
 -- the buffer as it is left, with the answer beside it: one value, so that one equation carries both
@@ -29,3 +29,7 @@ pub printed-within : (b t l : List ℕ) (k : ℕ) → record { buffer = b; count
 unfolding printed
 printed-within b t l k e =
     omega (arith, ap (λ (p : Printed). p .count) e, ap (λ (p : Printed). length (p .buffer)) e, length-append t (drop (length t) l))
+
+-- the part of the buffer that has it is as long
+pub printed-part : (b t l : List ℕ) (k : ℕ) → record { buffer = b; count = k } ≡ printed t l → k ≡ length (take k b)
+printed-part b t l k e = sym (length-take-le k b (printed-within b t l k e))

@@ -1,5 +1,5 @@
-// Stabilises a vector: standard input has a vector and a gap section, each after a one-byte count, of values of two bytes, high first.
-// Prints the number of moves and the vector, or the refusal.
+// Stabilises a vector: standard input has a vector and a gap section, each after a one-byte count, of values of two
+// bytes, high first. Prints the number of moves and the vector, or the refusal.
 use libc::STDIN_FILENO;
 use libc::STDOUT_FILENO;
 

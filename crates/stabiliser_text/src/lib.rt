@@ -16,7 +16,8 @@ use spectrum::Moves;
 fn put_answer(out: &mut [u8], a: Moves, vector: &[i16]) -> usize
     requires { ⌜ 256 ≤ length (now out) ⌝ }
     requires { ⌜ Small (length (now vector)) a ⌝ }
-    ensures { λ n. ⌜ Put 256 (now (out .entry)) 0 (answerText (record { vector = now (vector .entry); answer = a })) (now (out .exit)) n ⌝ }
+    ensures { λ n.
+        ⌜ Put 256 (now (out .entry)) 0 (answerText (record { vector = now (vector .entry); answer = a })) (now (out .exit)) n ⌝ }
 {
     if a.refusal == 0 {
         let moves = [a.moves as i16];
@@ -30,7 +31,9 @@ fn put_answer(out: &mut [u8], a: Moves, vector: &[i16]) -> usize
 fn put_stabilised(out: &mut [u8], vector: &mut [i16], gaps: &mut [i16], input: &[u8]) -> usize
     requires { ⌜ 256 ≤ length (now out) ⌝ }
     requires { ⌜ length (now input) ≡ 2 + 2 * length (now vector) + 2 * length (now gaps) ⌝ }
-    ensures { λ n. ⌜ Put 256 (now (out .entry)) 0 (sectionsText (now (input .entry)) (length (now (vector .entry))) (length (now (gaps .entry)))) (now (out .exit)) n ⌝ }
+    ensures { λ n.
+        ⌜ Put 256 (now (out .entry)) 0
+        (sectionsText (now (input .entry)) (length (now (vector .entry))) (length (now (gaps .entry)))) (now (out .exit)) n ⌝ }
 {
     let behind = 2 + 2 * vector.len();
     fill_run(vector, input, 1);

@@ -8,7 +8,7 @@ use crate::libopus::{
     silk_pitch_contour_10_ms_iCDF, silk_pitch_contour_NB_iCDF, silk_pitch_contour_iCDF,
     silk_uniform4_iCDF, silk_uniform6_iCDF, silk_uniform8_iCDF,
 };
-use crate::state::{EcCtx, Reader, State, Writer};
+use crate::state::{EcCtx, Reader, Writer};
 use std::ffi::c_void;
 use std::mem::zeroed;
 use std::ptr::from_ref;
@@ -69,7 +69,7 @@ pub fn indices(
     packet: &mut [u8],
     reader: Reader,
 ) -> (Reader, (Record, Kept)) {
-    let mut ctx = beside(packet, reader);
+    let mut ctx = EcCtx::beside(packet, reader);
     let mut decoder = decoder(call);
     // SAFETY: a sound reader beside its packet, and all that the call looks at of the decoder.
     unsafe { silk_decode_indices(&mut decoder, &mut ctx, 0, 0, call.mode as i32) };
@@ -100,7 +100,7 @@ pub fn decoder(call: &indices::Call) -> Decoder {
 
 /// The state and the pulses after a call that document 01 accepts.
 pub fn pulses(call: &pulses::Call, packet: &mut [u8], reader: Reader) -> (Reader, Vec<i16>) {
-    let mut ctx = beside(packet, reader);
+    let mut ctx = EcCtx::beside(packet, reader);
     let mut pulses = call.pulses.clone();
     // SAFETY: a sound reader beside its packet; 16 pulses for each block.
     unsafe {
@@ -122,7 +122,7 @@ pub fn write_pulses(
     buffer: &mut [u8],
     writer: Writer,
 ) -> Writer {
-    let mut ctx = beside(buffer, writer);
+    let mut ctx = EcCtx::beside(buffer, writer);
     pulses::write(given, shifts, &mut ctx);
     ctx.fields
 }
@@ -143,13 +143,6 @@ impl pulses::Pieces for EcCtx<i32> {
         let (signs, length) = (signs.as_ptr(), call.size.length());
         // SAFETY: there are 16 pulses and a sum for each block.
         unsafe { silk_encode_signs(self, signs, length, signal, offset, sums.as_ptr()) }
-    }
-}
-
-fn beside<T>(bytes: &mut [u8], fields: State<T>) -> EcCtx<T> {
-    EcCtx {
-        buf: bytes.as_mut_ptr(),
-        fields,
     }
 }
 

@@ -9,7 +9,7 @@ use crate::coder::Coder;
 use crate::compare::Sides;
 use crate::hold::Outcome;
 use crate::reader::Reading;
-use crate::record::{Files, Recording, Records};
+use crate::record::{calls, Files, Recording, Records};
 use crate::report;
 use crate::rng::Rng;
 use crate::state::State;
@@ -91,7 +91,7 @@ fn record<C: Listed>(
 // ---- side indices
 
 impl Listed for indices::Read {
-    const CALL: u8 = 1;
+    const CALL: u8 = calls::READ_INDICES;
     const FEW: (u64, usize) = (2, 1);
 
     /// Every size; lags by steps at their ends and beside them, from the ends of 16 bits; residuals where
@@ -126,7 +126,7 @@ impl Listed for indices::Read {
 }
 
 impl Listed for indices::Write {
-    const CALL: u8 = 3;
+    const CALL: u8 = calls::WRITE_INDICES;
     const FEW: (u64, usize) = (1, 1);
 
     /// Each field that a frame of each size reads, beside both ends of its range.
@@ -179,7 +179,7 @@ fn kept_bytes(kept: &Kept) -> Vec<u8> {
 // ---- pulses
 
 impl Listed for pulses::Read {
-    const CALL: u8 = 2;
+    const CALL: u8 = calls::READ_PULSES;
     const FEW: (u64, usize) = (2, 1);
 
     /// Every rate level; in each frame a block of every shift, and some of low bits alone.
@@ -206,7 +206,7 @@ impl Listed for pulses::Read {
 }
 
 impl Listed for pulses::Write {
-    const CALL: u8 = 4;
+    const CALL: u8 = calls::WRITE_PULSES;
     // Every rate level with every choice of the other numbers would be 324.
     const FEW: (u64, usize) = (1, 5);
 

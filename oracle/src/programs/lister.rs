@@ -11,6 +11,7 @@ use crate::frames::written::{any_frame, every_shift, packet, relative, RELATIVE}
 use crate::frames::{Frame, Given, Left, Size, Tally};
 use crate::hold::Outcome;
 use crate::reader::Reading;
+use crate::record::calls;
 use crate::report;
 use crate::rng::Rng;
 use crate::state::{Reader, State};
@@ -25,7 +26,7 @@ pub struct Lister {
 
 impl Program for Lister {
     const NAME: &'static str = "frame_lister";
-    const CALL: u8 = 1;
+    const CALL: u8 = calls::FRAME_LISTER;
     const REFUSALS: &'static [u32] = &[1, 4, 9];
 
     fn inputs(list: &mut List<Self>, rng: &mut Rng) -> Outcome {

@@ -5,6 +5,7 @@ use super::{accepted, counted, line, List, Program};
 use crate::compare::Sides;
 use crate::domain::spectra_refusal;
 use crate::hold::Outcome;
+use crate::record::calls;
 use crate::report;
 use crate::rng::Rng;
 use crate::spectra::{gaps, vector, Ask, Spectra, Vector};
@@ -27,7 +28,7 @@ pub struct Stabiliser {
 
 impl Program for Stabiliser {
     const NAME: &'static str = "nlsf_stabiliser";
-    const CALL: u8 = 2;
+    const CALL: u8 = calls::NLSF_STABILISER;
     const REFUSALS: &'static [u32] = &[6, 7, 9];
 
     fn inputs(list: &mut List<Self>, rng: &mut Rng) -> Outcome {

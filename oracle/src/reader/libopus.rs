@@ -14,10 +14,7 @@ extern "C" {
 
 /// The value and state after a call that document 01 accepts.
 pub fn read(packet: &mut [u8], reader: Reader, ask: Ask) -> (u32, Reader) {
-    let mut ctx = EcCtx {
-        buf: packet.as_mut_ptr(),
-        fields: reader,
-    };
+    let mut ctx = EcCtx::beside(packet, reader);
     let this = &mut ctx;
     // SAFETY: the buffer is lent for the call; a sound reader's offsets lie in it, and the table ends
     // in 0, where the search ends.

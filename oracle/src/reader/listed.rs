@@ -5,9 +5,9 @@ use crate::coder::{along, in_short, speech};
 use crate::compare::Sink;
 use crate::hold::Outcome;
 use crate::models::FEW;
-use crate::record::{Recorded, Words};
+use crate::record::Recorded;
 use crate::rng::Rng;
-use crate::state::Reader;
+use crate::state::{Reader, Words};
 
 impl Recorded for Reading {
     fn list(sink: &mut dyn Sink<Reading>, rng: &mut Rng) -> Outcome {

@@ -3,8 +3,9 @@
 use super::{plans, Ask, Spectra, Vector};
 use crate::compare::Sink;
 use crate::hold::Outcome;
-use crate::record::{Recorded, Words};
+use crate::record::Recorded;
 use crate::rng::Rng;
+use crate::state::{Words, FIELDS};
 
 impl Recorded for Spectra {
     fn list(sink: &mut dyn Sink<Spectra>, rng: &mut Rng) -> Outcome {
@@ -17,7 +18,7 @@ impl Recorded for Spectra {
 
     /// The count of the values, then two values a word.
     fn words(vector: &Vector) -> Words {
-        let mut words = [0; 11];
+        let mut words = [0; FIELDS];
         words[0] = vector.n as u32;
         for (i, &value) in vector.room.iter().enumerate() {
             words[1 + i / 2] |= u32::from(value as u16) << (16 * (i % 2));

@@ -15,10 +15,7 @@ extern "C" {
 
 /// The state after a call that document 01 accepts.
 pub fn write(buffer: &mut [u8], writer: Writer, ask: Ask) -> Writer {
-    let mut ctx = EcCtx {
-        buf: buffer.as_mut_ptr(),
-        fields: writer,
-    };
+    let mut ctx = EcCtx::beside(buffer, writer);
     let this = &mut ctx;
     // SAFETY: the buffer is lent for the call; a sound writer's offsets lie in it, and the symbol is
     // one of the table.

@@ -5,9 +5,9 @@ use crate::coder::{along, in_short, speech};
 use crate::compare::Sink;
 use crate::hold::Outcome;
 use crate::models::Model;
-use crate::record::{Recorded, Words};
+use crate::record::Recorded;
 use crate::rng::Rng;
-use crate::state::Writer;
+use crate::state::{Words, Writer};
 
 impl Recorded for Writing {
     fn list(sink: &mut dyn Sink<Writing>, rng: &mut Rng) -> Outcome {

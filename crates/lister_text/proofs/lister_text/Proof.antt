@@ -42,24 +42,6 @@ put-cut : (s : List ℕ) {l b : List ℕ} {i : ℕ} → whole s ≡ false → Pu
 unfolding listerText
 put-cut s h t = rw h t
 
-whole-requires : tie.Need-whole-requires
-whole-requires c κs = search needs
-
-number-at-requires : tie.Need-number-at-requires
-number-at-requires c κs = search needs
-
-number-at-requires-2 : tie.Need-number-at-requires-2
-number-at-requires-2 c κs = search needs
-
-number-at-requires-3 : tie.Need-number-at-requires-3
-number-at-requires-3 c κs = search needs
-
-number-at-requires-4 : tie.Need-number-at-requires-4
-number-at-requires-4 c κs = search needs
-
-number-at-requires-5 : tie.Need-number-at-requires-5
-number-at-requires-5 c κs = search needs
-
 value-at-run-requires : tie.Need-value-at-run-requires
 value-at-run-requires c κs =
     let t = c .before .before .before .before .before in
@@ -75,12 +57,6 @@ part-put-read-start c =
     let t = c .before .before .before .before .before .before .before in
     long (t .before .before .before .args .input .now) (sym (t .before .whole .ensures) ∙ t .if1 .taken)
 
-part-put-read-end : tie.Need-part-put-read-end
-part-put-read-end c = search needs
-
-put-read-requires : tie.Need-put-read-requires
-put-read-requires c κs = search needs
-
 returns : tie.Need-returns
 returns c =
     let v = c .before .before .before in
@@ -95,9 +71,6 @@ returns c =
     (toZ-ofZ {w = w16} (sfits-of (v .value-at-run .ok)) ∙ v .value-at-run .ensures) in
     printed-put (put-whole s (sym (t .before .whole .ensures) ∙ t .if1 .taken) e (c .put-read .ensures)) (omega (arith, c .before .before .put-read-arg .given .0 .1))
 
-put-refused-run-requires : tie.Need-put-refused-run-requires
-put-refused-run-requires c κs = search needs
-
 returns-2 : tie.Need-returns-2
 returns-2 c =
     let t = c .before .before in
@@ -107,18 +80,6 @@ returns-2 c =
 pub lister-text-spec : {M : Type 1} → statement M
 lister-text-spec =
     tie.close
-    (tie.spec
-    whole-requires
-    number-at-requires
-    number-at-requires-2
-    number-at-requires-3
-    number-at-requires-4
-    number-at-requires-5
-    value-at-run-requires
-    sub-put-read
-    part-put-read-start
-    part-put-read-end
-    put-read-requires
-    returns
-    put-refused-run-requires
-    returns-2)
+    (tie.spec (λ c κs. search needs) (λ c κs. search needs) (λ c κs. search needs) (λ c κs. search needs)
+    (λ c κs. search needs) (λ c κs. search needs) value-at-run-requires sub-put-read part-put-read-start
+    (λ c. search needs) (λ c κs. search needs) returns (λ c κs. search needs) returns-2)

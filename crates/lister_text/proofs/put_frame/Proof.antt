@@ -74,9 +74,6 @@ mul-n : tie.Need-mul-n
 mul-n c =
     omega (arith, c .blocks-of-run .ensures, few (c .before .before .before .before .before .before .before .before .before .before))
 
-zeros-requires : tie.Need-zeros-requires
-zeros-requires c κs = search needs
-
 array-borrow-prefix-pulses : tie.Need-array-borrow-prefix-pulses
 array-borrow-prefix-pulses c =
     room (c .before .before .before .before .before .before .before .before .before .before .before .before) (c .before .before .blocks-of-run .result) (c .before .zeros .result)
@@ -98,9 +95,6 @@ put-pulses-requires c κs =
     let l = length-take-le (16 * n .result) (o .result) (room z (n .result) (o .result) (n .ensures) (o .ensures)) in
     ((omega (arith, i .ensures .behind, i .ensures .most, i .kept .0, z .pre .0), rate-most (z .pre .1 .0 .0), subframes-most (z .pre .1 .0 .1)), l ∙ ap (λ (k : ℕ). 16 * k) (n .ensures))
 
-same-length : tie.Need-same-length
-same-length c = search needs
-
 returns : tie.Need-returns
 returns c =
     let n = c .before .before .before .before .before .before .before .blocks-of-run in
@@ -114,14 +108,5 @@ returns c =
 pub put-frame-spec : {M : Type 1} → statement M
 put-frame-spec =
     tie.close
-    (tie.spec
-    put-indices-run-requires
-    cast-offset
-    blocks-of-run-requires
-    mul-n
-    zeros-requires
-    array-borrow-prefix-pulses
-    slice-aggregate-put-pulses
-    put-pulses-requires
-    same-length
-    returns)
+    (tie.spec put-indices-run-requires cast-offset blocks-of-run-requires mul-n (λ c κs. search needs)
+    array-borrow-prefix-pulses slice-aggregate-put-pulses put-pulses-requires (λ c. search needs) returns)

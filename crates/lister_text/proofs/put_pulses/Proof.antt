@@ -10,12 +10,6 @@ use Rattle.frame_text.specs.FrameText.{pulsesText}
 use Rattle.lister_text.proofs.put_pulses.Statement.{statement}
 use Rattle.lister_text.proofs.put_pulses.Tie as tie
 
-silk-decode-pulses-requires : tie.Need-silk-decode-pulses-requires
-silk-decode-pulses-requires c κs = search needs
-
-blocks-of-run-requires : tie.Need-blocks-of-run-requires
-blocks-of-run-requires c κs = search needs
-
 put-pulses-run-requires : tie.Need-put-pulses-run-requires
 put-pulses-run-requires c κs =
     let n = c .before .before .blocks-of-run in
@@ -23,12 +17,6 @@ put-pulses-run-requires c κs =
     let p = c .before .before .before .before .silk-decode-pulses in
     let m : blocksOf (z .args .khz) (z .args .subframes) ≤ 20 = blocks-most (z .args .khz) (z .args .subframes) (z .pre .0 .1) (z .pre .0 .2) in
     (omega (arith, n .ensures), omega (arith, n .ensures), omega (arith, n .ensures, p .kept .1 .1 .0))
-
-same-length : tie.Need-same-length
-same-length c = search needs
-
-same-length-2 : tie.Need-same-length-2
-same-length-2 c = search needs
 
 returns : tie.Need-returns
 returns c =
@@ -42,10 +30,5 @@ returns c =
 pub put-pulses-spec : {M : Type 1} → statement M
 put-pulses-spec =
     tie.close
-    (tie.spec
-    silk-decode-pulses-requires
-    blocks-of-run-requires
-    put-pulses-run-requires
-    same-length
-    same-length-2
-    returns)
+    (tie.spec (λ c κs. search needs) (λ c κs. search needs) put-pulses-run-requires (λ c. search needs)
+    (λ c. search needs) returns)

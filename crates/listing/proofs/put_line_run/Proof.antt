@@ -7,15 +7,6 @@ use Rattle.listing.specs.Lines.{spaced, line}
 use Rattle.listing.proofs.put_line_run.Statement.{statement}
 use Rattle.listing.proofs.put_line_run.Tie as tie
 
-put-start-run-requires : tie.Need-put-start-run-requires
-put-start-run-requires c κs = search needs
-
-put-byte-run-requires : tie.Need-put-byte-run-requires
-put-byte-run-requires c κs = search needs
-
-same-length : tie.Need-same-length
-same-length c = search needs
-
 returns : tie.Need-returns
 unfolding line
 returns c =
@@ -26,4 +17,4 @@ returns c =
 
 pub put-line-run-spec : {M : Type 1} → statement M
 put-line-run-spec =
-    tie.close (tie.spec put-start-run-requires put-byte-run-requires same-length returns)
+    tie.close (tie.spec (λ c κs. search needs) (λ c κs. search needs) (λ c. search needs) returns)

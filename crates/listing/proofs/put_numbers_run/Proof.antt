@@ -27,22 +27,10 @@ loop-holds : tie.Need-loop-holds Inv-loop μ-loop
 unfolding spaced
 loop-holds c = (search needs, search needs, put-none _ _)
 
-mul-x : tie.Need-mul-x Inv-loop μ-loop
-mul-x c = search needs
-
-shared-slice-copy-out-x : tie.Need-shared-slice-copy-out-x Inv-loop μ-loop
-shared-slice-copy-out-x c = search needs
-
 put-spaced-run-requires : tie.Need-put-spaced-run-requires Inv-loop μ-loop
 put-spaced-run-requires c κs =
     let p = c .before .before .before .loop .inv .2 in
     omega (arith, p .behind, p .most)
-
-add-i : tie.Need-add-i Inv-loop μ-loop
-add-i c = search needs
-
-loop-less : tie.Need-loop-less Inv-loop μ-loop
-loop-less c = search needs
 
 loop-again : tie.Need-loop-again Inv-loop μ-loop
 loop-again c =
@@ -55,9 +43,6 @@ loop-again c =
       put-as (put-then (b .loop .inv .2) (rw (toZ-ofZ f) at (c .before .before .put-spaced-run .ensures))) (spaced-more xs i (search needs)) (omega arith),
     )
 
-same-length : tie.Need-same-length Inv-loop μ-loop
-same-length c = search needs
-
 returns : tie.Need-returns Inv-loop μ-loop
 returns c =
     let b = c .before in
@@ -68,15 +53,5 @@ returns c =
 pub put-numbers-run-spec : {M : Type 1} → statement M
 put-numbers-run-spec =
     tie.close
-    (tie.spec
-    Inv-loop
-    μ-loop
-    loop-holds
-    mul-x
-    shared-slice-copy-out-x
-    put-spaced-run-requires
-    add-i
-    loop-less
-    loop-again
-    same-length
-    returns)
+    (tie.spec Inv-loop μ-loop loop-holds (λ c. search needs) (λ c. search needs) put-spaced-run-requires
+    (λ c. search needs) (λ c. search needs) loop-again (λ c. search needs) returns)

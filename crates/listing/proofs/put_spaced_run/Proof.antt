@@ -5,15 +5,6 @@ use Rattle.numerals.specs.Put.{put-then}
 use Rattle.listing.proofs.put_spaced_run.Statement.{statement}
 use Rattle.listing.proofs.put_spaced_run.Tie as tie
 
-put-byte-run-requires : tie.Need-put-byte-run-requires
-put-byte-run-requires c κs = search needs
-
-put-number-run-requires : tie.Need-put-number-run-requires
-put-number-run-requires c κs = search needs
-
-same-length : tie.Need-same-length
-same-length c = search needs
-
 returns : tie.Need-returns
 returns c =
     let b = c .before .before .before .before .before .before in
@@ -21,4 +12,4 @@ returns c =
 
 pub put-spaced-run-spec : {M : Type 1} → statement M
 put-spaced-run-spec =
-    tie.close (tie.spec put-byte-run-requires put-number-run-requires same-length returns)
+    tie.close (tie.spec (λ c κs. search needs) (λ c κs. search needs) (λ c. search needs) returns)

@@ -21,19 +21,10 @@ abbrev μ-loop : tie.MeasureT-loop
 loop-holds : tie.Need-loop-holds Inv-loop μ-loop
 loop-holds c = (search needs, search needs, put-none _ _)
 
-shared-slice-read-put-byte-run : tie.Need-shared-slice-read-put-byte-run Inv-loop μ-loop
-shared-slice-read-put-byte-run c = search needs
-
 put-byte-run-requires : tie.Need-put-byte-run-requires Inv-loop μ-loop
 put-byte-run-requires c κs =
     let p = c .before .before .before .loop .inv .2 in
     omega (arith, p .behind, p .most)
-
-add-i : tie.Need-add-i Inv-loop μ-loop
-add-i c = search needs
-
-loop-less : tie.Need-loop-less Inv-loop μ-loop
-loop-less c = search needs
 
 loop-again : tie.Need-loop-again Inv-loop μ-loop
 loop-again c =
@@ -45,9 +36,6 @@ loop-again c =
       put-as (put-then (b .loop .inv .2) (c .before .before .put-byte-run .ensures)) (sym (rw add-one (take-suc w i 0 (search needs)))) (omega arith),
     )
 
-same-length : tie.Need-same-length Inv-loop μ-loop
-same-length c = search needs
-
 returns : tie.Need-returns Inv-loop μ-loop
 returns c =
     let b = c .before in
@@ -58,14 +46,5 @@ returns c =
 pub put-word-run-spec : {M : Type 1} → statement M
 put-word-run-spec =
     tie.close
-    (tie.spec
-    Inv-loop
-    μ-loop
-    loop-holds
-    shared-slice-read-put-byte-run
-    put-byte-run-requires
-    add-i
-    loop-less
-    loop-again
-    same-length
-    returns)
+    (tie.spec Inv-loop μ-loop loop-holds (λ c. search needs) put-byte-run-requires (λ c. search needs)
+    (λ c. search needs) loop-again (λ c. search needs) returns)

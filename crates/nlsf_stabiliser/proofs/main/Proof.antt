@@ -1,48 +1,12 @@
 -- `main` is safe: what it writes lies in its buffer. Assumes nothing.
 use borrow.Author.Needs.{needs}
-use mathlib.Core.Path.{sym}
-use lib.Seq.{length-take-le}
-use Rattle.listing.specs.Printed.{printed-within}
+use Rattle.listing.specs.Printed.{printed-within, printed-part}
 use Rattle.nlsf_stabiliser.proofs.main.Statement.{statement}
 use Rattle.nlsf_stabiliser.proofs.main.Tie as tie
-
-slice-aggregate-read-full : tie.Need-slice-aggregate-read-full
-slice-aggregate-read-full c = search needs
-
-read-full-requires : tie.Need-read-full-requires
-read-full-requires c κs = search needs
-
-array-share-prefix-input : tie.Need-array-share-prefix-input
-array-share-prefix-input c = search needs
-
-slice-aggregate-stabiliser-text : tie.Need-slice-aggregate-stabiliser-text
-slice-aggregate-stabiliser-text c = search needs
-
-stabiliser-text-requires : tie.Need-stabiliser-text-requires
-stabiliser-text-requires c κs = search needs
-
-array-share-prefix-out : tie.Need-array-share-prefix-out
-array-share-prefix-out c = printed-within _ _ _ _ (c .stabiliser-text .ensures)
-
-slice-aggregate-write-all : tie.Need-slice-aggregate-write-all
-slice-aggregate-write-all c = sym (length-take-le _ _ (printed-within _ _ _ _ (c .before .stabiliser-text .ensures)))
-
-write-all-requires : tie.Need-write-all-requires
-write-all-requires c κs = search needs
-
-returns : tie.Need-returns
-returns c = search needs
 
 pub main-spec : {M : Type 1} → statement M
 main-spec =
     tie.close
-    (tie.spec
-    slice-aggregate-read-full
-    read-full-requires
-    array-share-prefix-input
-    slice-aggregate-stabiliser-text
-    stabiliser-text-requires
-    array-share-prefix-out
-    slice-aggregate-write-all
-    write-all-requires
-    returns)
+    (tie.spec (λ c. search needs) (λ c κs. search needs) (λ c. search needs) (λ c. search needs) (λ c κs. search needs)
+    (λ c. printed-within _ _ _ _ (c .stabiliser-text .ensures)) (λ c. printed-part _ _ _ _ (c .before .stabiliser-text .ensures))
+    (λ c κs. search needs) (λ c. search needs))

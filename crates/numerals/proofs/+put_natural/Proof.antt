@@ -34,94 +34,6 @@ abbrev put-natural-below : ℕ → In 1 put-natural-kinds.ps
 put-natural-below t =
     and 1 put-natural-kinds.ps (falls 1 put-natural-kinds.ps _<_ μ-put-natural t) put-natural.Pre
 
-put-natural-cast-last : (t : ℕ) → put-natural-lts.Need-cast-last (
-  put-byte-run-reads.Asked,
-  put-byte-run-reads.Learnt,
-  put-natural-below t,
-  put-natural.Post,
-) (put-natural-at t) put-natural.Post
-put-natural-cast-last t c = search needs
-
-put-natural-add-last : (t : ℕ) → put-natural-lts.Need-add-last (
-  put-byte-run-reads.Asked,
-  put-byte-run-reads.Learnt,
-  put-natural-below t,
-  put-natural.Post,
-) (put-natural-at t) put-natural.Post
-put-natural-add-last t c = search needs
-
-put-natural-put-byte-run-requires : (t : ℕ) → put-natural-lts.Need-put-byte-run-requires (
-  put-byte-run-reads.Asked,
-  put-byte-run-reads.Learnt,
-  put-natural-below t,
-  put-natural.Post,
-) (put-natural-at t) put-natural.Post
-put-natural-put-byte-run-requires t c κs =
-    omega (arith, c .before .before .before .pre .1, ap length (alone (c .before .before .before .args .n) (c .before .if1 .taken)))
-
-put-natural-same-length : (t : ℕ) → put-natural-lts.Need-same-length (
-  put-byte-run-reads.Asked,
-  put-byte-run-reads.Learnt,
-  put-natural-below t,
-  put-natural.Post,
-) (put-natural-at t) put-natural.Post
-put-natural-same-length t c = search needs
-
-put-natural-returns : (t : ℕ) → put-natural-lts.Need-returns (
-  put-byte-run-reads.Asked,
-  put-byte-run-reads.Learnt,
-  put-natural-below t,
-  put-natural.Post,
-) (put-natural-at t) put-natural.Post
-put-natural-returns t c =
-    let b = c .before .before .before .before in
-    let e = alone (b .before .before .args .n) (b .if1 .taken) in
-    put-as (c .before .before .put-byte-run .ensures) e (omega (arith, ap length e))
-
-put-natural-put-natural-requires : (t : ℕ) → put-natural-lts.Need-put-natural-requires (
-  put-byte-run-reads.Asked,
-  put-byte-run-reads.Learnt,
-  put-natural-below t,
-  put-natural.Post,
-) (put-natural-at t) put-natural.Post
-put-natural-put-natural-requires t c κs =
-    let b = c .before .before .before in (
-      omega (arith, b .pre .0),
-      omega (arith, b .pre .1, one-more (b .args .n) (c .before .if1 .left)),
-    )
-
-put-natural-put-byte-run-requires-2 : (t : ℕ) → put-natural-lts.Need-put-byte-run-requires-2 (
-  put-byte-run-reads.Asked,
-  put-byte-run-reads.Learnt,
-  put-natural-below t,
-  put-natural.Post,
-) (put-natural-at t) put-natural.Post
-put-natural-put-byte-run-requires-2 t c κs =
-    let b = c .before .before .before in
-    let a = b .before .before .before .before in
-    omega (arith, b .put-natural .ensures .behind, b .put-natural .kept .0, a .pre .1, one-more (a .args .n) (b .before .before .if1 .left))
-
-put-natural-same-length-2 : (t : ℕ) → put-natural-lts.Need-same-length-2 (
-  put-byte-run-reads.Asked,
-  put-byte-run-reads.Learnt,
-  put-natural-below t,
-  put-natural.Post,
-) (put-natural-at t) put-natural.Post
-put-natural-same-length-2 t c = search needs
-
-put-natural-returns-2 : (t : ℕ) → put-natural-lts.Need-returns-2 (
-  put-byte-run-reads.Asked,
-  put-byte-run-reads.Learnt,
-  put-natural-below t,
-  put-natural.Post,
-) (put-natural-at t) put-natural.Post
-put-natural-returns-2 t c =
-    let b = c .before .before .before .before .before .before in
-    let a = b .before .before .before .before in
-    let h = b .before .before .if1 .left in
-    put-as (put-then (b .put-natural .ensures) (c .before .before .put-byte-run2 .ensures)) (sym (natural-next (a .args .n) h))
-    (omega (arith, one-more (a .args .n) h))
-
 pub +put-natural-spec : {M : Type 1} → statement M
 +put-natural-spec = close μ-put-natural λ t. put-natural-lts.spec (
   put-byte-run-reads.Asked,
@@ -131,12 +43,27 @@ pub +put-natural-spec : {M : Type 1} → statement M
 )
     (put-natural-at t)
     put-natural.Post
-    (put-natural-cast-last t)
-    (put-natural-add-last t)
-    (put-natural-put-byte-run-requires t)
-    (put-natural-same-length t)
-    (put-natural-returns t)
-    (put-natural-put-natural-requires t)
-    (put-natural-put-byte-run-requires-2 t)
-    (put-natural-same-length-2 t)
-    (put-natural-returns-2 t)
+    (λ c. search needs)
+    (λ c. search needs)
+    (λ c κs.
+    let b = c .before .before .before in
+    omega (arith, b .pre .1, ap length (alone (b .args .n) (c .before .if1 .taken))))
+    (λ c. search needs)
+    (λ c.
+    let b = c .before .before .before .before in
+    let e = alone (b .before .before .args .n) (b .if1 .taken) in
+    put-as (c .before .before .put-byte-run .ensures) e (omega (arith, ap length e)))
+    (λ c κs.
+    let b = c .before .before .before in
+    (omega (arith, b .pre .0), omega (arith, b .pre .1, one-more (b .args .n) (c .before .if1 .left))))
+    (λ c κs.
+    let b = c .before .before .before in
+    let a = b .before .before .before .before in
+    omega (arith, b .put-natural .ensures .behind, b .put-natural .kept .0, a .pre .1, one-more (a .args .n) (b .before .before .if1 .left)))
+    (λ c. search needs)
+    (λ c.
+    let b = c .before .before .before .before .before .before in
+    let a = b .before .before .before .before in
+    let h = b .before .before .if1 .left in
+    put-as (put-then (b .put-natural .ensures) (c .before .before .put-byte-run2 .ensures)) (sym (natural-next (a .args .n) h))
+    (omega (arith, one-more (a .args .n) h)))

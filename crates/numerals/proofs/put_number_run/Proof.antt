@@ -15,19 +15,10 @@ use Rattle.numerals.proofs.put_number_run.Tie as tie
 five : (n : ℕ) → n ≤ 32768 → length (natural n) ≤ 5
 five n h = natural-length 4 n (omega arith)
 
-magnitude-requires : tie.Need-magnitude-requires
-magnitude-requires c κs = search needs
-
-put-byte-run-requires : tie.Need-put-byte-run-requires
-put-byte-run-requires c κs = search needs
-
 put-natural-requires : tie.Need-put-natural-requires
 put-natural-requires c κs =
     let m = c .before .before .before .before .before .before .magnitude in
     omega (arith, five (m .result) (m .ensures .1))
-
-same-length : tie.Need-same-length
-same-length c = search needs
 
 returns : tie.Need-returns
 returns c =
@@ -44,9 +35,6 @@ put-natural-requires-2 c κs =
     let m = c .before .before .magnitude in
     omega (arith, five (m .result) (m .ensures .1))
 
-same-length-2 : tie.Need-same-length-2
-same-length-2 c = search needs
-
 returns-2 : tie.Need-returns-2
 returns-2 c =
     let b = c .before .before .before .before in
@@ -59,12 +47,5 @@ returns-2 c =
 pub put-number-run-spec : {M : Type 1} → statement M
 put-number-run-spec =
     tie.close
-    (tie.spec
-    magnitude-requires
-    put-byte-run-requires
-    put-natural-requires
-    same-length
-    returns
-    put-natural-requires-2
-    same-length-2
-    returns-2)
+    (tie.spec (λ c κs. search needs) (λ c κs. search needs) put-natural-requires (λ c. search needs) returns
+    put-natural-requires-2 (λ c. search needs) returns-2)

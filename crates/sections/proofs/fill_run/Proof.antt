@@ -25,27 +25,6 @@ loop-holds : tie.Need-loop-holds Inv-loop μ-loop
 unfolding valuesAt
 loop-holds c = (search needs, search needs, refl)
 
-mul-value-at-run : tie.Need-mul-value-at-run Inv-loop μ-loop
-mul-value-at-run c = search needs
-
-add-value-at-run : tie.Need-add-value-at-run Inv-loop μ-loop
-add-value-at-run c = search needs
-
-value-at-run-requires : tie.Need-value-at-run-requires Inv-loop μ-loop
-value-at-run-requires c κs = search needs
-
-mul-x : tie.Need-mul-x Inv-loop μ-loop
-mul-x c = search needs
-
-slice-set-from-x : tie.Need-slice-set-from-x Inv-loop μ-loop
-slice-set-from-x c = search needs
-
-add-i : tie.Need-add-i Inv-loop μ-loop
-add-i c = search needs
-
-loop-less : tie.Need-loop-less Inv-loop μ-loop
-loop-less c = search needs
-
 loop-again : tie.Need-loop-again Inv-loop μ-loop
 loop-again c =
     let b = c .before .before in
@@ -61,9 +40,6 @@ loop-again c =
           ∙ values-more (a .s .now) (a .at) i),
     )
 
-same-length : tie.Need-same-length Inv-loop μ-loop
-same-length c = search needs
-
 returns : tie.Need-returns Inv-loop μ-loop
 returns c =
     let b = c .before in
@@ -74,17 +50,6 @@ returns c =
 pub fill-run-spec : {M : Type 1} → statement M
 fill-run-spec =
     tie.close
-    (tie.spec
-    Inv-loop
-    μ-loop
-    loop-holds
-    mul-value-at-run
-    add-value-at-run
-    value-at-run-requires
-    mul-x
-    slice-set-from-x
-    add-i
-    loop-less
-    loop-again
-    same-length
+    (tie.spec Inv-loop μ-loop loop-holds (λ c. search needs) (λ c. search needs) (λ c κs. search needs)
+    (λ c. search needs) (λ c. search needs) (λ c. search needs) (λ c. search needs) loop-again (λ c. search needs)
     returns)

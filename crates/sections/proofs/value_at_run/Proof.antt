@@ -12,24 +12,6 @@ use Rattle.sections.specs.Values.{valueAt}
 use Rattle.sections.proofs.value_at_run.Statement.{statement}
 use Rattle.sections.proofs.value_at_run.Tie as tie
 
-byte-at-requires : tie.Need-byte-at-requires
-byte-at-requires c κs = search needs
-
-mul-pair : tie.Need-mul-pair
-mul-pair c = search needs
-
-add-byte-at : tie.Need-add-byte-at
-add-byte-at c = search needs
-
-byte-at-requires-2 : tie.Need-byte-at-requires-2
-byte-at-requires-2 c κs = search needs
-
-add-pair : tie.Need-add-pair
-add-pair c = search needs
-
-cast-fold16-run : tie.Need-cast-fold16-run
-cast-fold16-run c = search needs
-
 fold16-run-requires : tie.Need-fold16-run-requires
 fold16-run-requires c κs =
     let h = c .before .byte-at .result in
@@ -50,12 +32,5 @@ returns c =
 pub value-at-run-spec : {M : Type 1} → statement M
 value-at-run-spec =
     tie.close
-    (tie.spec
-    byte-at-requires
-    mul-pair
-    add-byte-at
-    byte-at-requires-2
-    add-pair
-    cast-fold16-run
-    fold16-run-requires
-    returns)
+    (tie.spec (λ c κs. search needs) (λ c. search needs) (λ c. search needs) (λ c κs. search needs) (λ c. search needs)
+    (λ c. search needs) fold16-run-requires returns)

@@ -10,30 +10,12 @@ use Rattle.stabiliser_text.specs.StabiliserText.{answerText}
 use Rattle.stabiliser_text.proofs.put_answer.Statement.{statement}
 use Rattle.stabiliser_text.proofs.put_answer.Tie as tie
 
-cast-t9 : tie.Need-cast-t9
-cast-t9 c = search needs
-
-slice-aggregate-put-line-run : tie.Need-slice-aggregate-put-line-run
-slice-aggregate-put-line-run c = search needs
-
-slice-aggregate-put-line-run-2 : tie.Need-slice-aggregate-put-line-run-2
-slice-aggregate-put-line-run-2 c = search needs
-
-put-line-run-requires : tie.Need-put-line-run-requires
-put-line-run-requires c κs = search needs
-
-slice-aggregate-put-counted-run : tie.Need-slice-aggregate-put-counted-run
-slice-aggregate-put-counted-run c = search needs
-
 put-counted-run-requires : tie.Need-put-counted-run-requires
 put-counted-run-requires c κs =
     let b = c .before .before .before .before .before .before .before .before .before in
     let a = b .before .before .before in
     let h = a .pre .1 .values (b .if1 .taken) in
     (omega arith, omega arith)
-
-same-length : tie.Need-same-length
-same-length c = search needs
 
 returns : tie.Need-returns
 unfolding ascii answerText
@@ -46,12 +28,6 @@ returns c =
     (rw (toZ-pos w16 {n = a .args .a .moves} (omega arith), eq-eqb _ _ (t .if1 .taken)))
     (omega arith)
 
-put-refused-run-requires : tie.Need-put-refused-run-requires
-put-refused-run-requires c κs = search needs
-
-same-length-2 : tie.Need-same-length-2
-same-length-2 c = search needs
-
 returns-2 : tie.Need-returns-2
 unfolding answerText
 returns-2 c = put-as (c .before .before .put-refused-run .ensures) (rw (ne-eqb _ _ (c .before .before .before .before .if1 .left))) (omega arith)
@@ -59,15 +35,5 @@ returns-2 c = put-as (c .before .before .put-refused-run .ensures) (rw (ne-eqb _
 pub put-answer-spec : {M : Type 1} → statement M
 put-answer-spec =
     tie.close
-    (tie.spec
-    cast-t9
-    slice-aggregate-put-line-run
-    slice-aggregate-put-line-run-2
-    put-line-run-requires
-    slice-aggregate-put-counted-run
-    put-counted-run-requires
-    same-length
-    returns
-    put-refused-run-requires
-    same-length-2
-    returns-2)
+    (tie.spec (λ c. search needs) (λ c. search needs) (λ c. search needs) (λ c κs. search needs) (λ c. search needs)
+    put-counted-run-requires (λ c. search needs) returns (λ c κs. search needs) (λ c. search needs) returns-2)

@@ -11,21 +11,6 @@ use Rattle.stabiliser_text.proofs.put_stabilised.Statement.{statement}
 use Rattle.stabiliser_text.proofs.put_stabilised.Tie as tie
 use Rattle.nlsf_stabilize.proofs.silk_NLSF_stabilize.Reads as silk-NLSF-stabilize-reads
 
-mul-behind : tie.Need-mul-behind
-mul-behind c = search needs
-
-add-behind : tie.Need-add-behind
-add-behind c = search needs
-
-fill-run-requires : tie.Need-fill-run-requires
-fill-run-requires c κs = search needs
-
-fill-run-requires-2 : tie.Need-fill-run-requires-2
-fill-run-requires-2 c κs = search needs
-
-silk-NLSF-stabilize-requires : tie.Need-silk-NLSF-stabilize-requires
-silk-NLSF-stabilize-requires c κs = search needs
-
 put-answer-requires : tie.Need-put-answer-requires
 put-answer-requires c κs =
     let s = c .before .before .before in
@@ -35,15 +20,6 @@ put-answer-requires c κs =
     let k : length (r .last .0) ≡ length v = r .kept .0 in
     let a : r .result ≡ stabiliseCall v (s .before .before .before .before .fill-run2 .last .0) .answer = ap (λ (x : Called). x .answer) (r .ensures) in
     (search needs, rw (k, a) (small v _))
-
-same-length : tie.Need-same-length
-same-length c = search needs
-
-same-length-2 : tie.Need-same-length-2
-same-length-2 c = search needs
-
-same-length-3 : tie.Need-same-length-3
-same-length-3 c = search needs
 
 returns : tie.Need-returns
 returns c =
@@ -57,14 +33,5 @@ returns c =
 pub put-stabilised-spec : {M : Type 1} → statement M
 put-stabilised-spec =
     tie.close
-    (tie.spec
-    mul-behind
-    add-behind
-    fill-run-requires
-    fill-run-requires-2
-    silk-NLSF-stabilize-requires
-    put-answer-requires
-    same-length
-    same-length-2
-    same-length-3
-    returns)
+    (tie.spec (λ c. search needs) (λ c. search needs) (λ c κs. search needs) (λ c κs. search needs)
+    (λ c κs. search needs) put-answer-requires (λ c. search needs) (λ c. search needs) (λ c. search needs) returns)

@@ -35,44 +35,11 @@ module _ (s : List ℕ) (n m : ℕ) (first : n ≡ byteAt s 0) (second : m ≡ b
       let f : 1 + 2 * n + 1 + 2 * m ≡ gapsAt s + 1 + 2 * byteAt s (gapsAt s) = omega (arith, place, gap-count) in
       rw (ne-eqb (length s) (gapsAt s + 1 + 2 * byteAt s (gapsAt s)) (λ e. h (e ∙ sym f))) t
 
-byte-at-requires : tie.Need-byte-at-requires
-byte-at-requires c κs = search needs
-
-mul-second : tie.Need-mul-second
-mul-second c = search needs
-
-add-second : tie.Need-add-second
-add-second c = search needs
-
-byte-at-requires-2 : tie.Need-byte-at-requires-2
-byte-at-requires-2 c κs = search needs
-
-add-if1 : tie.Need-add-if1
-add-if1 c = search needs
-
-mul-if1 : tie.Need-mul-if1
-mul-if1 c = search needs
-
-add-if1-2 : tie.Need-add-if1-2
-add-if1-2 c = search needs
-
-values-requires : tie.Need-values-requires
-values-requires c κs = search needs
-
-values-requires-2 : tie.Need-values-requires-2
-values-requires-2 c κs = search needs
-
-array-borrow-prefix-vector : tie.Need-array-borrow-prefix-vector
-array-borrow-prefix-vector c = search needs
-
 slice-aggregate-put-stabilised : tie.Need-slice-aggregate-put-stabilised
 slice-aggregate-put-stabilised c =
     let n = c .before .before .before .before .before .before .byte-at in
     let v = c .before .before .before .values in
     sym (length-take-le (n .result) (v .result) (omega (arith, v .ensures)))
-
-array-borrow-prefix-gaps : tie.Need-array-borrow-prefix-gaps
-array-borrow-prefix-gaps c = search needs
 
 slice-aggregate-put-stabilised-2 : tie.Need-slice-aggregate-put-stabilised-2
 slice-aggregate-put-stabilised-2 c =
@@ -104,9 +71,6 @@ returns c =
     (put-whole s (n .result) (m .result) (n .ensures .0) (m .ensures .0) (t .if1 .taken) e f (c .before .before .put-stabilised .ensures))
     (search needs)
 
-put-refused-run-requires : tie.Need-put-refused-run-requires
-put-refused-run-requires c κs = search needs
-
 returns-2 : tie.Need-returns-2
 returns-2 c =
     let t = c .before .before in
@@ -118,21 +82,7 @@ returns-2 c =
 pub stabiliser-text-spec : {M : Type 1} → statement M
 stabiliser-text-spec =
     tie.close
-    (tie.spec
-    byte-at-requires
-    mul-second
-    add-second
-    byte-at-requires-2
-    add-if1
-    mul-if1
-    add-if1-2
-    values-requires
-    values-requires-2
-    array-borrow-prefix-vector
-    slice-aggregate-put-stabilised
-    array-borrow-prefix-gaps
-    slice-aggregate-put-stabilised-2
-    put-stabilised-requires
-    returns
-    put-refused-run-requires
-    returns-2)
+    (tie.spec (λ c κs. search needs) (λ c. search needs) (λ c. search needs) (λ c κs. search needs) (λ c. search needs)
+    (λ c. search needs) (λ c. search needs) (λ c κs. search needs) (λ c κs. search needs) (λ c. search needs)
+    slice-aggregate-put-stabilised (λ c. search needs) slice-aggregate-put-stabilised-2 put-stabilised-requires returns
+    (λ c κs. search needs) returns-2)

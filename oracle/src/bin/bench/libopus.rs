@@ -101,8 +101,7 @@ impl Side for Libopus {
 
     #[inline(always)]
     fn resume(packet: &mut [u8], fields: Reader) -> EcCtx<u32> {
-        let buf = packet.as_mut_ptr();
-        EcCtx { buf, fields }
+        EcCtx::beside(packet, fields)
     }
 
     #[inline(always)]
@@ -124,9 +123,8 @@ impl Side for Libopus {
 
     #[inline(always)]
     fn fresh(buffer: &mut [u8]) -> EcCtx<i32> {
-        let (buf, fields) = (buffer.as_mut_ptr(), Writer::default());
-        let mut ctx = EcCtx { buf, fields };
-        unsafe { ec_enc_init(&mut ctx, buf, buffer.len() as u32) };
+        let mut ctx = EcCtx::beside(buffer, Writer::default());
+        unsafe { ec_enc_init(&mut ctx, buffer.as_mut_ptr(), buffer.len() as u32) };
         ctx
     }
 
