@@ -169,7 +169,7 @@ pub fn ec_enc_done(buf: &mut [u8], w: Enc) -> Encoded
 {
     let n = gate(buf, w);
     if n == 0 {
-        let q = entenc_run::ec_enc_done_run(buf, w);
+        let q = entenc_finish::ec_enc_done_run(buf, w);
         Encoded {
             refusal: 0,
             value: 0,

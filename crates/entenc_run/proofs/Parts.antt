@@ -1,15 +1,15 @@
 -- The parts of the range that the code computes for a symbol are those of its model. Assumes nothing.
 use Prim.Native.Nat.{ℕ, zero, suc, _+_, _-_, _*_, _/_, _%_, _^_, _≤_, _<_}
-use mathlib.Core.Path.{_≡_, refl, sym, ap, _∙_}
+use mathlib.Core.Path.{_≡_, refl, sym, ap}
 use mathlib.Core.List.{List}
 use native.Mathlib.Omega.{arith}
-use native.Mathlib.Nat.{one-mul, mul-le-mul-left, div-mul-le-self, mod-lt}
+use native.Mathlib.Nat.{mul-le-mul-left, div-mul-le-self, mod-lt}
 use native.Mathlib.Numerals.{add-one}
-use lib.Dec.{lit<}
 use lib.ListN.{getD}
-use lib.Pow.{shl-exact, shr-mono, pow-mono, pow-pos}
+use lib.Pow.{shr-mono, pow-mono, pow-pos}
 use Rattle.bitlen.specs.Length.{bitLength}
 use Rattle.bitlen.specs.LengthLaws.{length-most, length-pow}
+use Rattle.bitlen.proofs.Shift.{one-shl}
 use Rattle.icdf.specs.Rule.{Icdf}
 use Rattle.icdf.specs.RuleLaws.{entry-below}
 use Rattle.entcode.specs.Models.{bit, num, tab, rawBits, Allowed}
@@ -80,9 +80,6 @@ pub ends-stepped : (o q : Out) (t s x y : ℕ) → t ≡ x → s ≡ y → Stepp
 ends-stepped o q t s x y p q' k = rw (p, q') at k
 
 -- ---- a number below ft, with d binary digits in ft - 1
-
-pub one-shl : (n : ℕ) → n ≤ 31 → 1 * 2 ^ n % 2 ^ 32 ≡ 2 ^ n
-one-shl n h = shl-exact 1 n 32 (lit< tt) (omega arith) ∙ one-mul (2 ^ n)
 
 pub number-is : (o : Out) (ft v d : ℕ) → d ≡ bitLength (ft - 1)
     → appended (cut o (upper (o .state .rng) (v / 2 ^ (d - 8)) ((ft - 1) / 2 ^ (d - 8) + 1)) (lower (o .state .rng) (suc (v / 2 ^ (d - 8))) ((ft - 1) / 2 ^ (d - 8) + 1)))

@@ -8,23 +8,14 @@ use Rattle.entcode.specs.CutLaws.{upper-some}
 use Rattle.entenc_run.proofs.part_top.Statement.{statement}
 use Rattle.entenc_run.proofs.part_top.Tie as tie
 
-div-result : tie.Need-div-result
-div-result c = search needs
-
-sub-result : tie.Need-sub-result
-sub-result c = search needs
-
 mul-result : tie.Need-mul-result
 mul-result c =
     let a = c .before .args in
     let l : a .rng / a .ft * (a .ft - a .c) ≤ a .rng / a .ft * a .ft = mul-le-mul-left (a .rng / a .ft) (omega arith) in
     omega (arith, div-mul-le-self (a .rng) (a .ft))
 
-returns : tie.Need-returns
-returns c = search needs
-
 returns-2 : tie.Need-returns-2
 returns-2 c = let a = c .before .args in sym (upper-some (a .rng) (a .c) (a .ft) (omega arith))
 
 pub part-top-spec : {M : Type 1} → statement M
-part-top-spec = tie.close (tie.spec div-result sub-result mul-result returns returns-2)
+part-top-spec = tie.close (tie.spec (λ c. search needs) (λ c. search needs) mul-result (λ c. search needs) returns-2)

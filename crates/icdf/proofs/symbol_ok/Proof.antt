@@ -4,7 +4,8 @@ use Prim.Native.Nat.{_-_}
 use native.Mathlib.Omega.{arith}
 use borrow.Author.Tests.{lt-ltb, le-ltb}
 use Rattle.icdf.specs.Test.{symbolOk}
-use Rattle.icdf.proofs.Entries.{before-first, before-later, one-shl}
+use Rattle.bitlen.proofs.Shift.{one-shl}
+use Rattle.icdf.proofs.Entries.{before-first, before-later}
 use Rattle.icdf.proofs.symbol_ok.Statement.{statement}
 use Rattle.icdf.proofs.symbol_ok.Tie as tie
 
@@ -30,7 +31,8 @@ returns : tie.Need-returns
 unfolding symbolOk
 returns c =
     let b = c .before .before .before in
-    rw (lt-ltb _ _ (c .before .before .if1 .taken), before-first (b .args .scale) (b .args .symbol) (b .args .table .now) (c .if2 .taken), one-shl (b .args .scale) (b .pre .1))
+    let f = before-first (b .args .scale) (b .args .symbol) (b .args .table .now) (c .if2 .taken) in
+    rw (lt-ltb _ _ (c .before .before .if1 .taken), f, one-shl (b .args .scale) (omega (arith, b .pre .1)))
 
 returns-2 : tie.Need-returns-2
 unfolding symbolOk
