@@ -103,7 +103,7 @@ pub fn ec_dec_init(packet: &[u8]) -> Decoded
     ensures { λ a. ⌜ a ≡ decOpen (now (packet .entry)) ⌝ }
 {
     if packet.len() <= 1275 {
-        let q = entdec_run::ec_dec_init_run(packet);
+        let q = entdec_bytes::ec_dec_init_run(packet);
         Decoded {
             refusal: 0,
             value: 0,

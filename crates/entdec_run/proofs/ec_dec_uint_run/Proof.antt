@@ -105,8 +105,8 @@ cut-is c =
     let k = c .before .ec-decode .result in
     c .ec-dec-update .ensures ∙ ap (λ (p : ℕ). cutDown (a .packet .now) (a .d) (upper (a .d .rng) k p) (lower (a .d .rng) (suc k) p)) (parts (c .before .before .before))
 
-raw-bits-requires : tie.Need-raw-bits-requires
-raw-bits-requires c κs =
+raw-bits-run-requires : tie.Need-raw-bits-run-requires
+raw-bits-run-requires c κs =
     let n = the-piece (c .before) .next in
     rw (cut-is c) (n .core, (omega (arith, n .most), omega (arith, few (c .before .before .before))))
 
@@ -114,14 +114,14 @@ shl-number : tie.Need-shl-number
 shl-number c = omega (arith, few (c .before .before .before .before))
 
 -- the raw part fits its bits
-raw-small : (c : tie.After-raw-bits) → c .raw-bits .result .value < 2 ^ c .before .before .before .before .raw-count .result
+raw-small : (c : tie.After-raw-bits-run) → c .raw-bits-run .result .value < 2 ^ c .before .before .before .before .raw-count .result
 raw-small c =
     let n = c .before .before .before .before .raw-count .result in
-    rw (c .raw-bits .ensures) (mod-lt _ (pow-pos n))
+    rw (c .raw-bits-run .ensures) (mod-lt _ (pow-pos n))
 
 add-number : tie.Need-add-number
 add-number c =
-    let t = together (c .before .before .before .ec-decode .result) (c .before .raw-bits .result .value) (c .before .before .before .before .before .raw-count .result)
+    let t = together (c .before .before .before .ec-decode .result) (c .before .raw-bits-run .result .value) (c .before .before .before .before .before .raw-count .result)
     (the-piece (c .before .before .before) .small) (few (c .before .before .before .before .before)) (raw-small (c .before)) in
     omega (arith, t .0, t .1)
 
@@ -138,16 +138,16 @@ returns c =
     let k = r .before .before .ec-decode .result in
     let y = bytes (r .before .before .before .before .before) in
     let q = cutDown p d (upper (d .rng) k (all (num ft))) (lower (d .rng) (suc k) (all (num ft))) in
-    let x : r .raw-bits .result ≡ gives (rawVal p (rawBits ft) q) (rawNext p (rawBits ft) q)
-    = r .raw-bits .ensures ∙ ap₂ (λ (n : ℕ) (z : Dec). gives (rawVal p n z) (rawNext p n z)) (r .before .before .before .before .raw-count .ensures) (cut-is (r .before)) in
-    let t = together k (r .raw-bits .result .value) (r .before .before .before .before .raw-count .result) (the-piece (r .before .before) .small) (few (r .before .before .before .before)) (raw-small r) in
-    let v : k * 2 ^ r .before .before .before .before .raw-count .result % 2 ^ 32 + r .raw-bits .result .value ≡ k * 2 ^ rawBits ft + rawVal p (rawBits ft) q
+    let x : r .raw-bits-run .result ≡ gives (rawVal p (rawBits ft) q) (rawNext p (rawBits ft) q)
+    = r .raw-bits-run .ensures ∙ ap₂ (λ (n : ℕ) (z : Dec). gives (rawVal p n z) (rawNext p n z)) (r .before .before .before .before .raw-count .ensures) (cut-is (r .before)) in
+    let t = together k (r .raw-bits-run .result .value) (r .before .before .before .before .raw-count .result) (the-piece (r .before .before) .small) (few (r .before .before .before .before)) (raw-small r) in
+    let v : k * 2 ^ r .before .before .before .before .raw-count .result % 2 ^ 32 + r .raw-bits-run .result .value ≡ k * 2 ^ rawBits ft + rawVal p (rawBits ft) q
     = ap₂ (λ (m n : ℕ). m + n) (t .0 ∙ ap (λ (n : ℕ). k * 2 ^ n) (r .before .before .before .before .raw-count .ensures)) (ap (λ (a : Decoded). a .value) x) in
     let s : d .rng / ((ft - 1) / 2 ^ r .before .before .before .before .raw-count .result + 1) ≡ d .rng / all (num ft)
     = ap (λ (n : ℕ). d .rng / n) (parts (r .before .before .before .before)) in
     took p (num ft) d _ y (b .pre .1 .1) (b .pre .0)
     (c .clamp .ensures
-    ∙ ap₂ (λ (n m : ℕ). outcome (ft - 1) n (r .raw-bits .result .state) m) v s
+    ∙ ap₂ (λ (n m : ℕ). outcome (ft - 1) n (r .raw-bits-run .result .state) m) v s
     ∙ ap (λ (z : Dec). outcome (ft - 1) (k * 2 ^ rawBits ft + rawVal p (rawBits ft) q) z (d .rng / all (num ft))) (ap (λ (a : Decoded). a .state) x)
     ∙ num-read p ft d k _ _ y (b .pre .0) (b .pre .1 .1) (num-cutting ft d k (sought-is (r .before .before))))
   where
@@ -155,4 +155,4 @@ returns c =
     outcome top n z m = cond (leb n top) (gives n (atEnd z m (z .error))) (gives top (atEnd z m 1))
 
 pub ec-dec-uint-run-spec : {M : Type 1} → statement M
-ec-dec-uint-run-spec = tie.close (tie.spec raw-count-requires sub-top shr-parts add-parts div-step ec-decode-requires ec-dec-update-requires raw-bits-requires shl-number add-number clamp-requires returns)
+ec-dec-uint-run-spec = tie.close (tie.spec raw-count-requires sub-top shr-parts add-parts div-step ec-decode-requires ec-dec-update-requires raw-bits-run-requires shl-number add-number clamp-requires returns)

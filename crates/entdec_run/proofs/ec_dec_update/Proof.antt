@@ -25,14 +25,14 @@ mul-low c =
 upper-end-requires : tie.Need-upper-end-requires
 upper-end-requires c κs = search needs
 
-cut-requires : tie.Need-cut-requires
-cut-requires c κs =
+cut-run-requires : tie.Need-cut-run-requires
+cut-run-requires c κs =
     let b = c .before .before .before in
     let h = b .pre .1 .1 .1 in
     (b .pre .0, (b .pre .1 .0, rw (c .upper-end .ensures, add-one) (h .cut .some, h .cut .inside, h .low, h .high)))
 
 returns : tie.Need-returns
-returns c = rw (add-one, c .before .upper-end .ensures) at (c .cut .ensures)
+returns c = rw (add-one, c .before .upper-end .ensures) at (c .cut-run .ensures)
 
 pub ec-dec-update-spec : {M : Type 1} → statement M
-ec-dec-update-spec = tie.close (tie.spec div-step add-low sub-low mul-low upper-end-requires cut-requires returns)
+ec-dec-update-spec = tie.close (tie.spec div-step add-low sub-low mul-low upper-end-requires cut-run-requires returns)
