@@ -10,6 +10,7 @@ ghost use Rattle.entcode.specs.ReaderLaws.{Core};
 ghost use Rattle.entdec_bytes.specs.Facts.{Turning, Windowed};
 use entcode::Dec;
 use entcode::Decoded;
+use entcode::nought_reader;
 
 // The byte at a place, 0 past the end.
 fn ec_read_byte(packet: &[u8], at: u32) -> u32
@@ -90,19 +91,13 @@ pub fn ec_dec_init_run(packet: &[u8]) -> Dec
     let o = place_after(packet, 0);
     let n = packet.len() as u32;
     let v = 127 - b / 2;
-    let d = Dec {
-        storage: n,
-        endoffs: 0,
-        window: 0,
-        wbits: 0,
-        total: 9,
-        offs: o,
-        rng: 128,
-        val: v,
-        ext: 0,
-        rem: b,
-        error: 0,
-    };
+    let mut d = nought_reader();
+    d.storage = n;
+    d.total = 9;
+    d.offs = o;
+    d.rng = 128;
+    d.val = v;
+    d.rem = b;
     ec_dec_normalize(packet, d)
 }
 

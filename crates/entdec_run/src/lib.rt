@@ -14,6 +14,7 @@ ghost use Rattle.entcode.specs.ReaderLaws.{Core};
 ghost use Rattle.entcode.specs.ReadLaws.{Holding, Took};
 use entcode::Dec;
 use entcode::Decoded;
+use entcode::part_top_run;
 use entdec_bytes::cut_run;
 use entdec_bytes::raw_bits_run;
 use entdec_search::find_part_run;
@@ -98,14 +99,6 @@ fn ec_decode(d: Dec, ft: u32) -> u32
     ft - n
 }
 
-// The upper end of the part that starts at fl, out of ft.
-fn upper_end(rng: u32, ft: u32, fl: u32) -> u32
-    requires { ⌜ (1 ≤ ft) × (fl ≤ ft) ⌝ }
-    ensures { λ t. ⌜ t ≡ upper rng fl ft ⌝ }
-{
-    if fl == 0 { rng } else { rng / ft * (ft - fl) }
-}
-
 // The piece [fl, fl + 1) of ft, which holds the value, is kept.
 fn ec_dec_update(packet: &[u8], d: Dec, fl: u32, ft: u32) -> Dec
     requires { ⌜ Core (now packet) d ⌝ }
@@ -115,7 +108,7 @@ fn ec_dec_update(packet: &[u8], d: Dec, fl: u32, ft: u32) -> Dec
 {
     let step = d.rng / ft;
     let low = step * (ft - (fl + 1));
-    let top = upper_end(d.rng, ft, fl);
+    let top = part_top_run(d.rng, fl, ft);
     cut_run(packet, d, top, low)
 }
 

@@ -21,11 +21,12 @@ use Rattle.entcode.specs.RoomLaws.{puts-kept, puts-error}
 use Rattle.entcode.specs.Tail.{flush}
 use Rattle.entcode.specs.Writer.{Writer, withFront}
 use Rattle.entcode.specs.WriterLaws.{held-most}
-use Rattle.entcode.specs.Finish.{bitsOf, endOf, emits, spareBits, finOut, heldAfter, finBytes, clear, leftOver, close}
+use Rattle.entcode.specs.Finish.{bitsOf, endOf, emits, spareBits, finOut, heldAfter, finBytes, clear, orLast, leftOver, close}
 use Rattle.entcode.specs.Flat.{heldOf, errOf, errorOf, Out, out, asWriter, flat, Fair}
 use Rattle.entcode.specs.FlatLaws.{flat-fair, as-flat, flat-as, arrive, held-rem, err-error, puts-append}
 use Rattle.entcode.specs.WriterFacts.{Roomy, Windowed, Core, atFront, atWindow}
-use Rattle.entcode.specs.WriterSteps.{withRoom, withTail, carryW, carried, flushed, rested, digitsW, digitsOut, frontW, fronted, stowed, closed}
+use Rattle.entcode.specs.WriterSteps.{withRoom, withTail, carryW, carried, flushed, rested, digitsW, digitsOut}
+use Rattle.entcode.specs.WriterSteps.{frontW, fronted, stowed, closed}
 use Rattle.entcode.specs.Writing.{finished}
 
 -- ---- what is held back
@@ -39,12 +40,16 @@ rest-held (suc b) x l = refl
 rest-held zero (suc x) l = refl
 rest-held zero zero l = absurd (omega arith)
 
+-- a writer that holds h with a run of x behind it, and has another room
+abbrev front : Writer → ℕ → ℕ → Room → Out
+front w h x r = flat (withFront w (record { rng = w .front .rng; val = w .front .val; held = h; run = x }) r (w .total))
+
 -- something is held back: the digit 0 sends it out
 pub rest-some : (o : Out) → heldOf (o .state .rem) ≤ 256 → 1 ≤ heldOf (o .state .rem) + o .state .ext → carried o 0 ≡ rested o
 unfolding carried rested
 rest-some o l s =
     let w = asWriter o in
-    ap₂ (λ (bs : List ℕ) (k : ℕ). flat (withFront w (record { rng = w .front .rng; val = w .front .val; held = k; run = 0 }) (puts (w .tail .room) bs) (w .total)))
+    ap₂ (λ (bs : List ℕ) (k : ℕ). front w k 0 (puts (w .tail .room) bs))
     (rest-bytes (w .front .held) (w .front .run) l)
     (sym (rest-held (w .front .held) (w .front .run) s))
 
@@ -54,8 +59,8 @@ unfolding rested
 rest-none o f h x =
     let w = asWriter o in
     sym
-    (ap₂ (λ (a b : ℕ). flat (withFront w (record { rng = w .front .rng; val = w .front .val; held = heldAfter (unstored a b); run = 0 }) (puts (w .tail .room) (unstored a b)) (w .total))) h x
-    ∙ ap₂ (λ (a b : ℕ). flat (withFront w (record { rng = w .front .rng; val = w .front .val; held = a; run = b }) (w .tail .room) (w .total))) (sym h) (sym x)
+    (ap₂ (λ (a b : ℕ). front w (heldAfter (unstored a b)) 0 (puts (w .tail .room) (unstored a b))) h x
+    ∙ ap₂ (λ (a b : ℕ). front w a b (w .tail .room)) (sym h) (sym x)
     ∙ flat-as o f)
 
 -- the sign of the held byte
@@ -183,48 +188,40 @@ zeroed-none b first =
 
 -- ---- the bits left over
 
--- the byte below the back is full and cannot spare them; it can; there is none
+-- bits joined to a byte
+abbrev pub joined : List ℕ → ℕ → ℕ → List ℕ
+joined b i x = set b i (bitOr (getD b i 0) x)
+
+-- there is a byte below the back, which takes the bits x: by the test whether it is full and cannot spare all of them
+stow-by : (o : Out) (j x : ℕ) (t : Bool) (e : ℤ) → Roomy o → o .state .endoffs < o .state .storage
+    → leb (o .state .storage) (o .state .offs + o .state .endoffs) && ltb j (o .state .wbits) ≡ t → errorOf (errOf e) ≡ e
+    → let r = asWriter o .tail .room in
+    orLast r x (errOf e) ≡ cond t (orLast r (o .state .window % 2 ^ j) 1) (orLast r (o .state .window) (r .err))
+    → atFront o (joined (o .buf) (o .state .storage - (o .state .endoffs + 1)) x) (o .state .offs) e ≡ stowed o j
+unfolding stowed
+stow-by o j x t e h l q f s =
+    let n = length (o .buf) in
+    let i = n - suc (o .state .endoffs) in
+    let k : o .state .storage - (o .state .endoffs + 1) ≡ i = omega (arith, h .fair .kept) in
+    let a : ltb (o .state .endoffs) n ≡ true = lt-ltb (o .state .endoffs) n (omega (arith, h .fair .kept)) in
+    let b : leb n (o .state .offs + o .state .endoffs) && ltb j (o .state .wbits) ≡ t
+    = ap (λ (m : ℕ). leb m (o .state .offs + o .state .endoffs) && ltb j (o .state .wbits)) (sym (h .fair .kept)) ∙ q in
+    ap (λ (m : ℕ). atFront o (joined (o .buf) m x) (o .state .offs) e) k
+    ∙ arrive (atFront o (joined (o .buf) i x) (o .state .offs) e)
+    (withRoom (asWriter o) (leftOver (asWriter o .tail .room) (o .state .window) (o .state .wbits) j))
+    (record { kept = h .fair .kept ∙ sym (length-set (o .buf) i (bitOr (getD (o .buf) i 0) x)); rem = h .fair .rem; error = f })
+    (rw (a, b) (ap (withRoom (asWriter o)) s))
+
 pub stow-short : (o : Out) (j x : ℕ) → Roomy o → o .state .endoffs < o .state .storage
     → leb (o .state .storage) (o .state .offs + o .state .endoffs) && ltb j (o .state .wbits) ≡ true → x ≡ o .state .window % 2 ^ j
-    → atFront o (set (o .buf) (o .state .storage - (o .state .endoffs + 1)) (bitOr (getD (o .buf) (o .state .storage - (o .state .endoffs + 1)) 0) x)) (o .state .offs) (negsuc 0)
-    ≡ stowed o j
-unfolding stowed
-stow-short o j x h l t e =
-    let n = length (o .buf) in
-    let k : o .state .storage - (o .state .endoffs + 1) ≡ n - suc (o .state .endoffs) = omega (arith, h .fair .kept) in
-    let a : ltb (o .state .endoffs) n ≡ true = lt-ltb (o .state .endoffs) n (omega (arith, h .fair .kept)) in
-    let b : leb n (o .state .offs + o .state .endoffs) && ltb j (o .state .wbits) ≡ true
-    = ap (λ (m : ℕ). leb m (o .state .offs + o .state .endoffs) && ltb j (o .state .wbits)) (sym (h .fair .kept)) ∙ t in
-    ap₂ (λ (i y : ℕ). atFront o (set (o .buf) i (bitOr (getD (o .buf) i 0) y)) (o .state .offs) (negsuc 0)) k e
-    ∙ arrive (atFront o (set (o .buf) (n - suc (o .state .endoffs)) (bitOr (getD (o .buf) (n - suc (o .state .endoffs)) 0) (o .state .window % 2 ^ j))) (o .state .offs) (negsuc 0))
-    (withRoom (asWriter o) (leftOver (asWriter o .tail .room) (o .state .window) (o .state .wbits) j))
-    (record {
-      kept = h .fair .kept ∙ sym (length-set (o .buf) (n - suc (o .state .endoffs)) (bitOr (getD (o .buf) (n - suc (o .state .endoffs)) 0) (o .state .window % 2 ^ j)));
-      rem = h .fair .rem;
-      error = refl;
-    })
-    (rw (a, b))
+    → atFront o (joined (o .buf) (o .state .storage - (o .state .endoffs + 1)) x) (o .state .offs) (negsuc 0) ≡ stowed o j
+stow-short o j x h l t e = stow-by o j x true (negsuc 0) h l t refl (ap (λ (y : ℕ). orLast (asWriter o .tail .room) y 1) e)
 
 pub stow-whole : (o : Out) (j : ℕ) → Roomy o → o .state .endoffs < o .state .storage
     → leb (o .state .storage) (o .state .offs + o .state .endoffs) && ltb j (o .state .wbits) ≡ false
-    → atFront o (set (o .buf) (o .state .storage - (o .state .endoffs + 1)) (bitOr (getD (o .buf) (o .state .storage - (o .state .endoffs + 1)) 0) (o .state .window))) (o .state .offs) (o .state .error)
+    → atFront o (joined (o .buf) (o .state .storage - (o .state .endoffs + 1)) (o .state .window)) (o .state .offs) (o .state .error)
     ≡ stowed o j
-unfolding stowed
-stow-whole o j h l t =
-    let n = length (o .buf) in
-    let k : o .state .storage - (o .state .endoffs + 1) ≡ n - suc (o .state .endoffs) = omega (arith, h .fair .kept) in
-    let a : ltb (o .state .endoffs) n ≡ true = lt-ltb (o .state .endoffs) n (omega (arith, h .fair .kept)) in
-    let b : leb n (o .state .offs + o .state .endoffs) && ltb j (o .state .wbits) ≡ false
-    = ap (λ (m : ℕ). leb m (o .state .offs + o .state .endoffs) && ltb j (o .state .wbits)) (sym (h .fair .kept)) ∙ t in
-    ap (λ (i : ℕ). atFront o (set (o .buf) i (bitOr (getD (o .buf) i 0) (o .state .window))) (o .state .offs) (o .state .error)) k
-    ∙ arrive (atFront o (set (o .buf) (n - suc (o .state .endoffs)) (bitOr (getD (o .buf) (n - suc (o .state .endoffs)) 0) (o .state .window))) (o .state .offs) (o .state .error))
-    (withRoom (asWriter o) (leftOver (asWriter o .tail .room) (o .state .window) (o .state .wbits) j))
-    (record {
-      kept = h .fair .kept ∙ sym (length-set (o .buf) (n - suc (o .state .endoffs)) (bitOr (getD (o .buf) (n - suc (o .state .endoffs)) 0) (o .state .window)));
-      rem = h .fair .rem;
-      error = h .fair .error;
-    })
-    (rw (a, b))
+stow-whole o j h l t = stow-by o j (o .state .window) false (o .state .error) h l t (h .fair .error) refl
 
 pub stow-none : (o : Out) (j : ℕ) → Roomy o → o .state .storage ≤ o .state .endoffs → atFront o (o .buf) (o .state .offs) (negsuc 0) ≡ stowed o j
 unfolding stowed

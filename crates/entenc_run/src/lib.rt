@@ -15,6 +15,7 @@ ghost use Rattle.entcode.specs.WriterSteps.{cut};
 use crate::front::keep;
 use crate::tail::append;
 use entcode::Enc;
+use entcode::part_top_run;
 
 mod front; // front.rt: cuts of the range
 mod tail; // tail.rt: raw bits
@@ -83,14 +84,6 @@ pub fn ec_enc_bits_run(buf: &mut [u8], w: Enc, v: u32, n: u32) -> Enc
     append(buf, w, v, n)
 }
 
-// The upper end of part c of ft equal parts.
-fn part_top(rng: u32, c: u32, ft: u32) -> u32
-    requires { ⌜ c < ft ⌝ }
-    ensures { λ t. ⌜ t ≡ upper rng c ft ⌝ }
-{
-    if c == 0 { rng } else { rng / ft * (ft - c) }
-}
-
 // Part c of ft equal parts of the range, counted from its bottom.
 fn keep_part(buf: &mut [u8], w: Enc, c: u32, ft: u32) -> Enc
     requires { ⌜ Core (out (now buf) w) ⌝ }
@@ -101,7 +94,7 @@ fn keep_part(buf: &mut [u8], w: Enc, c: u32, ft: u32) -> Enc
         (cut (out (now (buf .entry)) w) (upper (w .rng) c ft) (lower (w .rng) (suc c) ft)) (out (now (buf .exit)) r) ⌝ }
 {
     let low = w.rng / ft * (ft - (c + 1));
-    let top = part_top(w.rng, c, ft);
+    let top = part_top_run(w.rng, c, ft);
     keep(buf, w, top, low)
 }
 

@@ -5,19 +5,10 @@ use Rattle.entcode.specs.ReaderLaws.{settled-cut}
 use Rattle.entdec_bytes.proofs.cut_run.Statement.{statement}
 use Rattle.entdec_bytes.proofs.cut_run.Tie as tie
 
-sub-q : tie.Need-sub-q
-sub-q c = search needs
-
-sub-q-2 : tie.Need-sub-q-2
-sub-q-2 c = search needs
-
-ec-dec-normalize-requires : tie.Need-ec-dec-normalize-requires
-ec-dec-normalize-requires c κs = search needs
-
 returns : tie.Need-returns
 returns c =
     let b = c .before .before .before in
     c .ec-dec-normalize .ensures ∙ settled-cut (b .args .packet .now) (b .args .d) (b .args .t) (b .args .s) (b .pre .1 .1 .0)
 
 pub cut-run-spec : {M : Type 1} → statement M
-cut-run-spec = tie.close (tie.spec sub-q sub-q-2 ec-dec-normalize-requires returns)
+cut-run-spec = tie.close (tie.spec (λ c. search needs) (λ c. search needs) (λ c κs. search needs) returns)

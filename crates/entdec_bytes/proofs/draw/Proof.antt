@@ -7,20 +7,8 @@ use Rattle.bitlen.proofs.Shift.{one-shl}
 use Rattle.entdec_bytes.proofs.draw.Statement.{statement}
 use Rattle.entdec_bytes.proofs.draw.Tie as tie
 
-shl-v : tie.Need-shl-v
-shl-v c = search needs
-
 sub-v : tie.Need-sub-v
 sub-v c = rw (one-shl (c .args .n) (omega arith)) (pow-pos (c .args .n))
-
-shr-q : tie.Need-shr-q
-shr-q c = search needs
-
-sub-q : tie.Need-sub-q
-sub-q c = search needs
-
-add-q : tie.Need-add-q
-add-q c = search needs
 
 returns : tie.Need-returns
 returns c =
@@ -28,4 +16,7 @@ returns c =
     rw (one-shl (a .n) (omega arith), and-mask (a .d .window) (a .n))
 
 pub draw-spec : {M : Type 1} → statement M
-draw-spec = tie.close (tie.spec shl-v sub-v shr-q sub-q add-q returns)
+draw-spec =
+    tie.close
+    (tie.spec
+    (λ c. search needs) sub-v (λ c. search needs) (λ c. search needs) (λ c. search needs) returns)

@@ -8,15 +8,6 @@ use Rattle.entdec_bytes.proofs.Window.{last-at, last-past}
 use Rattle.entdec_bytes.proofs.ec_read_byte_from_end.Statement.{statement}
 use Rattle.entdec_bytes.proofs.ec_read_byte_from_end.Tie as tie
 
-add-k : tie.Need-add-k
-add-k c = search needs
-
-sub-k : tie.Need-sub-k
-sub-k c = search needs
-
-shared-slice-read-result : tie.Need-shared-slice-read-result
-shared-slice-read-result c = search needs
-
 cast-result : tie.Need-cast-result
 cast-result c =
     let a = c .before .before .args in
@@ -29,4 +20,7 @@ returns-2 : tie.Need-returns-2
 returns-2 c = sym (last-past (c .before .args .packet .now) (c .before .args .at) (c .if1 .left))
 
 pub ec-read-byte-from-end-spec : {M : Type 1} → statement M
-ec-read-byte-from-end-spec = tie.close (tie.spec add-k sub-k shared-slice-read-result cast-result returns returns-2)
+ec-read-byte-from-end-spec =
+    tie.close
+    (tie.spec
+    (λ c. search needs) (λ c. search needs) (λ c. search needs) cast-result returns returns-2)

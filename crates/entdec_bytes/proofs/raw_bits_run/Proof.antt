@@ -5,9 +5,6 @@ use Rattle.entcode.specs.ReaderLaws.{Bytes, fill-kept}
 use Rattle.entdec_bytes.proofs.raw_bits_run.Statement.{statement}
 use Rattle.entdec_bytes.proofs.raw_bits_run.Tie as tie
 
-fill-for-requires : tie.Need-fill-for-requires
-fill-for-requires c κs = search needs
-
 draw-requires : tie.Need-draw-requires
 draw-requires c κs =
     let b = c .before .before in
@@ -19,4 +16,4 @@ returns : tie.Need-returns
 returns c = rw (c .draw .ensures, c .before .fill-for .ensures)
 
 pub raw-bits-run-spec : {M : Type 1} → statement M
-raw-bits-run-spec = tie.close (tie.spec fill-for-requires draw-requires returns)
+raw-bits-run-spec = tie.close (tie.spec (λ c κs. search needs) draw-requires returns)

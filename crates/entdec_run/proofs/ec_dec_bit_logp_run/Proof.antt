@@ -9,9 +9,6 @@ use Rattle.entcode.specs.ReadLaws.{cutting-holds, bit-one, bit-zero, bit-read, 
 use Rattle.entdec_run.proofs.ec_dec_bit_logp_run.Statement.{statement}
 use Rattle.entdec_run.proofs.ec_dec_bit_logp_run.Tie as tie
 
-shr-part : tie.Need-shr-part
-shr-part c = search needs
-
 cut-run-requires : tie.Need-cut-run-requires
 cut-run-requires c κs =
     let b = c .before .before .before .before in
@@ -45,4 +42,7 @@ returns-2 c =
     (ap (gives 0) (c .cut-run2 .ensures) ∙ bit-read p (b .args .lp) (b .args .d) _ _ _ u)
 
 pub ec-dec-bit-logp-run-spec : {M : Type 1} → statement M
-ec-dec-bit-logp-run-spec = tie.close (tie.spec shr-part cut-run-requires cut-run-requires-2 returns returns-2)
+ec-dec-bit-logp-run-spec =
+    tie.close
+    (tie.spec
+    (λ c. search needs) cut-run-requires cut-run-requires-2 returns returns-2)

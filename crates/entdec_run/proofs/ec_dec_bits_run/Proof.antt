@@ -8,9 +8,6 @@ use Rattle.entcode.specs.ReadLaws.{raw-read, took}
 use Rattle.entdec_run.proofs.ec_dec_bits_run.Statement.{statement}
 use Rattle.entdec_run.proofs.ec_dec_bits_run.Tie as tie
 
-raw-bits-run-requires : tie.Need-raw-bits-run-requires
-raw-bits-run-requires c κs = search needs
-
 returns : tie.Need-returns
 returns c =
     let b = c .before .before in
@@ -20,4 +17,4 @@ returns c =
     (c .raw-bits-run .ensures ∙ raw-read p (b .args .n) (b .args .d) y (b .pre .0) (b .pre .1 .1 .1))
 
 pub ec-dec-bits-run-spec : {M : Type 1} → statement M
-ec-dec-bits-run-spec = tie.close (tie.spec raw-bits-run-requires returns)
+ec-dec-bits-run-spec = tie.close (tie.spec (λ c κs. search needs) returns)

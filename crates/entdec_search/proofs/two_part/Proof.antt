@@ -7,9 +7,6 @@ use Rattle.entdec_search.proofs.TwoEntries.{two-entries}
 use Rattle.entdec_search.proofs.two_part.Statement.{statement}
 use Rattle.entdec_search.proofs.two_part.Tie as tie
 
-shared-slice-read-edge : tie.Need-shared-slice-read-edge
-shared-slice-read-edge c = search needs
-
 cast-edge : tie.Need-cast-edge
 cast-edge c = omega (arith, c .before .shared-slice-known .given 0)
 
@@ -18,18 +15,6 @@ mul-edge c =
     let b = c .before .before in
     let a = b .args in
     omega (arith, mul-le-mul-left (a .unit) (le-of-lt (entry-below (a .scale) (a .table .now) (b .pre .0 .0) 0)), b .pre .1)
-
-pick-requires : tie.Need-pick-requires
-pick-requires c κs = search needs
-
-cast-symbol : tie.Need-cast-symbol
-cast-symbol c = search needs
-
-pick-requires-2 : tie.Need-pick-requires-2
-pick-requires-2 c κs = search needs
-
-pick-requires-3 : tie.Need-pick-requires-3
-pick-requires-3 c κs = search needs
 
 returns : tie.Need-returns
 returns c =
@@ -42,11 +27,5 @@ pub two-part-spec : {M : Type 1} → statement M
 two-part-spec =
     tie.close
     (tie.spec
-    shared-slice-read-edge
-    cast-edge
-    mul-edge
-    pick-requires
-    cast-symbol
-    pick-requires-2
-    pick-requires-3
-    returns)
+    (λ c. search needs) cast-edge mul-edge (λ c κs. search needs) (λ c. search needs) (λ c κs. search needs)
+    (λ c κs. search needs) returns)

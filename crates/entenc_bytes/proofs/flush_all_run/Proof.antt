@@ -58,11 +58,4 @@ pub flush-all-run-spec : {M : Type 1} → statement M
 flush-all-run-spec =
     tie.close
     (tie.spec
-    Inv-loop
-    μ-loop
-    loop-holds
-    flush-byte-requires
-    loop-less
-    loop-again
-    same-length
-    returns)
+    Inv-loop μ-loop loop-holds flush-byte-requires loop-less loop-again same-length returns)

@@ -48,12 +48,4 @@ pub put-many-spec : {M : Type 1} → statement M
 put-many-spec =
     tie.close
     (tie.spec
-    Inv-loop
-    μ-loop
-    loop-holds
-    put-byte-requires
-    sub-n
-    loop-less
-    loop-again
-    same-length
-    returns)
+    Inv-loop μ-loop loop-holds put-byte-requires sub-n loop-less loop-again same-length returns)

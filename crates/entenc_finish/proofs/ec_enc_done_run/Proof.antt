@@ -16,8 +16,8 @@ use Rattle.entenc_finish.proofs.ec_enc_done_run.Tie as tie
 enough : (c : tie.Start) → Enough (c .args .w .rng) (c .args .w .val) (bitsOf (c .args .w .rng) (c .args .w .val))
 enough c = bits-enough (c .args .w .rng) (c .args .w .val) (c .pre .above) (c .pre .most)
 
-few : (c : tie.Start) (l : ℕ) → l ≡ bitsOf (c .args .w .rng) (c .args .w .val) → l ≤ 9
-few c l e = omega (arith, enough c .few)
+nine : (c : tie.After-end-bits) → c .end-bits .result ≤ 9
+nine c = omega (arith, enough (c .before .before) .few, c .end-bits .ensures)
 
 -- the coded part, from the numbers that the code computed
 front : (o q : Out) (l e d : ℕ) → l ≡ bitsOf (o .state .rng) (o .state .val) → e ≡ roundUp (o .state .val) (2 ^ (31 - l)) → d ≡ (l + 7) / 8
@@ -27,8 +27,25 @@ front o q l e d p r s t =
     let x : d ≡ emits (bitsOf (o .state .rng) (o .state .val)) = s ∙ ap emits p in
     t ∙ ap₂ (digitsOut o) y x ∙ digits-front o
 
+-- where the digits are out: the bits chosen, the start, and the coded part
+abbrev chosen : tie.After-put-digits → tie.After-end-bits
+chosen c = c .before .before .before
+
+abbrev begun : tie.After-put-digits → tie.Start
+begun c = c .before .before .before .before .before
+
+abbrev start : tie.After-put-digits → Out
+start c = out (begun c .args .buf .now) (begun c .args .w)
+
+coded : (c : tie.After-put-digits) → out (c .put-digits .last .0) (c .put-digits .result) ≡ fronted (start c)
+coded c = front (start c) _ _ _ _ (chosen c .end-bits .ensures) (c .before .before .round-up .ensures) refl (c .put-digits .ensures)
+
+-- where the window's bytes are out
+abbrev digits : tie.After-flush-all-run → tie.After-put-digits
+digits c = c .before .before .before .before
+
 sub-round-up : tie.Need-sub-round-up
-sub-round-up c = omega (arith, few (c .before .before) _ (c .end-bits .ensures))
+sub-round-up c = omega (arith, nine c)
 
 round-up-requires : tie.Need-round-up-requires
 round-up-requires c κs =
@@ -37,50 +54,45 @@ round-up-requires c κs =
     (omega arith, omega (arith, enough b .low, enough b .high, b .pre .fits))
 
 add-digits : tie.Need-add-digits
-add-digits c = omega (arith, few (c .before .before .before) _ (c .before .end-bits .ensures))
+add-digits c = omega (arith, nine (c .before))
 
 put-digits-requires : tie.Need-put-digits-requires
 put-digits-requires c κs =
     let b = c .before .before .before .before in
-    (b .pre .roomy, (b .pre .held, omega (arith, b .pre .tidy, b .pre .few, few b _ (c .before .before .end-bits .ensures))))
+    (b .pre .roomy, (b .pre .held, omega (arith, b .pre .tidy, b .pre .few, nine (c .before .before))))
 
 flush-all-run-requires : tie.Need-flush-all-run-requires
 flush-all-run-requires c κs =
-    let b = c .before .before .before .before .before .before .before .before in
-    let o = out (b .args .buf .now) (b .args .w) in
-    subst Windowed
-    (sym (front o _ _ _ _ (c .before .before .before .before .before .before .end-bits .ensures) (c .before .before .before .before .before .round-up .ensures) refl (c .before .before .before .put-digits .ensures)))
-    (front-windowed o (b .pre))
+    let p = c .before .before .before in
+    subst Windowed (sym (coded p)) (front-windowed (start p) (begun p .pre))
 
 mul-close : tie.Need-mul-close
-mul-close c = omega (arith, few (c .before .before .before .before .before .before .before .before .before .before .before .before) _ (c .before .before .before .before .before .before .before .before .before .before .end-bits .ensures))
+mul-close c = omega (arith, nine (chosen (digits (c .before .before .before))))
 
 sub-close : tie.Need-sub-close
 sub-close c = omega arith
 
 close-requires : tie.Need-close-requires
 close-requires c κs =
-    let f = c .before .before .before .flush-all-run .ensures in
-    (f .windowed, (omega (arith, f .free), omega (arith, few (c .before .before .before .before .before .before .before .before .before .before .before .before) _ (c .before .before .before .before .before .before .before .before .before .before .end-bits .ensures))))
+    let f = c .before .before .before in
+    let l = f .flush-all-run .ensures in
+    (l .windowed, (omega (arith, l .free), omega (arith, nine (chosen (digits f)))))
 
 returns : tie.Need-returns
 returns c =
-    let b = c .before .before .before .before .before .before .before .before .before .before .before .before .before .before .before in
-    let w = b .args .w in
-    let o = out (b .args .buf .now) w in
-    let l = c .before .before .before .before .before .before .before .before .before .before .before .before .before .end-bits in
+    let f = c .before .before .before .before .before .before in
+    let o = start (digits f) in
+    let l = chosen (digits f) .end-bits in
     let j = 8 * ((l .result + 7) / 8) - l .result in
-    let e : j ≡ spareBits (bitsOf (w .rng) (w .val)) = ap spareBits (l .ensures) in
-    let a = front o _ _ _ _ (l .ensures) (c .before .before .before .before .before .before .before .before .before .before .before .before .round-up .ensures) refl (c .before .before .before .before .before .before .before .before .before .before .put-digits .ensures) in
-    ap (λ (q : Out). atWindow q (w .window) (w .wbits) (q .state .total))
+    let e : j ≡ spareBits (bitsOf (o .state .rng) (o .state .val)) = ap spareBits (l .ensures) in
+    ap (λ (q : Out). atWindow q (o .state .window) (o .state .wbits) (q .state .total))
     (c .before .before .close .ensures
-    ∙ ap (λ (q : Out). closed q j) (c .before .before .before .before .before .before .flush-all-run .ensures .is ∙ ap flushed a)
+    ∙ ap (λ (q : Out). closed q j) (f .flush-all-run .ensures .is ∙ ap flushed (coded (digits f)))
     ∙ ap (λ (i : ℕ). closed (flushed (fronted o)) i) e)
     ∙ finished-is o
 
 pub ec-enc-done-run-spec : {M : Type 1} → statement M
 ec-enc-done-run-spec =
     tie.close
-    (tie.spec
-    (λ c κs. search needs) sub-round-up round-up-requires add-digits put-digits-requires flush-all-run-requires
+    (tie.spec (λ c κs. search needs) sub-round-up round-up-requires add-digits put-digits-requires flush-all-run-requires
     mul-close sub-close close-requires (λ c. search needs) returns)

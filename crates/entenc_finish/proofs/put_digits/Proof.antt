@@ -70,14 +70,5 @@ pub put-digits-spec : {M : Type 1} → statement M
 put-digits-spec =
     tie.close
     (tie.spec
-    Inv-loop
-    μ-loop
-    loop-holds
-    carry-out-run-requires
-    mul-v
-    sub-n
-    loop-less
-    loop-again
-    put-rest-requires
-    same-length
+    Inv-loop μ-loop loop-holds carry-out-run-requires mul-v sub-n loop-less loop-again put-rest-requires same-length
     returns)

@@ -20,13 +20,13 @@ keep-requires : tie.Need-keep-requires
 keep-requires c κs =
     let b = c .before .before .before .before in
     let R = b .args .w .rng in
-    (b .pre .0, (b .pre .1 .0, ends-cut R _ _ _ _ (c .before .part-top .ensures) (part-lower R (b .args .c) (b .args .ft)) (part b)))
+    (b .pre .0, (b .pre .1 .0, ends-cut R _ _ _ _ (c .before .part-top-run .ensures) (part-lower R (b .args .c) (b .args .ft)) (part b)))
 
 returns : tie.Need-returns
 returns c =
     let b = c .before .before .before .before .before .before .before in
     let R = b .args .w .rng in
-    ends-stepped _ _ _ _ _ _ (c .before .before .before .before .part-top .ensures) (part-lower R (b .args .c) (b .args .ft))
+    ends-stepped _ _ _ _ _ _ (c .before .before .before .before .part-top-run .ensures) (part-lower R (b .args .c) (b .args .ft))
     (c .before .before .keep .ensures)
 
 pub keep-part-spec : {M : Type 1} → statement M

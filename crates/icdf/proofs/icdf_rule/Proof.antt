@@ -6,9 +6,6 @@ use Rattle.icdf.specs.Test.{icdfRule}
 use Rattle.icdf.proofs.icdf_rule.Statement.{statement}
 use Rattle.icdf.proofs.icdf_rule.Tie as tie
 
-scale-ok-requires : tie.Need-scale-ok-requires
-scale-ok-requires c κs = search needs
-
 icdf-ok-requires : tie.Need-icdf-ok-requires
 icdf-ok-requires c κs = in-range 1 8 (c .before .before .before .args .scale) (sym (c .before .scale-ok .ensures) ∙ c .if1 .taken)
 
@@ -25,5 +22,4 @@ unfolding icdfRule
 returns-3 c = rw (sym (c .before .scale-ok .ensures) ∙ c .if1 .left)
 
 pub icdf-rule-spec : {M : Type 1} → statement M
-icdf-rule-spec =
-    tie.close (tie.spec scale-ok-requires icdf-ok-requires returns returns-2 returns-3)
+icdf-rule-spec = tie.close (tie.spec (λ c κs. search needs) icdf-ok-requires returns returns-2 returns-3)

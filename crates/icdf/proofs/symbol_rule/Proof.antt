@@ -6,9 +6,6 @@ use Rattle.icdf.specs.Test.{symbolRule}
 use Rattle.icdf.proofs.symbol_rule.Statement.{statement}
 use Rattle.icdf.proofs.symbol_rule.Tie as tie
 
-scale-ok-requires : tie.Need-scale-ok-requires
-scale-ok-requires c κs = search needs
-
 icdf-ok-requires : tie.Need-icdf-ok-requires
 icdf-ok-requires c κs = in-range 1 8 (c .before .before .before .args .scale) (sym (c .before .scale-ok .ensures) ∙ c .if1 .taken)
 
@@ -41,10 +38,4 @@ pub symbol-rule-spec : {M : Type 1} → statement M
 symbol-rule-spec =
     tie.close
     (tie.spec
-    scale-ok-requires
-    icdf-ok-requires
-    symbol-ok-requires
-    returns
-    returns-2
-    returns-3
-    returns-4)
+    (λ c κs. search needs) icdf-ok-requires symbol-ok-requires returns returns-2 returns-3 returns-4)

@@ -7,11 +7,8 @@ use native.Mathlib.Nat.{one-mul}
 use borrow.Author.Tests.{le-leb, lt-leb}
 use lib.Dec.{lit<}
 use lib.Pow.{shl-exact}
-use Rattle.entenc.proofs.gate.window_ok.Statement.{statement}
-use Rattle.entenc.proofs.gate.window_ok.Tie as tie
-
-shl-result : tie.Need-shl-result
-shl-result c = search needs
+use Rattle.entcode.proofs.window_ok.Statement.{statement}
+use Rattle.entcode.proofs.window_ok.Tie as tie
 
 returns : tie.Need-returns
 returns c =
@@ -24,4 +21,4 @@ returns-2 : tie.Need-returns-2
 returns-2 c = rw (lt-leb _ _ (c .if1 .left))
 
 pub window-ok-spec : {M : Type 1} → statement M
-window-ok-spec = tie.close (tie.spec shl-result returns returns-2)
+window-ok-spec = tie.close (tie.spec (λ c. search needs) returns returns-2)
