@@ -20,8 +20,10 @@ last-past b i h = let e : length b - i ≡ 0 = omega arith in ap (lastOf b) e
 
 -- a byte shifted above the window
 pub byte-above : (b : List ℕ) (d : Dec) → Bytes b → Windowed b d → d .wbits ≤ 24
-    → (d .window + lastOf b (length b - d .endoffs) * 2 ^ d .wbits % 2 ^ 32) % 2 ^ 32 ≡ d .window + lastOf b (length b - d .endoffs) * 2 ^ d .wbits
-byte-above b d y h l = window-sum (d .window) (lastOf b (length b - d .endoffs)) (d .wbits) 8 (h .slim) (last-byte b y (length b - d .endoffs)) (omega arith)
+    → let x = lastOf b (length b - d .endoffs) in
+    (d .window + x * 2 ^ d .wbits % 2 ^ 32) % 2 ^ 32 ≡ d .window + x * 2 ^ d .wbits
+byte-above b d y h l =
+    window-sum (d .window) (lastOf b (length b - d .endoffs)) (d .wbits) 8 (h .slim) (last-byte b y (length b - d .endoffs)) (omega arith)
 
 pub fetch-windowed : (b : List ℕ) (d : Dec) → Bytes b → Windowed b d → d .wbits ≤ 24 → Windowed b (fetch b d)
 fetch-windowed b d y h l =
@@ -33,7 +35,8 @@ fetch-windowed b d y h l =
     }
 
 -- filling goes on while a byte fits, and ends
-pub fill-more : (b : List ℕ) (d : Dec) → d .wbits ≤ 24 → fetches b ((32 - (d .wbits + 8)) / 8) (fetch b d) ≡ fetches b ((32 - d .wbits) / 8) d
+pub fill-more : (b : List ℕ) (d : Dec) → d .wbits ≤ 24
+    → fetches b ((32 - (d .wbits + 8)) / 8) (fetch b d) ≡ fetches b ((32 - d .wbits) / 8) d
 fill-more b d l = let e : suc ((32 - (d .wbits + 8)) / 8) ≡ (32 - d .wbits) / 8 = omega arith in ap (λ (c : ℕ). fetches b c d) e
 
 pub fill-done : (b : List ℕ) (d : Dec) → 24 < d .wbits → d .wbits ≤ 32 → d ≡ fetches b ((32 - d .wbits) / 8) d

@@ -26,6 +26,7 @@ two-entries scale rng unit v (x ∷ y ∷ []) h l =
     let z : y ≡ 0 = h .ends in
     let e : ltb v 0 ≡ _ = le-ltb v 0 (omega arith) in
     by-lt v (unit * x)
-    (λ p. rw (lt-ltb v (unit * x) p, z, mul-zero unit, e) (ap {B = Part} (λ (n : ℕ). record { symbol = 1; low = n; top = unit * x }) (sym (mul-zero unit))))
+    (λ p. rw (lt-ltb v (unit * x) p, z, mul-zero unit, e)
+    (ap {B = Part} (λ (n : ℕ). record { symbol = 1; low = n; top = unit * x }) (sym (mul-zero unit))))
     (λ p. rw (le-ltb v (unit * x) p))
 two-entries scale rng unit v (x ∷ y ∷ w ∷ t) h l = absurd (omega arith)

@@ -31,7 +31,8 @@ pub record Said (o : Out) (s : Sym) (n : ℕ) : Type 0 where
   pub refused : (n ≡ 0 → ⊥) → refuses n o ≡ encSym o s
 
 -- from what the gate, the rule and the first of the two said
-pub said : {o : Out} {s : Sym} {n g r : ℕ} → n ≡ firstOf g r → g ≡ gateW (o .buf) (o .state) → r ≡ sayRule (s .model) (s .value) → Said o s n
+pub said : {o : Out} {s : Sym} {n g r : ℕ} → n ≡ firstOf g r → g ≡ gateW (o .buf) (o .state) → r ≡ sayRule (s .model) (s .value)
+    → Said o s n
 said {o} {s} {n} e p q =
     let f = number e p q in
     record {

@@ -1,5 +1,6 @@
-// The public calls on a writer (document 01): each checks the state, then its own numbers, and runs only if nothing is refused. A refused call
-// answers its number and value 0, hands the state back as it was, and touches no byte of the buffer. Names as in the crate's entenc.rs.
+// The public calls on a writer (document 01): each checks the state, then its own numbers, and runs only if nothing is refused. A refused
+// call answers its number and value 0, hands the state back as it was, and touches no byte of the buffer. Names as in the crate's
+// entenc.rs.
 ghost use mathlib.Core.Path.{_≡_};
 ghost use Rattle.entcode.specs.Models.{bit, raw, num, tab};
 ghost use Rattle.entcode.specs.Flat.{out};
@@ -74,7 +75,8 @@ pub fn ec_enc_bit_logp(buf: &mut [u8], w: Enc, v: u32, lp: u32) -> Encoded
 
 // Symbol k of an inverse table.
 pub fn ec_enc_icdf(buf: &mut [u8], w: Enc, k: u32, table: &[u8], scale: u32) -> Encoded
-    ensures { λ a. ⌜ sent (now (buf .exit)) a ≡ encSym (out (now (buf .entry)) w) (record { model = tab scale (now (table .entry)); value = k }) ⌝ }
+    ensures { λ a.
+        ⌜ sent (now (buf .exit)) a ≡ encSym (out (now (buf .entry)) w) (record { model = tab scale (now (table .entry)); value = k }) ⌝ }
 {
     let n = refusals::first_refusal(gate(buf, w), icdf::symbol_rule(table, scale, k));
     if n == 0 {

@@ -133,14 +133,16 @@ endW w k r = withFront w (record { rng = w .front .rng; val = w .front .val; hel
 abbrev from : ℕ → ℕ → Writer → Front
 from r v w = record { rng = r; val = v; held = w .front .held; run = w .front .run }
 
-digits-are : (c r v : ℕ) (w : Writer) → digitsW c v w ≡ endW w (heldAfter (finOut c (from r v w))) (puts (w .tail .room) (finOut c (from r v w)))
+digits-are : (c r v : ℕ) (w : Writer)
+    → digitsW c v w ≡ endW w (heldAfter (finOut c (from r v w))) (puts (w .tail .room) (finOut c (from r v w)))
 digits-are zero r v w = refl
 digits-are (suc c) r v w =
     let f = from r v w in
     digits-are c (256 * r) (256 * (v % 2 ^ 23)) (carryW w (v / 2 ^ 23))
     ∙ ap₂ (endW w) (after-later c f) (puts-append (shiftOut f) (finOut c (shift f)) (w .tail .room))
 
-pub digits-front : (o : Out) → digitsOut o (endOf (o .state .rng) (o .state .val)) (emits (bitsOf (o .state .rng) (o .state .val))) ≡ fronted o
+pub digits-front : (o : Out)
+    → digitsOut o (endOf (o .state .rng) (o .state .val)) (emits (bitsOf (o .state .rng) (o .state .val))) ≡ fronted o
 unfolding digitsOut fronted
 digits-front o =
     ap flat (digits-are (emits (bitsOf (o .state .rng) (o .state .val))) 1 (endOf (o .state .rng) (o .state .val)) (asWriter o))
@@ -152,7 +154,8 @@ front-windowed o c =
     let k = puts-kept (finBytes (w .front)) (w .tail .room) (c .roomy .within) in
     record {
       roomy = record { fair = flat-fair (frontW w); short = omega (arith, k .len, c .roomy .short); within = k .fit };
-      err = omega (arith, err-error (puts (w .tail .room) (finBytes (w .front)) .err), puts-error (finBytes (w .front)) (w .tail .room) (c .err));
+      err =
+          omega (arith, err-error (puts (w .tail .room) (finBytes (w .front)) .err), puts-error (finBytes (w .front)) (w .tail .room) (c .err));
       used = c .used;
       slim = c .slim;
     }
@@ -172,7 +175,9 @@ zeroed-more b first i h l =
     let p = take first b ++ replicate (i - first) 0 in
     let y = getD b i 0 in
     let r = drop (suc i) b in
-    let n : length p ≡ i = length-append (take first b) (replicate (i - first) 0) ∙ omega (arith, length-take-le first b (omega arith), length-replicate {A = ℕ} (i - first) 0) in
+    let n : length p ≡ i
+    = length-append (take first b) (replicate (i - first) 0)
+    ∙ omega (arith, length-take-le first b (omega arith), length-replicate {A = ℕ} (i - first) 0) in
     let k : suc i - first ≡ suc (i - first) = omega arith in
     ap (λ (d : List ℕ). set (take first b ++ (replicate (i - first) 0 ++ d)) i 0) (drop-cons b i 0 l)
     ∙ ap (λ (d : List ℕ). set d i 0) (sym (append-assoc (take first b) (replicate (i - first) 0) (y ∷ r)))
@@ -223,7 +228,8 @@ pub stow-whole : (o : Out) (j : ℕ) → Roomy o → o .state .endoffs < o .stat
     ≡ stowed o j
 stow-whole o j h l t = stow-by o j (o .state .window) false (o .state .error) h l t (h .fair .error) refl
 
-pub stow-none : (o : Out) (j : ℕ) → Roomy o → o .state .storage ≤ o .state .endoffs → atFront o (o .buf) (o .state .offs) (negsuc 0) ≡ stowed o j
+pub stow-none : (o : Out) (j : ℕ) → Roomy o → o .state .storage ≤ o .state .endoffs
+    → atFront o (o .buf) (o .state .offs) (negsuc 0) ≡ stowed o j
 unfolding stowed
 stow-none o j h l =
     arrive (atFront o (o .buf) (o .state .offs) (negsuc 0))
@@ -245,7 +251,8 @@ unfolding closed
 close-failed o j f h = rw (ne-eqb (errOf (o .state .error)) 0 h) (sym (flat-as o f))
 
 -- the middle as the code clears it
-pub middle : (o : Out) → Fair o → zeroed (o .buf) (o .state .offs) (o .state .storage - o .state .endoffs) ≡ clear (asWriter o .tail .room) .buf
+pub middle : (o : Out) → Fair o
+    → zeroed (o .buf) (o .state .offs) (o .state .storage - o .state .endoffs) ≡ clear (asWriter o .tail .room) .buf
 middle o f = ap (λ (n : ℕ). zeroed (o .buf) (o .state .offs) (n - o .state .endoffs)) (f .kept)
 
 pub close-whole : (o : Out) (j : ℕ) (b : List ℕ) → Fair o → length b ≡ length (o .buf) → b ≡ clear (asWriter o .tail .room) .buf
@@ -261,7 +268,8 @@ pub close-stowed : (o : Out) (j : ℕ) (b : List ℕ) → b ≡ clear (asWriter 
 unfolding closed stowed
 close-stowed o j b e z u =
     rw (eq-eqb (errOf (o .state .error)) 0 z, ne-eqb (o .state .wbits) 0 u)
-    (ap (λ (x : List ℕ). flat (withRoom (asWriter (out x (o .state))) (leftOver (asWriter (out x (o .state)) .tail .room) (o .state .window) (o .state .wbits) j))) e)
+    (ap (λ (x : List ℕ). let w = asWriter (out x (o .state)) in
+    flat (withRoom w (leftOver (w .tail .room) (o .state .window) (o .state .wbits) j))) e)
 
 -- ---- finishing: the front, the window's bytes, the rest; and the window as it was
 

@@ -8,10 +8,11 @@ use Rattle.entdec_bytes.proofs.fetch_byte.Tie as tie
 
 returns : tie.Need-returns
 returns c =
-    let b = c .before .before .before .before .before .before in
-    let y : Bytes (b .args .packet .now) = λ i. omega (arith, c .before .before .before .before .before .shared-slice-known .given i) in
+    let p = c .before .before .before in
+    let b = p .before .before .before in
+    let y : Bytes (b .args .packet .now) = λ i. omega (arith, p .before .before .shared-slice-known .given i) in
     let e = byte-above (b .args .packet .now) (b .args .d) y (b .pre .0) (b .pre .1) in
-    rw (c .before .wrapping-add-u32 .ensures, c .before .before .before .before .ec-read-byte-from-end .ensures, c .before .before .before .place-after .ensures, e)
+    rw (c .before .wrapping-add-u32 .ensures, p .before .ec-read-byte-from-end .ensures, p .place-after .ensures, e)
 
 pub fetch-byte-spec : {M : Type 1} → statement M
 fetch-byte-spec =

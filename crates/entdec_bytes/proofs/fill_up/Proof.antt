@@ -28,10 +28,11 @@ loop-less c =
 
 loop-again : tie.Need-loop-again Inv-loop μ-loop
 loop-again c =
-    let i = c .before .before .before .loop .inv in
+    let p = c .before .before .before in
+    let i = p .loop .inv in
     let l = c .before .if1 .taken in
-    let d = c .before .before .before .loop .d in
-    let y : Bytes (c .before .before .before .before .before .args .packet .now) = λ i. omega (arith, c .before .before .before .before .shared-slice-known .given i) in
+    let d = p .loop .d in
+    let y : Bytes (p .before .before .args .packet .now) = λ i. omega (arith, p .before .shared-slice-known .given i) in
     rw (c .fetch-byte .ensures)
     (fill-more _ d l ∙ i .0, fetch-windowed _ d y (i .1) l)
 

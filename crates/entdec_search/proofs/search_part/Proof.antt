@@ -85,8 +85,13 @@ returns c =
     let l = c .before .loop in
     let i = l .inv in
     let p : a .unit * getD (a .table .now) (l .k) 0 ≤ a .v = omega (arith, i .bottom, c .loop-test .left) in
-    let e : search (a .unit) (a .v) (a .table .now) ≡ l .k = omega (arith, i .on, search-stop (a .unit) (a .v) (a .table .now) (l .k) (i .inside) p) in
+    let s = search-stop (a .unit) (a .v) (a .table .now) (l .k) (i .inside) p in
+    let e : search (a .unit) (a .v) (a .table .now) ≡ l .k = omega (arith, i .on, s) in
     rw (e, i .bottom, i .above)
 
 pub search-part-spec : {M : Type 1} → statement M
-search-part-spec = tie.close (tie.spec Inv-loop μ-loop shared-slice-read-low cast-low mul-low loop-holds add-k shared-slice-read-low-2 cast-low-2 mul-low-2 loop-less loop-again returns)
+search-part-spec =
+    tie.close
+    (tie.spec
+    Inv-loop μ-loop shared-slice-read-low cast-low mul-low loop-holds add-k shared-slice-read-low-2 cast-low-2 mul-low-2
+    loop-less loop-again returns)

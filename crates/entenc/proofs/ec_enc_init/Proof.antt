@@ -16,4 +16,5 @@ returns-2 c = rw (c .answer2 .ensures, c .before .nought-writer2 .ensures, lt-le
 pub ec-enc-init-spec : {M : Type 1} → statement M
 ec-enc-init-spec =
     tie.close
-    (tie.spec (λ c κs. search needs) (λ c. search needs) (λ c κs. search needs) (λ c κs. search needs) (λ c κs. search needs) returns returns-2)
+    (tie.spec
+    (λ c κs. search needs) (λ c. search needs) (λ c κs. search needs) (λ c κs. search needs) (λ c κs. search needs) returns returns-2)

@@ -7,7 +7,9 @@ use Rattle.entenc_bytes.proofs.put_back.Statement.{statement}
 use Rattle.entenc_bytes.proofs.put_back.Tie as tie
 
 returns : tie.Need-returns
-returns c = let b = c .before .before .before .before .before in back-here (out (b .args .buf .now) (b .args .w)) (b .args .b) (b .pre) (omega arith)
+returns c =
+    let b = c .before .before .before .before .before in
+    back-here (out (b .args .buf .now) (b .args .w)) (b .args .b) (b .pre) (omega arith)
 
 returns-2 : tie.Need-returns-2
 returns-2 c = let b = c .before .before .before in back-full (out (b .args .buf .now) (b .args .w)) (b .args .b) (b .pre) (omega arith)

@@ -7,10 +7,14 @@ use Rattle.entenc_bytes.proofs.put_byte.Statement.{statement}
 use Rattle.entenc_bytes.proofs.put_byte.Tie as tie
 
 returns : tie.Need-returns
-returns c = let b = c .before .before .before .before .before in put-here (out (b .args .buf .now) (b .args .w)) (b .args .b) (b .pre) (omega arith)
+returns c =
+    let b = c .before .before .before .before .before in
+    put-here (out (b .args .buf .now) (b .args .w)) (b .args .b) (b .pre) (omega arith)
 
 returns-2 : tie.Need-returns-2
-returns-2 c = let b = c .before .before .before .before in put-full (out (b .args .buf .now) (b .args .w)) (b .args .b) (b .pre) (omega arith)
+returns-2 c =
+    let b = c .before .before .before .before in
+    put-full (out (b .args .buf .now) (b .args .w)) (b .args .b) (b .pre) (omega arith)
 
 pub put-byte-spec : {M : Type 1} → statement M
 put-byte-spec =

@@ -50,7 +50,8 @@ sub-round-up c = omega (arith, nine c)
 round-up-requires : tie.Need-round-up-requires
 round-up-requires c κs =
     let b = c .before .before in
-    let e : cell (c .end-bits .result) ≡ cell (bitsOf (b .args .w .rng) (b .args .w .val)) = ap (λ (l : ℕ). cell l) (c .end-bits .ensures) in
+    let e : cell (c .end-bits .result) ≡ cell (bitsOf (b .args .w .rng) (b .args .w .val))
+    = ap (λ (l : ℕ). cell l) (c .end-bits .ensures) in
     (omega arith, omega (arith, enough b .low, enough b .high, b .pre .fits))
 
 add-digits : tie.Need-add-digits

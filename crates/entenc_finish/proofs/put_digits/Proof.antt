@@ -64,7 +64,9 @@ same-length c = c .before .before .put-rest .kept .0 ∙ c .before .before .befo
 returns : tie.Need-returns Inv-loop μ-loop
 returns c =
     let l = c .before .before .before .before .before .loop in
-    c .before .before .put-rest .ensures ∙ digits-none (out (l .buf) (l .w)) (l .v) (l .n) (c .before .before .before .before .loop-test .left) ∙ l .inv .0
+    c .before .before .put-rest .ensures
+    ∙ digits-none (out (l .buf) (l .w)) (l .v) (l .n) (c .before .before .before .before .loop-test .left)
+    ∙ l .inv .0
 
 pub put-digits-spec : {M : Type 1} → statement M
 put-digits-spec =

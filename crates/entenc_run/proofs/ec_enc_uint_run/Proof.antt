@@ -53,7 +53,8 @@ append-requires c κs =
     let b = c .before .before .before .before .before .before in
     let p = part (b .before .before) _ (b .ec-ilog .ensures) in
     let k = c .before .before .before .keep-part .ensures in
-    (k .core, (omega (arith, k .most, b .before .before .pre .1 .0), (omega (arith, c .before .before .before .before .before .if1 .taken), omega (arith, p .few), p .rest)))
+    let l = c .before .before .before .before .before .if1 .taken in
+    (k .core, (omega (arith, k .most, b .before .before .pre .1 .0), (omega (arith, l), omega (arith, p .few), p .rest)))
 
 keep-part-requires-2 : tie.Need-keep-part-requires-2
 keep-part-requires-2 c κs =
@@ -69,7 +70,8 @@ returns c =
     let n = d .ec-ilog .result - 8 in
     wrote o (record { model = num (b .args .ft); value = b .args .v }) _ (b .pre .0) (b .pre .1 .0) (allowed b)
     (c .before .before .append .ensures .is
-    ∙ ap (λ (q : Out). appended q n (b .args .v % (1 * 2 ^ n % 2 ^ 32))) (c .before .before .before .before .before .before .keep-part .ensures .is)
+    ∙ ap (λ (q : Out). appended q n (b .args .v % (1 * 2 ^ n % 2 ^ 32)))
+    (c .before .before .before .before .before .before .keep-part .ensures .is)
     ∙ number-is o (b .args .ft) (b .args .v) (d .ec-ilog .result) (d .ec-ilog .ensures))
 
 returns-2 : tie.Need-returns-2

@@ -12,7 +12,8 @@ returns : tie.Need-returns
 returns c =
     let b = c .before .before .before .before .before .before .before .before .before in
     let o = out (b .args .buf .now) (b .args .w) in
-    ap (λ (q : Out). atTurn q (256 * b .args .w .rng) (256 * (b .args .w .val % 2 ^ 23)) (b .args .w .total + 8)) (c .before .before .carry-out-run .ensures)
+    let w = b .args .w in
+    ap (λ (q : Out). atTurn q (256 * w .rng) (256 * (w .val % 2 ^ 23)) (w .total + 8)) (c .before .before .carry-out-run .ensures)
     ∙ turn-is o
 
 pub turn-spec : {M : Type 1} → statement M
