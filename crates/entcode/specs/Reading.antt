@@ -11,7 +11,7 @@ use Rattle.entcode.specs.declared.Decoded.{Decoded}
 use Rattle.entcode.specs.Models.{Model}
 use Rattle.entcode.specs.Cuts.{account}
 use Rattle.entcode.specs.Reader.{opened, readVal, readNext}
-use Rattle.entcode.specs.Sound.{gateR}
+use Rattle.entcode.specs.Sound.{longest, gateR}
 use Rattle.entcode.specs.Rules.{askRule}
 
 abbrev pub gives : ℕ → Dec → Decoded
@@ -51,4 +51,4 @@ nought =
     }
 
 unfoldable pub decOpen : List ℕ → Decoded
-decOpen b = cond (leb (length b) 1275) (gives 0 (opened b)) (refuses 1 nought)
+decOpen b = cond (leb (length b) longest) (gives 0 (opened b)) (refuses 1 nought)

@@ -1,5 +1,4 @@
--- Which states are sound, as document 01 lists it, and the gate of refusals 1 to 3 that every call passes first.
--- Assumes nothing.
+-- Which states are sound, as document 01 lists it, and the gate of refusals 1 to 3 that every call passes first. Assumes nothing.
 use Prim.Native.Nat.{ℕ, _+_, _^_}
 use mathlib.Core.Bool.{Bool, _&&_, cond}
 use mathlib.Core.List.{List}
@@ -56,11 +55,14 @@ runOkW w = leb (w .ext) 150000
 unfoldable pub soundW : List ℕ → Enc → Bool
 soundW b w = rangeOkW w && (placesOkW b w && (signsOkW w && (windowOk (w .window) (w .wbits) && (runOkW w && totalOk (w .total)))))
 
--- ---- the gate: 1 for a packet or buffer longer than 1,275; 2 for a state not sound for it; 3 for a total above
--- 1,000,000
+-- the longest packet or buffer
+abbrev pub longest : ℕ
+longest = 1275
+
+-- ---- the gate: 1 for a packet or buffer that is longer; 2 for a state not sound for it; 3 for a total above 1,000,000
 
 abbrev pub gate : ℕ → Bool → ℕ → ℕ
-gate n sound total = cond (leb n 1275) (cond sound (cond (leb total 1000000) 0 3) 2) 1
+gate n sound total = cond (leb n longest) (cond sound (cond (leb total 1000000) 0 3) 2) 1
 
 unfoldable pub gateR : List ℕ → Dec → ℕ
 gateR b d = gate (length b) (soundR b d) (d .total)

@@ -14,7 +14,7 @@ use Rattle.entcode.specs.Cuts.{account}
 use Rattle.entcode.specs.Writer.{openW, writeSym}
 use Rattle.entcode.specs.Finish.{finishW}
 use Rattle.entcode.specs.Flat.{Out, out, asWriter, flat}
-use Rattle.entcode.specs.Sound.{gateW}
+use Rattle.entcode.specs.Sound.{longest, gateW}
 use Rattle.entcode.specs.Rules.{sayRule}
 
 -- the buffer after a call, and its answer
@@ -73,4 +73,4 @@ nought =
     }
 
 unfoldable pub encOpen : List ℕ → Sent
-encOpen b = cond (leb (length b) 1275) (takes 0 (flat (openW b))) (refuses 1 (out b nought))
+encOpen b = cond (leb (length b) longest) (takes 0 (flat (openW b))) (refuses 1 (out b nought))

@@ -2,11 +2,14 @@
 // `entdec_run` reads. Names as in the crate's entdec.rs.
 ghost use mathlib.Core.Path.{_≡_};
 ghost use Rattle.entcode.specs.Models.{bit, raw, num, tab};
-ghost use Rattle.entcode.specs.Sound.{windowOk, totalOk, rangeOkR, placesOkR, smallOkR, soundR, gateR};
+ghost use Rattle.entcode.specs.Sound.{totalOk, rangeOkR, placesOkR, smallOkR, soundR, gateR};
 ghost use Rattle.entcode.specs.Rules.{askRule};
 ghost use Rattle.entcode.specs.Reading.{refuses, decSym, decTell, decOpen};
 use entcode::Dec;
 use entcode::Decoded;
+use entcode::LONGEST;
+use entcode::nought_reader;
+use entcode::window_ok;
 
 // ---- refusals
 
@@ -29,18 +32,6 @@ fn small_ok(d: Dec) -> bool
     (d.rem <= 255) & (d.error <= 1)
 }
 
-// Window bits 32 need a wider test.
-fn window_ok(d: Dec) -> bool
-    ensures { λ b. ⌜ b ≡ windowOk (d .window) (d .wbits) ⌝ }
-{
-    let n = d.wbits;
-    if n <= 32 {
-        (d.window as u64) < (1u64 << n)
-    } else {
-        false
-    }
-}
-
 fn total_ok(d: Dec) -> bool
     ensures { λ b. ⌜ b ≡ totalOk (d .total) ⌝ }
 {
@@ -50,14 +41,15 @@ fn total_ok(d: Dec) -> bool
 fn sound(packet: &[u8], d: Dec) -> bool
     ensures { λ b. ⌜ b ≡ soundR (now (packet .entry)) d ⌝ }
 {
-    range_ok(d) & (places_ok(packet, d) & (small_ok(d) & (window_ok(d) & total_ok(d))))
+    range_ok(d)
+        & (places_ok(packet, d) & (small_ok(d) & (window_ok(d.window, d.wbits) & total_ok(d))))
 }
 
 // Refusals 1 to 3, or 0.
 pub fn gate(packet: &[u8], d: Dec) -> u32
     ensures { λ n. ⌜ n ≡ gateR (now (packet .entry)) d ⌝ }
 {
-    if packet.len() <= 1275 {
+    if packet.len() <= LONGEST {
         if sound(packet, d) {
             if d.total <= 1_000_000 { 0 } else { 3 }
         } else {
@@ -102,28 +94,15 @@ fn refused(n: u32, d: Dec) -> Decoded
 pub fn ec_dec_init(packet: &[u8]) -> Decoded
     ensures { λ a. ⌜ a ≡ decOpen (now (packet .entry)) ⌝ }
 {
-    if packet.len() <= 1275 {
-        let q = entdec_run::ec_dec_init_run(packet);
+    if packet.len() <= LONGEST {
+        let q = entdec_bytes::ec_dec_init_run(packet);
         Decoded {
             refusal: 0,
             value: 0,
             state: q,
         }
     } else {
-        let d = Dec {
-            storage: 0,
-            endoffs: 0,
-            window: 0,
-            wbits: 0,
-            total: 0,
-            offs: 0,
-            rng: 0,
-            val: 0,
-            ext: 0,
-            rem: 0,
-            error: 0,
-        };
-        refused(1, d)
+        refused(1, nought_reader())
     }
 }
 
@@ -168,8 +147,8 @@ pub fn ec_dec_icdf(packet: &[u8], d: Dec, table: &[u8], scale: u32) -> Decoded
     }
 }
 
-// The same for a packet view. A function of this size is inlined only where it has one caller, and the exported call needs it inlined: that answer is
-// not copied once more.
+// The same for a packet view. A function of this size is inlined only where it has one caller, and the exported call needs it inlined: that
+// answer is not copied once more.
 pub fn ec_dec_icdf_of_view(packet: &[u8], d: Dec, table: &[u8], scale: u32) -> Decoded
     ensures { λ a. ⌜ a ≡ decSym (now (packet .entry)) d (tab scale (now (table .entry))) ⌝ }
 {

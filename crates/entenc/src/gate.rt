@@ -1,8 +1,10 @@
 // What every call on a writer checks first: the buffer's length, the state's soundness, its total (document 01, refusals 1 to 3).
 ghost use mathlib.Core.Path.{_≡_};
 ghost use mathlib.Core.Bool.{_&&_};
-ghost use Rattle.entcode.specs.Sound.{windowOk, rangeOkW, placesOkW, signsOkW, runOkW, totalOk, soundW, gateW};
+ghost use Rattle.entcode.specs.Sound.{rangeOkW, placesOkW, signsOkW, runOkW, totalOk, soundW, gateW};
 use entcode::Enc;
+use entcode::LONGEST;
+use entcode::window_ok;
 
 fn range_ok(w: Enc) -> bool
     ensures { λ b. ⌜ b ≡ rangeOkW w ⌝ }
@@ -24,16 +26,6 @@ fn signs_ok(w: Enc) -> bool
     (-1 <= w.rem) & ((w.rem <= 255) & ((-1 <= w.error) & (w.error <= 0)))
 }
 
-fn window_ok(window: u32, wbits: u32) -> bool
-    ensures { λ b. ⌜ b ≡ windowOk window wbits ⌝ }
-{
-    if wbits <= 32 {
-        (window as u64) < (1u64 << wbits)
-    } else {
-        false
-    }
-}
-
 fn counts_ok(w: Enc) -> bool
     ensures { λ b. ⌜ b ≡ runOkW w && totalOk (w .total) ⌝ }
 {
@@ -52,7 +44,7 @@ fn sound(buf: &[u8], w: Enc) -> bool
 pub fn gate(buf: &[u8], w: Enc) -> u32
     ensures { λ n. ⌜ n ≡ gateW (now (buf .entry)) w ⌝ }
 {
-    if buf.len() <= 1275 {
+    if buf.len() <= LONGEST {
         if sound(buf, w) {
             if w.total <= 1_000_000 { 0 } else { 3 }
         } else {

@@ -1,5 +1,6 @@
-// The public calls on a writer (document 01): each checks the state, then its own numbers, and runs only if nothing is refused. A refused call
-// answers its number and value 0, hands the state back as it was, and touches no byte of the buffer. Names as in the crate's entenc.rs.
+// The public calls on a writer (document 01): each checks the state, then its own numbers, and runs only if nothing is refused. A refused
+// call answers its number and value 0, hands the state back as it was, and touches no byte of the buffer. Names as in the crate's
+// entenc.rs.
 ghost use mathlib.Core.Path.{_≡_};
 ghost use Rattle.entcode.specs.Models.{bit, raw, num, tab};
 ghost use Rattle.entcode.specs.Flat.{out};
@@ -10,51 +11,36 @@ use crate::rules::bits_rule;
 use crate::rules::uint_rule;
 use entcode::Enc;
 use entcode::Encoded;
+use entcode::LONGEST;
+use entcode::nought_writer;
 
 pub mod gate; // gate.rt: refusals 1 to 3
 mod rules; // rules.rt: refusals 4 and 8
+
+// A refusal, or, for 0, what a call without a value made of a state.
+fn answer(n: u32, w: Enc) -> Encoded
+    ensures { λ a. ⌜ a ≡ record { refusal = n; value = 0; state = w } ⌝ }
+{
+    Encoded {
+        refusal: n,
+        value: 0,
+        state: w,
+    }
+}
 
 // A fresh writer; a refused opening hands back the all-zero state.
 pub fn ec_enc_init(buf: &[u8]) -> Encoded
     ensures { λ a. ⌜ sent (now (buf .entry)) a ≡ encOpen (now (buf .entry)) ⌝ }
 {
-    if buf.len() <= 1275 {
-        let n = buf.len() as u32;
-        Encoded {
-            refusal: 0,
-            value: 0,
-            state: Enc {
-                storage: n,
-                endoffs: 0,
-                window: 0,
-                wbits: 0,
-                total: 33,
-                offs: 0,
-                rng: 0x8000_0000,
-                val: 0,
-                ext: 0,
-                rem: -1,
-                error: 0,
-            },
-        }
+    if buf.len() <= LONGEST {
+        let mut w = nought_writer();
+        w.storage = buf.len() as u32;
+        w.total = 33;
+        w.rng = 0x8000_0000;
+        w.rem = -1;
+        answer(0, w)
     } else {
-        Encoded {
-            refusal: 1,
-            value: 0,
-            state: Enc {
-                storage: 0,
-                endoffs: 0,
-                window: 0,
-                wbits: 0,
-                total: 0,
-                offs: 0,
-                rng: 0,
-                val: 0,
-                ext: 0,
-                rem: 0,
-                error: 0,
-            },
-        }
+        answer(1, nought_writer())
     }
 }
 
@@ -71,11 +57,7 @@ pub fn ec_tell(buf: &[u8], w: Enc) -> Encoded
             state: w,
         }
     } else {
-        Encoded {
-            refusal: n,
-            value: 0,
-            state: w,
-        }
+        answer(n, w)
     }
 }
 
@@ -85,39 +67,22 @@ pub fn ec_enc_bit_logp(buf: &mut [u8], w: Enc, v: u32, lp: u32) -> Encoded
 {
     let n = refusals::first_refusal(gate(buf, w), bit_rule(v, lp));
     if n == 0 {
-        let q = entenc_run::ec_enc_bit_logp_run(buf, w, v, lp);
-        Encoded {
-            refusal: 0,
-            value: 0,
-            state: q,
-        }
+        answer(0, entenc_run::ec_enc_bit_logp_run(buf, w, v, lp))
     } else {
-        Encoded {
-            refusal: n,
-            value: 0,
-            state: w,
-        }
+        answer(n, w)
     }
 }
 
 // Symbol k of an inverse table.
 pub fn ec_enc_icdf(buf: &mut [u8], w: Enc, k: u32, table: &[u8], scale: u32) -> Encoded
-    ensures { λ a. ⌜ sent (now (buf .exit)) a ≡ encSym (out (now (buf .entry)) w) (record { model = tab scale (now (table .entry)); value = k }) ⌝ }
+    ensures { λ a.
+        ⌜ sent (now (buf .exit)) a ≡ encSym (out (now (buf .entry)) w) (record { model = tab scale (now (table .entry)); value = k }) ⌝ }
 {
     let n = refusals::first_refusal(gate(buf, w), icdf::symbol_rule(table, scale, k));
     if n == 0 {
-        let q = entenc_run::ec_enc_icdf_run(buf, w, k, table, scale);
-        Encoded {
-            refusal: 0,
-            value: 0,
-            state: q,
-        }
+        answer(0, entenc_run::ec_enc_icdf_run(buf, w, k, table, scale))
     } else {
-        Encoded {
-            refusal: n,
-            value: 0,
-            state: w,
-        }
+        answer(n, w)
     }
 }
 
@@ -127,18 +92,9 @@ pub fn ec_enc_uint(buf: &mut [u8], w: Enc, v: u32, ft: u32) -> Encoded
 {
     let n = refusals::first_refusal(gate(buf, w), uint_rule(v, ft));
     if n == 0 {
-        let q = entenc_run::ec_enc_uint_run(buf, w, v, ft);
-        Encoded {
-            refusal: 0,
-            value: 0,
-            state: q,
-        }
+        answer(0, entenc_run::ec_enc_uint_run(buf, w, v, ft))
     } else {
-        Encoded {
-            refusal: n,
-            value: 0,
-            state: w,
-        }
+        answer(n, w)
     }
 }
 
@@ -148,18 +104,9 @@ pub fn ec_enc_bits(buf: &mut [u8], w: Enc, v: u32, bits: u32) -> Encoded
 {
     let n = refusals::first_refusal(gate(buf, w), bits_rule(v, bits));
     if n == 0 {
-        let q = entenc_run::ec_enc_bits_run(buf, w, v, bits);
-        Encoded {
-            refusal: 0,
-            value: 0,
-            state: q,
-        }
+        answer(0, entenc_run::ec_enc_bits_run(buf, w, v, bits))
     } else {
-        Encoded {
-            refusal: n,
-            value: 0,
-            state: w,
-        }
+        answer(n, w)
     }
 }
 
@@ -169,17 +116,8 @@ pub fn ec_enc_done(buf: &mut [u8], w: Enc) -> Encoded
 {
     let n = gate(buf, w);
     if n == 0 {
-        let q = entenc_run::ec_enc_done_run(buf, w);
-        Encoded {
-            refusal: 0,
-            value: 0,
-            state: q,
-        }
+        answer(0, entenc_finish::ec_enc_done_run(buf, w))
     } else {
-        Encoded {
-            refusal: n,
-            value: 0,
-            state: w,
-        }
+        answer(n, w)
     }
 }

@@ -1,5 +1,2 @@
-pub mod Placing
-pub mod Digits
-pub mod Window
+pub mod Turns
 pub mod Parts
-pub mod Finishing

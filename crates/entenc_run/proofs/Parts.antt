@@ -1,15 +1,15 @@
 -- The parts of the range that the code computes for a symbol are those of its model. Assumes nothing.
 use Prim.Native.Nat.{ℕ, zero, suc, _+_, _-_, _*_, _/_, _%_, _^_, _≤_, _<_}
-use mathlib.Core.Path.{_≡_, refl, sym, ap, _∙_}
+use mathlib.Core.Path.{_≡_, refl, sym, ap}
 use mathlib.Core.List.{List}
 use native.Mathlib.Omega.{arith}
-use native.Mathlib.Nat.{one-mul, mul-le-mul-left, div-mul-le-self, mod-lt}
+use native.Mathlib.Nat.{mul-le-mul-left, div-mul-le-self, mod-lt}
 use native.Mathlib.Numerals.{add-one}
-use lib.Dec.{lit<}
 use lib.ListN.{getD}
-use lib.Pow.{shl-exact, shr-mono, pow-mono, pow-pos}
+use lib.Pow.{shr-mono, pow-mono, pow-pos}
 use Rattle.bitlen.specs.Length.{bitLength}
 use Rattle.bitlen.specs.LengthLaws.{length-most, length-pow}
+use Rattle.bitlen.proofs.Shift.{one-shl}
 use Rattle.icdf.specs.Rule.{Icdf}
 use Rattle.icdf.specs.RuleLaws.{entry-below}
 use Rattle.entcode.specs.Models.{bit, num, tab, rawBits, Allowed}
@@ -51,15 +51,19 @@ pub later-top : (R unit k : ℕ) (t : List ℕ) → (k ≡ 0 → ⊥) → unit *
 later-top R unit zero t z = absurd (z refl)
 later-top R unit (suc j) t z = let e : suc j - 1 ≡ j = omega arith in ap (λ (x : ℕ). unit * getD t x 0) e
 
-pub symbol-cut : (R scale k : ℕ) (t : List ℕ) → 2 ^ 23 < R → Allowed (tab scale t) k → CutOk R (topOf R (R / 2 ^ scale) t k) (R / 2 ^ scale * getD t k 0)
+pub symbol-cut : (R scale k : ℕ) (t : List ℕ) → 2 ^ 23 < R → Allowed (tab scale t) k
+    → CutOk R (topOf R (R / 2 ^ scale) t k) (R / 2 ^ scale * getD t k 0)
 symbol-cut R scale zero t h a =
-    rw (tab-lower R scale (getD t 0 0) (entry-below scale t (a .readable) 0)) at (cut-ok R 0 (2 ^ scale - getD t 0 0) (2 ^ scale) h (proper (tab scale t) 0 a))
+    rw (tab-lower R scale (getD t 0 0) (entry-below scale t (a .readable) 0))
+    at (cut-ok R 0 (2 ^ scale - getD t 0 0) (2 ^ scale) h (proper (tab scale t) 0 a))
 symbol-cut R scale (suc j) t h a =
-    rw (tab-lower R scale (getD t (suc j) 0) (entry-below scale t (a .readable) (suc j)), tab-upper R scale (getD t j 0) (entry-below scale t (a .readable) j))
+    let b = entry-below scale t (a .readable) in
+    rw (tab-lower R scale (getD t (suc j) 0) (b (suc j)), tab-upper R scale (getD t j 0) (b j))
     at (cut-ok R (2 ^ scale - getD t j 0) (2 ^ scale - getD t (suc j) 0) (2 ^ scale) h (proper (tab scale t) (suc j) a))
 
 pub symbol-is : (o : Out) (scale k : ℕ) (t : List ℕ) → Icdf scale t → o .state .wbits ≤ 32
-    → cut o (topOf (o .state .rng) (o .state .rng / 2 ^ scale) t k) (o .state .rng / 2 ^ scale * getD t k 0) ≡ written o (record { model = tab scale t; value = k })
+    → cut o (topOf (o .state .rng) (o .state .rng / 2 ^ scale) t k) (o .state .rng / 2 ^ scale * getD t k 0)
+    ≡ written o (record { model = tab scale t; value = k })
 symbol-is o scale zero t i u = sym (tab-first o scale t (entry-below scale t i 0) u)
 symbol-is o scale (suc j) t i u = sym (tab-later o scale t j (entry-below scale t i j) (entry-below scale t i (suc j)) u)
 
@@ -81,11 +85,10 @@ ends-stepped o q t s x y p q' k = rw (p, q') at k
 
 -- ---- a number below ft, with d binary digits in ft - 1
 
-pub one-shl : (n : ℕ) → n ≤ 31 → 1 * 2 ^ n % 2 ^ 32 ≡ 2 ^ n
-one-shl n h = shl-exact 1 n 32 (lit< tt) (omega arith) ∙ one-mul (2 ^ n)
-
 pub number-is : (o : Out) (ft v d : ℕ) → d ≡ bitLength (ft - 1)
-    → appended (cut o (upper (o .state .rng) (v / 2 ^ (d - 8)) ((ft - 1) / 2 ^ (d - 8) + 1)) (lower (o .state .rng) (suc (v / 2 ^ (d - 8))) ((ft - 1) / 2 ^ (d - 8) + 1)))
+    → appended
+    (cut o (upper (o .state .rng) (v / 2 ^ (d - 8)) ((ft - 1) / 2 ^ (d - 8) + 1))
+    (lower (o .state .rng) (suc (v / 2 ^ (d - 8))) ((ft - 1) / 2 ^ (d - 8) + 1)))
     (d - 8) (v % (1 * 2 ^ (d - 8) % 2 ^ 32))
     ≡ written o (record { model = num ft; value = v })
 number-is o ft v d e =

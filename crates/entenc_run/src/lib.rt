@@ -1,6 +1,7 @@
-// The writer of the range coder (RFC 6716, section 5.1): a state by value beside the buffer. The calls here ask for a state that a write may begin
-// with and test nothing again; each hands on what the next one asks. The calls that test are in the room `entenc`. Names as in the crate's entenc.rs;
-// its ec_write_byte is `put_byte`, its ec_write_byte_at_end `put_back`, its ec_enc_carry_out `carry_out`, its ec_enc_normalize `normalize`.
+// The symbols of a writer of the range coder (RFC 6716, section 5.1): a state by value beside the buffer. The calls here ask for a state
+// that a write may begin with and test nothing again; each hands on what the next one asks. The calls that test are in the room `entenc`;
+// bytes go out in `entenc_bytes`, and finishing is in `entenc_finish`. Names as in the crate's entenc.rs; its ec_enc_normalize is
+// `normalize`.
 ghost use mathlib.Core.Path.{_≡_};
 ghost use Prim.Native.Nat.{ℕ, suc, _*_, _^_, _<_, _≤_};
 ghost use lib.ListN.{length, getD};
@@ -11,20 +12,13 @@ ghost use Rattle.entcode.specs.ReadLaws.{topOf};
 ghost use Rattle.entcode.specs.Flat.{out};
 ghost use Rattle.entcode.specs.WriterFacts.{Core, Stepped, Wrote};
 ghost use Rattle.entcode.specs.WriterSteps.{cut};
-ghost use Rattle.entcode.specs.Writing.{finished};
-use crate::finish::close;
-use crate::finish::end_bits;
-use crate::finish::put_digits;
-use crate::finish::round_up;
 use crate::front::keep;
 use crate::tail::append;
-use crate::tail::flush_all;
 use entcode::Enc;
+use entcode::part_top_run;
 
-mod room; // room.rt: bytes to the buffer's two ends
-mod front; // front.rt: cuts of the range, and digits
+mod front; // front.rt: cuts of the range
 mod tail; // tail.rt: raw bits
-mod finish; // finish.rt: the end of the coded part and of the raw bits
 
 // A bit that is 1 with probability 1 / 2^lp.
 pub fn ec_enc_bit_logp_run(buf: &mut [u8], w: Enc, v: u32, lp: u32) -> Enc
@@ -41,8 +35,8 @@ pub fn ec_enc_bit_logp_run(buf: &mut [u8], w: Enc, v: u32, lp: u32) -> Enc
     }
 }
 
-// The upper end of symbol k's part. The entry before is read for the first symbol too: whether it is the first can't be guessed ahead, and the
-// choice between two numbers needs no jump.
+// The upper end of symbol k's part. The entry before is read for the first symbol too: whether it is the first can't be guessed ahead, and
+// the choice between two numbers needs no jump.
 fn symbol_top(table: &[u8], k: u32, unit: u32, rng: u32) -> u32
     requires { ⌜ k < length (now table) ⌝ }
     requires { ⌜ ((i : ℕ) → unit * getD (now table) i 0 ≤ 2 ^ 31) ⌝ }
@@ -54,12 +48,14 @@ fn symbol_top(table: &[u8], k: u32, unit: u32, rng: u32) -> u32
     if k == 0 { rng } else { part }
 }
 
-// Symbol k of an inverse table. The first and the others share one `keep`: with two of them this is too large to be inlined, and twice as slow.
+// Symbol k of an inverse table. The first and the others share one `keep`: with two of them this is too large to be inlined, and twice as
+// slow.
 pub fn ec_enc_icdf_run(buf: &mut [u8], w: Enc, k: u32, table: &[u8], scale: u32) -> Enc
     requires { ⌜ Core (out (now buf) w) ⌝ }
     requires { ⌜ w .total ≤ 2 ^ 30 ⌝ }
     requires { ⌜ Icdf scale (now table) × Writable scale (now table) k ⌝ }
-    ensures { λ r. ⌜ Wrote (out (now (buf .entry)) w) (record { model = tab scale (now (table .entry)); value = k }) (out (now (buf .exit)) r) ⌝ }
+    ensures { λ r.
+        ⌜ Wrote (out (now (buf .entry)) w) (record { model = tab scale (now (table .entry)); value = k }) (out (now (buf .exit)) r) ⌝ }
 {
     let unit = w.rng >> scale;
     let i = k as usize;
@@ -88,23 +84,17 @@ pub fn ec_enc_bits_run(buf: &mut [u8], w: Enc, v: u32, n: u32) -> Enc
     append(buf, w, v, n)
 }
 
-// The upper end of part c of ft equal parts.
-fn part_top(rng: u32, c: u32, ft: u32) -> u32
-    requires { ⌜ c < ft ⌝ }
-    ensures { λ t. ⌜ t ≡ upper rng c ft ⌝ }
-{
-    if c == 0 { rng } else { rng / ft * (ft - c) }
-}
-
 // Part c of ft equal parts of the range, counted from its bottom.
 fn keep_part(buf: &mut [u8], w: Enc, c: u32, ft: u32) -> Enc
     requires { ⌜ Core (out (now buf) w) ⌝ }
     requires { ⌜ w .total ≤ 2 ^ 30 ⌝ }
     requires { ⌜ (c < ft) × (ft ≤ 256) ⌝ }
-    ensures { λ r. ⌜ Stepped 16 (out (now (buf .entry)) w) (cut (out (now (buf .entry)) w) (upper (w .rng) c ft) (lower (w .rng) (suc c) ft)) (out (now (buf .exit)) r) ⌝ }
+    ensures { λ r.
+        ⌜ Stepped 16 (out (now (buf .entry)) w)
+        (cut (out (now (buf .entry)) w) (upper (w .rng) c ft) (lower (w .rng) (suc c) ft)) (out (now (buf .exit)) r) ⌝ }
 {
     let low = w.rng / ft * (ft - (c + 1));
-    let top = part_top(w.rng, c, ft);
+    let top = part_top_run(w.rng, c, ft);
     keep(buf, w, top, low)
 }
 
@@ -125,20 +115,4 @@ pub fn ec_enc_uint_run(buf: &mut [u8], w: Enc, v: u32, ft: u32) -> Enc
     } else {
         keep_part(buf, w, v, ft)
     }
-}
-
-// Finishing: the coded part, the window's bytes, and the bits left over. The window stays in the state as it was.
-pub fn ec_enc_done_run(buf: &mut [u8], w: Enc) -> Enc
-    requires { ⌜ Core (out (now buf) w) ⌝ }
-    ensures { λ r. ⌜ out (now (buf .exit)) r ≡ finished (out (now (buf .entry)) w) ⌝ }
-{
-    let bits = end_bits(w.rng, w.val);
-    let end = round_up(w.val, 31 - bits);
-    let digits = (bits + 7) / 8;
-    let a = put_digits(buf, w, end, digits);
-    let b = flush_all(buf, a);
-    let mut q = close(buf, b, 8 * digits - bits);
-    q.window = w.window;
-    q.wbits = w.wbits;
-    q
 }

@@ -2,36 +2,10 @@
 ghost use mathlib.Core.Path.{_≡_};
 ghost use Prim.Native.Nat.{_+_, _^_, _<_, _≤_};
 ghost use Rattle.entcode.specs.Flat.{out};
-ghost use Rattle.entcode.specs.WriterFacts.{Roomy, Windowed, Core, Spare, Stepped};
-ghost use Rattle.entcode.specs.WriterSteps.{shed, flushed, spared, appended};
-use crate::room::put_back;
+ghost use Rattle.entcode.specs.WriterFacts.{Windowed, Core, Spare, Stepped};
+ghost use Rattle.entcode.specs.WriterSteps.{spared, appended};
 use entcode::Enc;
-
-// The window's low byte goes to the back.
-fn flush_byte(buf: &mut [u8], w: Enc) -> Enc
-    requires { ⌜ Roomy (out (now buf) w) ⌝ }
-    requires { ⌜ 8 ≤ w .wbits ⌝ }
-    ensures { λ r. ⌜ out (now (buf .exit)) r ≡ shed (out (now (buf .entry)) w) ⌝ }
-{
-    let b = w.window % 256;
-    let left = w.wbits - 8;
-    let mut q = put_back(buf, w, b as u8);
-    q.window = w.window / 256;
-    q.wbits = left;
-    q
-}
-
-// Every whole byte of the window goes to the back.
-pub(crate) fn flush_all(buf: &mut [u8], from: Enc) -> Enc
-    requires { ⌜ Windowed (out (now buf) from) ⌝ }
-    ensures { λ r. ⌜ Spare 25 (flushed (out (now (buf .entry)) from)) (out (now (buf .exit)) r) ⌝ }
-{
-    let mut w = from;
-    while 8 <= w.wbits {
-        w = flush_byte(buf, w);
-    }
-    w
-}
+use entenc_bytes::flush_all_run;
 
 // Room in the window for n more bits.
 fn spare_for(buf: &mut [u8], w: Enc, n: u32) -> Enc
@@ -40,7 +14,7 @@ fn spare_for(buf: &mut [u8], w: Enc, n: u32) -> Enc
     ensures { λ r. ⌜ Spare n (spared (out (now (buf .entry)) w) n) (out (now (buf .exit)) r) ⌝ }
 {
     if 32 < w.wbits + n {
-        flush_all(buf, w)
+        flush_all_run(buf, w)
     } else {
         w
     }

@@ -1,13 +1,12 @@
 -- What the loop over a table's entries and the test of a symbol lean on. Assumes nothing.
-use Prim.Native.Nat.{ℕ, zero, suc, _-_, _*_, _%_, _^_, _≤_, _<_}
-use mathlib.Core.Path.{_≡_, refl, ap, _∙_}
+use Prim.Native.Nat.{ℕ, zero, suc, _-_, _^_, _≤_, _<_}
+use mathlib.Core.Path.{_≡_, refl, ap}
 use mathlib.Core.Bool.{Bool, false, _&&_}
 use mathlib.Core.List.{List, [], _∷_}
 use native.Mathlib.Omega.{arith}
-use native.Mathlib.Nat.{one-mul, not-suc-le-zero}
-use lib.Dec.{leb, eqb, lit<}
+use native.Mathlib.Nat.{not-suc-le-zero}
+use lib.Dec.{leb, eqb}
 use lib.ListN.{length, getD, drop}
-use lib.Pow.{shl-exact}
 use Rattle.icdf.specs.Rule.{before}
 use Rattle.icdf.specs.Test.{fallsOk, icdfOk}
 
@@ -37,7 +36,3 @@ before-first scale k t z = ap (before scale t) z
 pub before-later : (scale k : ℕ) (t : List ℕ) → (k ≡ 0 → ⊥) → before scale t k ≡ getD t (k - 1) 0
 before-later scale zero t z = absurd (z refl)
 before-later scale (suc j) t z = let e : j ≡ suc j - 1 = omega arith in ap (λ (i : ℕ). getD t i 0) e
-
--- 1 << scale is 2^scale
-pub one-shl : (scale : ℕ) → scale ≤ 8 → 1 * 2 ^ scale % 2 ^ 32 ≡ 2 ^ scale
-one-shl scale h = shl-exact 1 scale 32 (lit< tt) (omega arith) ∙ one-mul (2 ^ scale)

@@ -1,6 +1,6 @@
 -- Refusals are numbers of document 01's table, 0 for none. "The checks run in number order and the first decides." Assumes nothing.
 use Prim.Native.Nat.{ℕ}
-use mathlib.Core.Path.{_≡_}
+use mathlib.Core.Path.{_≡_, ap₂, _∙_}
 use mathlib.Core.Bool.{cond}
 use borrow.Author.Tests.{eqb-true, eqb-false}
 use lib.Dec.{eqb}
@@ -9,6 +9,10 @@ use Rattle.tests.specs.Choice.{chosen}
 -- the first of two checks' refusals
 unfoldable pub firstOf : ℕ → ℕ → ℕ
 firstOf a b = cond (eqb a 0) b a
+
+-- the number that a call computes first, by what its two checks are
+pub number : {n a b x y : ℕ} → n ≡ firstOf a b → a ≡ x → b ≡ y → n ≡ firstOf x y
+number e p q = e ∙ ap₂ firstOf p q
 
 -- none refused: neither did
 pub first-none : (a b : ℕ) → firstOf a b ≡ 0 → (a ≡ 0) × (b ≡ 0)

@@ -10,21 +10,12 @@ use Rattle.entcode.specs.ReadingLaws.{gate-open, answered-ok, answered-no}
 use Rattle.entdec.proofs.ec_tell.Statement.{statement}
 use Rattle.entdec.proofs.ec_tell.Tie as tie
 
-gate-requires : tie.Need-gate-requires
-gate-requires c κs = search needs
-
-ec-ilog-requires : tie.Need-ec-ilog-requires
-ec-ilog-requires c κs = search needs
-
 sub-account : tie.Need-sub-account
 sub-account c =
     let g = c .before .before .before in
     let b = g .before .before in
     let o = gate-open (b .args .packet .now) (b .args .d) (sym (g .gate .ensures) ∙ c .before .before .if1 .taken) in
     omega (arith, o .sound .least, length-most (b .args .d .rng))
-
-refused-requires : tie.Need-refused-requires
-refused-requires c κs = search needs
 
 returns : tie.Need-returns
 unfolding decTell account
@@ -44,4 +35,7 @@ returns-2 c =
     ∙ answered-no _ d _ d (λ z. c .before .if1 .left (g .gate .ensures ∙ z))
 
 pub ec-tell-spec : {M : Type 1} → statement M
-ec-tell-spec = tie.close (tie.spec gate-requires ec-ilog-requires sub-account refused-requires returns returns-2)
+ec-tell-spec =
+    tie.close
+    (tie.spec
+    (λ c κs. search needs) (λ c κs. search needs) sub-account (λ c κs. search needs) returns returns-2)

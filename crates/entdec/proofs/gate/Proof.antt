@@ -6,9 +6,6 @@ use Rattle.entcode.specs.Sound.{gateR}
 use Rattle.entdec.proofs.gate.Statement.{statement}
 use Rattle.entdec.proofs.gate.Tie as tie
 
-sound-requires : tie.Need-sound-requires
-sound-requires c κs = search needs
-
 returns : tie.Need-returns
 unfolding gateR
 returns c =
@@ -30,4 +27,4 @@ unfolding gateR
 returns-4 c = rw (lt-leb _ _ (c .if1 .left))
 
 pub gate-spec : {M : Type 1} → statement M
-gate-spec = tie.close (tie.spec sound-requires returns returns-2 returns-3 returns-4)
+gate-spec = tie.close (tie.spec (λ c κs. search needs) returns returns-2 returns-3 returns-4)

@@ -9,18 +9,15 @@ use Rattle.entcode.specs.ReadLaws.{cutting-holds, bit-one, bit-zero, bit-read, 
 use Rattle.entdec_run.proofs.ec_dec_bit_logp_run.Statement.{statement}
 use Rattle.entdec_run.proofs.ec_dec_bit_logp_run.Tie as tie
 
-shr-part : tie.Need-shr-part
-shr-part c = search needs
-
-cut-requires : tie.Need-cut-requires
-cut-requires c κs =
+cut-run-requires : tie.Need-cut-run-requires
+cut-run-requires c κs =
     let b = c .before .before .before .before in
     let u = bit-one (b .args .lp) (b .args .d) (b .pre .1 .1 .0) (c .if1 .taken) in
     let h = cutting-holds (b .args .packet .now) (bit (b .args .lp)) (b .args .d) _ _ _ (b .pre .0) (b .pre .1 .1) u in
     (b .pre .0, (b .pre .1 .0, (h .cut .some, h .cut .inside, h .low, h .high)))
 
-cut-requires-2 : tie.Need-cut-requires-2
-cut-requires-2 c κs =
+cut-run-requires-2 : tie.Need-cut-run-requires-2
+cut-run-requires-2 c κs =
     let b = c .before .before .before .before in
     let u = bit-zero (b .args .lp) (b .args .d) (c .if1 .left) in
     let h = cutting-holds (b .args .packet .now) (bit (b .args .lp)) (b .args .d) _ _ _ (b .pre .0) (b .pre .1 .1) u in
@@ -33,7 +30,7 @@ returns c =
     let y : Bytes p = λ i. omega (arith, c .before .before .before .before .shared-slice-known .given i) in
     let u = bit-one (b .args .lp) (b .args .d) (b .pre .1 .1 .0) (c .before .if1 .taken) in
     took p (bit (b .args .lp)) (b .args .d) _ y (b .pre .1 .1) (b .pre .0)
-    (ap (gives 1) (c .cut .ensures) ∙ bit-read p (b .args .lp) (b .args .d) _ _ _ u)
+    (ap (gives 1) (c .cut-run .ensures) ∙ bit-read p (b .args .lp) (b .args .d) _ _ _ u)
 
 returns-2 : tie.Need-returns-2
 returns-2 c =
@@ -42,7 +39,10 @@ returns-2 c =
     let y : Bytes p = λ i. omega (arith, c .before .before .before .before .shared-slice-known .given i) in
     let u = bit-zero (b .args .lp) (b .args .d) (c .before .if1 .left) in
     took p (bit (b .args .lp)) (b .args .d) _ y (b .pre .1 .1) (b .pre .0)
-    (ap (gives 0) (c .cut2 .ensures) ∙ bit-read p (b .args .lp) (b .args .d) _ _ _ u)
+    (ap (gives 0) (c .cut-run2 .ensures) ∙ bit-read p (b .args .lp) (b .args .d) _ _ _ u)
 
 pub ec-dec-bit-logp-run-spec : {M : Type 1} → statement M
-ec-dec-bit-logp-run-spec = tie.close (tie.spec shr-part cut-requires cut-requires-2 returns returns-2)
+ec-dec-bit-logp-run-spec =
+    tie.close
+    (tie.spec
+    (λ c. search needs) cut-run-requires cut-run-requires-2 returns returns-2)

@@ -2,7 +2,7 @@
 use borrow.Author.Needs.{needs}
 use native.Mathlib.Omega.{arith}
 use Prim.Native.Nat.{ℕ, suc, _+_, _-_, _*_, _/_, _%_, _^_, _≤_, _<_}
-use mathlib.Core.Path.{_≡_, ap, ap₂, _∙_}
+use mathlib.Core.Path.{_≡_, sym, subst, ap, ap₂, _∙_}
 use mathlib.Core.Bool.{cond}
 use mathlib.Core.List.{List}
 use native.Mathlib.Nat.{mod-lt}
@@ -29,7 +29,8 @@ record Piece (b : List ℕ) (d : Dec) (ft k : ℕ) : Type 0 where
   holding : Holding d (upper (d .rng) k (all (num ft))) (lower (d .rng) (suc k) (all (num ft)))
   next : CoreNext b 16 d (cutDown b d (upper (d .rng) k (all (num ft))) (lower (d .rng) (suc k) (all (num ft))))
 
-piece : (b : List ℕ) (d : Dec) (ft k : ℕ) → Bytes b → Core b d → Readable (num ft) → k ≡ sought (d .rng) (d .val) (all (num ft)) → Piece b d ft k
+piece : (b : List ℕ) (d : Dec) (ft k : ℕ) → Bytes b → Core b d → Readable (num ft) → k ≡ sought (d .rng) (d .val) (all (num ft))
+    → Piece b d ft k
 piece b d ft k y c o e =
     let p = pick-holds (num ft) (d .rng) (d .val) o (c .above) (c .inside) in
     let h = cutting-holds b (num ft) d k _ _ c o (num-cutting ft d k e) in
@@ -51,28 +52,61 @@ together k x n a h l =
 bytes : (c : tie.After-shared-slice-known) → Bytes (c .before .args .packet .now)
 bytes c i = omega (arith, c .shared-slice-known .given i)
 
-parts : (c : tie.After-raw-count) → (c .before .before .args .ft - 1) / 2 ^ c .raw-count .result + 1 ≡ all (num (c .before .before .args .ft))
+-- ---- the places: where the raw bits are counted, the number is sought, its part is cut, and its raw bits are read
+
+parts : (c : tie.After-raw-count) → let ft = c .before .before .args .ft in (ft - 1) / 2 ^ c .raw-count .result + 1 ≡ all (num ft)
 parts c = rw (c .raw-count .ensures) (omega arith)
 
 few : (c : tie.After-raw-count) → c .raw-count .result ≤ 24
 few c = omega (arith, c .raw-count .ensures, length-most (c .before .before .args .ft - 1))
 
-raw-count-requires : tie.Need-raw-count-requires
-raw-count-requires c κs = search needs
+abbrev counted : tie.After-ec-decode → tie.After-raw-count
+counted c = c .before .before
 
-sub-top : tie.Need-sub-top
-sub-top c = search needs
+abbrev begun : tie.After-ec-decode → tie.Start
+begun c = c .before .before .before .before
 
-shr-parts : tie.Need-shr-parts
-shr-parts c = omega (arith, few c)
+sought-is : (c : tie.After-ec-decode) → let a = begun c .args in c .ec-decode .result ≡ sought (a .d .rng) (a .d .val) (all (num (a .ft)))
+sought-is c = let a = begun c .args in c .ec-decode .ensures ∙ ap (λ (p : ℕ). sought (a .d .rng) (a .d .val) p) (parts (counted c))
+
+the-piece : (c : tie.After-ec-decode) → let a = begun c .args in Piece (a .packet .now) (a .d) (a .ft) (c .ec-decode .result)
+the-piece c =
+    let b = begun c in
+    piece (b .args .packet .now) (b .args .d) (b .args .ft) _ (bytes (c .before .before .before)) (b .pre .0) (b .pre .1 .1) (sought-is c)
+
+abbrev cutAt : tie.Start → ℕ → Dec
+cutAt c k =
+    let d = c .args .d in
+    let m = all (num (c .args .ft)) in
+    cutDown (c .args .packet .now) d (upper (d .rng) k m) (lower (d .rng) (suc k) m)
+
+cut-is : (c : tie.After-ec-dec-update) → c .ec-dec-update .result ≡ cutAt (begun (c .before)) (c .before .ec-decode .result)
+cut-is c =
+    let a = begun (c .before) .args in
+    let k = c .before .ec-decode .result in
+    c .ec-dec-update .ensures
+    ∙ ap (λ (p : ℕ). cutDown (a .packet .now) (a .d) (upper (a .d .rng) k p) (lower (a .d .rng) (suc k) p)) (parts (counted (c .before)))
+
+abbrev chosen : tie.After-raw-bits-run → tie.After-ec-decode
+chosen c = c .before .before
+
+abbrev count : tie.After-raw-bits-run → ℕ
+count c = counted (chosen c) .raw-count .result
+
+-- the raw part fits its bits
+raw-small : (c : tie.After-raw-bits-run) → c .raw-bits-run .result .value < 2 ^ count c
+raw-small c = subst (λ (a : Decoded). a .value < 2 ^ count c) (sym (c .raw-bits-run .ensures)) (mod-lt _ (pow-pos (count c)))
+
+whole : (c : tie.After-raw-bits-run) → let k = chosen c .ec-decode .result in
+    (k * 2 ^ count c % 2 ^ 32 ≡ k * 2 ^ count c) × (k * 2 ^ count c + c .raw-bits-run .result .value < 2 ^ 32)
+whole c = together _ _ (count c) (the-piece (chosen c) .small) (few (counted (chosen c))) (raw-small c)
+
+-- ---- the needs
 
 add-parts : tie.Need-add-parts
 add-parts c =
     let b = c .before .before in
     omega (arith, parts c, num-small (b .args .ft) (omega arith) (b .pre .1 .1 .1))
-
-div-step : tie.Need-div-step
-div-step c = search needs
 
 ec-decode-requires : tie.Need-ec-decode-requires
 ec-decode-requires c κs =
@@ -80,79 +114,46 @@ ec-decode-requires c κs =
     let n = num-small (b .args .ft) (omega arith) (b .pre .1 .1 .1) in
     (b .pre .0 .above, omega (arith, b .pre .0 .inside, b .pre .0 .most), omega arith, omega (arith, parts (c .before)))
 
--- what is known once the number is sought
-sought-is : (c : tie.After-ec-decode) → c .ec-decode .result
-    ≡ sought (c .before .before .before .before .args .d .rng) (c .before .before .before .before .args .d .val) (all (num (c .before .before .before .before .args .ft)))
-sought-is c = let a = c .before .before .before .before .args in c .ec-decode .ensures ∙ ap (λ (p : ℕ). sought (a .d .rng) (a .d .val) p) (parts (c .before .before))
-
-the-piece : (c : tie.After-ec-decode) → Piece (c .before .before .before .before .args .packet .now) (c .before .before .before .before .args .d) (c .before .before .before .before .args .ft) (c .ec-decode .result)
-the-piece c =
-    let b = c .before .before .before .before in
-    piece (b .args .packet .now) (b .args .d) (b .args .ft) (c .ec-decode .result) (bytes (c .before .before .before)) (b .pre .0) (b .pre .1 .1) (sought-is c)
-
 ec-dec-update-requires : tie.Need-ec-dec-update-requires
 ec-dec-update-requires c κs =
-    let b = c .before .before .before .before in
-    (b .pre .0, (b .pre .1 .0, rw (parts (c .before .before)) (the-piece c .below, the-piece c .holding)))
+    let b = begun c in
+    (b .pre .0, (b .pre .1 .0, rw (parts (counted c)) (the-piece c .below, the-piece c .holding)))
 
--- the reader behind the cut
-cut-is : (c : tie.After-ec-dec-update) → c .ec-dec-update .result
-    ≡ cutDown (c .before .before .before .before .before .args .packet .now) (c .before .before .before .before .before .args .d)
-    (upper (c .before .before .before .before .before .args .d .rng) (c .before .ec-decode .result) (all (num (c .before .before .before .before .before .args .ft))))
-    (lower (c .before .before .before .before .before .args .d .rng) (suc (c .before .ec-decode .result)) (all (num (c .before .before .before .before .before .args .ft))))
-cut-is c =
-    let a = c .before .before .before .before .before .args in
-    let k = c .before .ec-decode .result in
-    c .ec-dec-update .ensures ∙ ap (λ (p : ℕ). cutDown (a .packet .now) (a .d) (upper (a .d .rng) k p) (lower (a .d .rng) (suc k) p)) (parts (c .before .before .before))
-
-raw-bits-requires : tie.Need-raw-bits-requires
-raw-bits-requires c κs =
+raw-bits-run-requires : tie.Need-raw-bits-run-requires
+raw-bits-run-requires c κs =
     let n = the-piece (c .before) .next in
-    rw (cut-is c) (n .core, (omega (arith, n .most), omega (arith, few (c .before .before .before))))
-
-shl-number : tie.Need-shl-number
-shl-number c = omega (arith, few (c .before .before .before .before))
-
--- the raw part fits its bits
-raw-small : (c : tie.After-raw-bits) → c .raw-bits .result .value < 2 ^ c .before .before .before .before .raw-count .result
-raw-small c =
-    let n = c .before .before .before .before .raw-count .result in
-    rw (c .raw-bits .ensures) (mod-lt _ (pow-pos n))
-
-add-number : tie.Need-add-number
-add-number c =
-    let t = together (c .before .before .before .ec-decode .result) (c .before .raw-bits .result .value) (c .before .before .before .before .before .raw-count .result)
-    (the-piece (c .before .before .before) .small) (few (c .before .before .before .before .before)) (raw-small (c .before)) in
-    omega (arith, t .0, t .1)
-
-clamp-requires : tie.Need-clamp-requires
-clamp-requires c κs = search needs
+    rw (cut-is c) (n .core, (omega (arith, n .most), omega (arith, few (counted (c .before)))))
 
 returns : tie.Need-returns
 returns c =
     let r = c .before .before in
-    let b = r .before .before .before .before .before .before in
+    let b = begun (chosen r) in
     let p = b .args .packet .now in
     let d = b .args .d in
     let ft = b .args .ft in
-    let k = r .before .before .ec-decode .result in
-    let y = bytes (r .before .before .before .before .before) in
-    let q = cutDown p d (upper (d .rng) k (all (num ft))) (lower (d .rng) (suc k) (all (num ft))) in
-    let x : r .raw-bits .result ≡ gives (rawVal p (rawBits ft) q) (rawNext p (rawBits ft) q)
-    = r .raw-bits .ensures ∙ ap₂ (λ (n : ℕ) (z : Dec). gives (rawVal p n z) (rawNext p n z)) (r .before .before .before .before .raw-count .ensures) (cut-is (r .before)) in
-    let t = together k (r .raw-bits .result .value) (r .before .before .before .before .raw-count .result) (the-piece (r .before .before) .small) (few (r .before .before .before .before)) (raw-small r) in
-    let v : k * 2 ^ r .before .before .before .before .raw-count .result % 2 ^ 32 + r .raw-bits .result .value ≡ k * 2 ^ rawBits ft + rawVal p (rawBits ft) q
-    = ap₂ (λ (m n : ℕ). m + n) (t .0 ∙ ap (λ (n : ℕ). k * 2 ^ n) (r .before .before .before .before .raw-count .ensures)) (ap (λ (a : Decoded). a .value) x) in
-    let s : d .rng / ((ft - 1) / 2 ^ r .before .before .before .before .raw-count .result + 1) ≡ d .rng / all (num ft)
-    = ap (λ (n : ℕ). d .rng / n) (parts (r .before .before .before .before)) in
+    let k = chosen r .ec-decode .result in
+    let y = bytes (chosen r .before .before .before) in
+    let q = cutAt b k in
+    let n = counted (chosen r) .raw-count .ensures in
+    let x : r .raw-bits-run .result ≡ gives (rawVal p (rawBits ft) q) (rawNext p (rawBits ft) q)
+    = r .raw-bits-run .ensures ∙ ap₂ (λ (n : ℕ) (z : Dec). gives (rawVal p n z) (rawNext p n z)) n (cut-is (r .before)) in
+    let v : k * 2 ^ count r % 2 ^ 32 + r .raw-bits-run .result .value ≡ k * 2 ^ rawBits ft + rawVal p (rawBits ft) q
+    = ap₂ (λ (m n : ℕ). m + n) (whole r .0 ∙ ap (λ (n : ℕ). k * 2 ^ n) n) (ap (λ (a : Decoded). a .value) x) in
+    let s : d .rng / ((ft - 1) / 2 ^ count r + 1) ≡ d .rng / all (num ft) = ap (λ (n : ℕ). d .rng / n) (parts (counted (chosen r))) in
     took p (num ft) d _ y (b .pre .1 .1) (b .pre .0)
     (c .clamp .ensures
-    ∙ ap₂ (λ (n m : ℕ). outcome (ft - 1) n (r .raw-bits .result .state) m) v s
+    ∙ ap₂ (λ (n m : ℕ). outcome (ft - 1) n (r .raw-bits-run .result .state) m) v s
     ∙ ap (λ (z : Dec). outcome (ft - 1) (k * 2 ^ rawBits ft + rawVal p (rawBits ft) q) z (d .rng / all (num ft))) (ap (λ (a : Decoded). a .state) x)
-    ∙ num-read p ft d k _ _ y (b .pre .0) (b .pre .1 .1) (num-cutting ft d k (sought-is (r .before .before))))
+    ∙ num-read p ft d k _ _ y (b .pre .0) (b .pre .1 .1) (num-cutting ft d k (sought-is (chosen r))))
   where
     outcome : ℕ → ℕ → Dec → ℕ → Decoded
     outcome top n z m = cond (leb n top) (gives n (atEnd z m (z .error))) (gives top (atEnd z m 1))
 
 pub ec-dec-uint-run-spec : {M : Type 1} → statement M
-ec-dec-uint-run-spec = tie.close (tie.spec raw-count-requires sub-top shr-parts add-parts div-step ec-decode-requires ec-dec-update-requires raw-bits-requires shl-number add-number clamp-requires returns)
+ec-dec-uint-run-spec =
+    tie.close
+    (tie.spec
+    (λ c κs. search needs) (λ c. search needs) (λ c. omega (arith, few c)) add-parts (λ c. search needs)
+    ec-decode-requires ec-dec-update-requires raw-bits-run-requires
+    (λ c. omega (arith, few (counted (chosen c)))) (λ c. omega (arith, whole (c .before) .0, whole (c .before) .1))
+    (λ c κs. search needs) returns)

@@ -7,9 +7,6 @@ use Rattle.entcode.specs.CutLaws.{step-some}
 use Rattle.entdec_run.proofs.ec_decode.Statement.{statement}
 use Rattle.entdec_run.proofs.ec_decode.Tie as tie
 
-div-step : tie.Need-div-step
-div-step c = search needs
-
 div-least : tie.Need-div-least
 div-least c =
     let b = c .before .before in
@@ -20,14 +17,8 @@ add-least c =
     let a = c .before .before .args in
     omega (arith, div-le-self (a .d .val) (a .d .rng / a .ft))
 
-least-requires : tie.Need-least-requires
-least-requires c κs = search needs
-
-sub-result : tie.Need-sub-result
-sub-result c = search needs
-
-returns : tie.Need-returns
-returns c = search needs
-
 pub ec-decode-spec : {M : Type 1} → statement M
-ec-decode-spec = tie.close (tie.spec div-step div-least add-least least-requires sub-result returns)
+ec-decode-spec =
+    tie.close
+    (tie.spec
+    (λ c. search needs) div-least add-least (λ c κs. search needs) (λ c. search needs) (λ c. search needs))

@@ -13,12 +13,6 @@ use Rattle.entenc.proofs.ec_tell.Tie as tie
 abbrev start : tie.Start → Out
 start c = out (c .args .buf .now) (c .args .w)
 
-gate-requires : tie.Need-gate-requires
-gate-requires c κs = search needs
-
-ec-ilog-requires : tie.Need-ec-ilog-requires
-ec-ilog-requires c κs = search needs
-
 sub-used : tie.Need-sub-used
 sub-used c =
     let b = c .before .before .before .before .before in
@@ -29,10 +23,13 @@ returns : tie.Need-returns
 unfolding account
 returns c =
     let b = c .before .before .before .before .before in
-    tell-takes (start b) _ (c .before .before .before .gate .ensures) _ (c .before .before .if1 .taken) (ap (λ (n : ℕ). b .args .w .total - n) (c .before .ec-ilog .ensures))
+    tell-takes (start b) _ (c .before .before .before .gate .ensures) _ (c .before .before .if1 .taken)
+    (ap (λ (n : ℕ). b .args .w .total - n) (c .before .ec-ilog .ensures))
 
 returns-2 : tie.Need-returns-2
-returns-2 c = tell-refuses (start (c .before .before .before)) _ (c .before .gate .ensures) (c .if1 .left)
+returns-2 c =
+    let g = c .before .before in
+    rw (c .answer .ensures) (tell-refuses (start (g .before .before)) _ (g .gate .ensures) (c .before .if1 .left))
 
 pub ec-tell-spec : {M : Type 1} → statement M
-ec-tell-spec = tie.close (tie.spec gate-requires ec-ilog-requires sub-used returns returns-2)
+ec-tell-spec = tie.close (tie.spec (λ c κs. search needs) (λ c κs. search needs) sub-used (λ c κs. search needs) returns returns-2)

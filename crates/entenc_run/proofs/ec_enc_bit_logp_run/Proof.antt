@@ -15,9 +15,6 @@ use Rattle.entenc_run.proofs.ec_enc_bit_logp_run.Tie as tie
 allowed : (c : tie.Start) (v : ℕ) → v ≤ 1 → Allowed (bit (c .args .lp)) v
 allowed c v h = record { readable = (c .pre .1 .1 .0, c .pre .1 .1 .1); fitting = h }
 
-shr-part : tie.Need-shr-part
-shr-part c = search needs
-
 keep-requires : tie.Need-keep-requires
 keep-requires c κs =
     let b = c .before .before .before .before in
@@ -28,9 +25,6 @@ keep-requires-2 c κs =
     let b = c .before .before .before .before in
     (b .pre .0, (b .pre .1 .0, one-cut (b .args .w .rng) (b .args .lp) (b .pre .0 .above) (allowed b 1 (omega arith))))
 
-same-length : tie.Need-same-length
-same-length c = search needs
-
 returns : tie.Need-returns
 returns c =
     let b = c .before .before .before .before .before .before .before in
@@ -39,9 +33,6 @@ returns c =
     (c .before .before .keep .ensures .is
     ∙ sym (bit-zero o (b .args .lp) (b .pre .0 .used))
     ∙ ap (λ (v : ℕ). written o (record { model = bit (b .args .lp); value = v })) (sym (c .before .before .before .before .if1 .taken)))
-
-same-length-2 : tie.Need-same-length-2
-same-length-2 c = search needs
 
 returns-2 : tie.Need-returns-2
 returns-2 c =
@@ -56,4 +47,5 @@ returns-2 c =
 pub ec-enc-bit-logp-run-spec : {M : Type 1} → statement M
 ec-enc-bit-logp-run-spec =
     tie.close
-    (tie.spec shr-part keep-requires keep-requires-2 same-length returns same-length-2 returns-2)
+    (tie.spec
+    (λ c. search needs) keep-requires keep-requires-2 (λ c. search needs) returns (λ c. search needs) returns-2)

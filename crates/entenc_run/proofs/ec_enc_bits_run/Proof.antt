@@ -8,12 +8,6 @@ use Rattle.entcode.specs.Models.{raw}
 use Rattle.entenc_run.proofs.ec_enc_bits_run.Statement.{statement}
 use Rattle.entenc_run.proofs.ec_enc_bits_run.Tie as tie
 
-append-requires : tie.Need-append-requires
-append-requires c κs = search needs
-
-same-length : tie.Need-same-length
-same-length c = search needs
-
 returns : tie.Need-returns
 returns c =
     let b = c .before .before .before .before .before in
@@ -24,4 +18,4 @@ returns c =
     (c .before .before .append .ensures .is ∙ raw-is o (b .args .n) (b .args .v) (b .pre .0 .above))
 
 pub ec-enc-bits-run-spec : {M : Type 1} → statement M
-ec-enc-bits-run-spec = tie.close (tie.spec append-requires same-length returns)
+ec-enc-bits-run-spec = tie.close (tie.spec (λ c κs. search needs) (λ c. search needs) returns)

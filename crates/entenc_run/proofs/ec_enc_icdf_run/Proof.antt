@@ -22,12 +22,6 @@ most c i =
     let a = c .args in
     omega (arith, c .pre .0 .most, entry-most (a .w .rng) (a .scale) (getD (a .table .now) i 0) (entry-below (a .scale) (a .table .now) (c .pre .1 .1 .0) i))
 
-shr-unit : tie.Need-shr-unit
-shr-unit c = search needs
-
-shared-slice-read-low : tie.Need-shared-slice-read-low
-shared-slice-read-low c = search needs
-
 cast-low : tie.Need-cast-low
 cast-low c = omega (arith, c .shared-slice-known2 .given (c .before .before .before .before .args .k))
 
@@ -50,9 +44,6 @@ keep-requires c κs =
       ),
     )
 
-same-length : tie.Need-same-length
-same-length c = search needs
-
 returns : tie.Need-returns
 returns c =
     let b = c .before .before .before .before .before .before .before .before .before in
@@ -67,11 +58,5 @@ pub ec-enc-icdf-run-spec : {M : Type 1} → statement M
 ec-enc-icdf-run-spec =
     tie.close
     (tie.spec
-    shr-unit
-    shared-slice-read-low
-    cast-low
-    mul-low
-    symbol-top-requires
-    keep-requires
-    same-length
+    (λ c. search needs) (λ c. search needs) cast-low mul-low symbol-top-requires keep-requires (λ c. search needs)
     returns)

@@ -23,15 +23,6 @@ allowed c = record { readable = (c .pre .1 .1 .0, below c); fitting = c .pre .1 
 part : (c : tie.Start) (d : ℕ) → d ≡ bitLength (c .args .ft - 1) → NumberPart (c .args .ft) (c .args .v) d
 part c d e = number-part (c .args .ft) (c .args .v) d e (c .pre .1 .1 .0) (below c) (c .pre .1 .1 .1)
 
-sub-last : tie.Need-sub-last
-sub-last c = search needs
-
-ec-ilog-requires : tie.Need-ec-ilog-requires
-ec-ilog-requires c κs = search needs
-
-sub-n : tie.Need-sub-n
-sub-n c = search needs
-
 shr-parts : tie.Need-shr-parts
 shr-parts c = omega (arith, part (c .before .before .before) _ (c .before .ec-ilog .ensures) .few)
 
@@ -62,16 +53,14 @@ append-requires c κs =
     let b = c .before .before .before .before .before .before in
     let p = part (b .before .before) _ (b .ec-ilog .ensures) in
     let k = c .before .before .before .keep-part .ensures in
-    (k .core, (omega (arith, k .most, b .before .before .pre .1 .0), (omega (arith, c .before .before .before .before .before .if1 .taken), omega (arith, p .few), p .rest)))
+    let l = c .before .before .before .before .before .if1 .taken in
+    (k .core, (omega (arith, k .most, b .before .before .pre .1 .0), (omega (arith, l), omega (arith, p .few), p .rest)))
 
 keep-part-requires-2 : tie.Need-keep-part-requires-2
 keep-part-requires-2 c κs =
     let b = c .before .before .before .before in
     let n = number-few (b .args .ft) _ (c .before .before .ec-ilog .ensures) (c .before .if1 .left) (below b) in
     (b .pre .0, (b .pre .1 .0, (b .pre .1 .1 .1, n .0)))
-
-same-length : tie.Need-same-length
-same-length c = search needs
 
 returns : tie.Need-returns
 returns c =
@@ -81,11 +70,9 @@ returns c =
     let n = d .ec-ilog .result - 8 in
     wrote o (record { model = num (b .args .ft); value = b .args .v }) _ (b .pre .0) (b .pre .1 .0) (allowed b)
     (c .before .before .append .ensures .is
-    ∙ ap (λ (q : Out). appended q n (b .args .v % (1 * 2 ^ n % 2 ^ 32))) (c .before .before .before .before .before .before .keep-part .ensures .is)
+    ∙ ap (λ (q : Out). appended q n (b .args .v % (1 * 2 ^ n % 2 ^ 32)))
+    (c .before .before .before .before .before .before .keep-part .ensures .is)
     ∙ number-is o (b .args .ft) (b .args .v) (d .ec-ilog .result) (d .ec-ilog .ensures))
-
-same-length-2 : tie.Need-same-length-2
-same-length-2 c = search needs
 
 returns-2 : tie.Need-returns-2
 returns-2 c =
@@ -101,18 +88,6 @@ pub ec-enc-uint-run-spec : {M : Type 1} → statement M
 ec-enc-uint-run-spec =
     tie.close
     (tie.spec
-    sub-last
-    ec-ilog-requires
-    sub-n
-    shr-parts
-    add-parts
-    shr-keep-part
-    keep-part-requires
-    shl-append
-    rem-append
-    append-requires
-    keep-part-requires-2
-    same-length
-    returns
-    same-length-2
-    returns-2)
+    (λ c. search needs) (λ c κs. search needs) (λ c. search needs) shr-parts add-parts shr-keep-part
+    keep-part-requires shl-append rem-append append-requires keep-part-requires-2 (λ c. search needs) returns
+    (λ c. search needs) returns-2)

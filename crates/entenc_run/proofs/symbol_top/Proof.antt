@@ -15,9 +15,6 @@ at c =
     let h = c .before .pre .0 in
     ⊎-elim (λ w. (omega (arith, w .0 .taken, w .1), λ n. absurd (n (w .0 .taken)))) (λ w. (omega (arith, w .1), λ n. w .1)) (c .if1 .came)
 
-sub-j : tie.Need-sub-j
-sub-j c = search needs
-
 shared-slice-read-part : tie.Need-shared-slice-read-part
 shared-slice-read-part c = at (c .before) .0
 
@@ -27,9 +24,6 @@ cast-part c = omega (arith, c .shared-slice-known .given (c .before .if1 .j))
 mul-part : tie.Need-mul-part
 mul-part c = omega (arith, c .before .before .pre .1 (c .before .if1 .j))
 
-returns : tie.Need-returns
-returns c = search needs
-
 returns-2 : tie.Need-returns-2
 returns-2 c =
     let b = c .before .before .before in
@@ -38,4 +32,6 @@ returns-2 c =
 
 pub symbol-top-spec : {M : Type 1} → statement M
 symbol-top-spec =
-    tie.close (tie.spec sub-j shared-slice-read-part cast-part mul-part returns returns-2)
+    tie.close
+    (tie.spec
+    (λ c. search needs) shared-slice-read-part cast-part mul-part (λ c. search needs) returns-2)

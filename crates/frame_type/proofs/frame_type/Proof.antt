@@ -35,35 +35,11 @@ types c =
     let y : Bytes (start c .args .packet .now) = λ i. omega (arith, c .before .before .before .shared-slice-known .given i) in
     first-types _ _ _ y (row c .good) (row c .is) (sym (c .before .before .type-rule .ensures) ∙ c .before .if1 .taken)
 
-type-rule-requires : tie.Need-type-rule-requires
-type-rule-requires c κs = search needs
-
 mul-base : tie.Need-mul-base
 mul-base c = search (needs, accepts c .1)
 
-cast-start : tie.Need-cast-start
-cast-start c = search needs
-
-add-end : tie.Need-add-end
-add-end c = search needs
-
-add-end-2 : tie.Need-add-end-2
-add-end-2 c = search needs
-
-index-rows-requires : tie.Need-index-rows-requires
-index-rows-requires c κs = search needs
-
-sub-first-symbol : tie.Need-sub-first-symbol
-sub-first-symbol c = search needs
-
-part-first-symbol-start : tie.Need-part-first-symbol-start
-part-first-symbol-start c = search needs
-
 part-first-symbol-end : tie.Need-part-first-symbol-end
 part-first-symbol-end c = omega (arith, accepts (c .before .before) .1)
-
-first-symbol-requires : tie.Need-first-symbol-requires
-first-symbol-requires c κs = search needs
 
 add-kind : tie.Need-add-kind
 add-kind c =
@@ -82,16 +58,6 @@ pub frame-type-spec : {M : Type 1} → statement M
 frame-type-spec =
     tie.close
     (tie.spec
-    type-rule-requires
-    mul-base
-    cast-start
-    add-end
-    add-end-2
-    index-rows-requires
-    sub-first-symbol
-    part-first-symbol-start
-    part-first-symbol-end
-    first-symbol-requires
-    add-kind
-    returns
-    returns-2)
+    (λ c κs. search needs) mul-base (λ c. search needs) (λ c. search needs) (λ c. search needs)
+    (λ c κs. search needs) (λ c. search needs) (λ c. search needs) part-first-symbol-end (λ c κs. search needs)
+    add-kind returns returns-2)

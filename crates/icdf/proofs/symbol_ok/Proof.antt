@@ -4,24 +4,13 @@ use Prim.Native.Nat.{_-_}
 use native.Mathlib.Omega.{arith}
 use borrow.Author.Tests.{lt-ltb, le-ltb}
 use Rattle.icdf.specs.Test.{symbolOk}
-use Rattle.icdf.proofs.Entries.{before-first, before-later, one-shl}
+use Rattle.bitlen.proofs.Shift.{one-shl}
+use Rattle.icdf.proofs.Entries.{before-first, before-later}
 use Rattle.icdf.proofs.symbol_ok.Statement.{statement}
 use Rattle.icdf.proofs.symbol_ok.Tie as tie
 
-shared-slice-read-entry : tie.Need-shared-slice-read-entry
-shared-slice-read-entry c = search needs
-
 cast-entry : tie.Need-cast-entry
 cast-entry c = omega (arith, c .shared-slice-known .given (c .before .before .args .symbol))
-
-shl-result : tie.Need-shl-result
-shl-result c = search needs
-
-sub-j : tie.Need-sub-j
-sub-j c = search needs
-
-shared-slice-read-result : tie.Need-shared-slice-read-result
-shared-slice-read-result c = search needs
 
 cast-result : tie.Need-cast-result
 cast-result c = omega (arith, c .shared-slice-known2 .given (c .before .before .before .before .args .symbol - 1))
@@ -30,7 +19,8 @@ returns : tie.Need-returns
 unfolding symbolOk
 returns c =
     let b = c .before .before .before in
-    rw (lt-ltb _ _ (c .before .before .if1 .taken), before-first (b .args .scale) (b .args .symbol) (b .args .table .now) (c .if2 .taken), one-shl (b .args .scale) (b .pre .1))
+    let f = before-first (b .args .scale) (b .args .symbol) (b .args .table .now) (c .if2 .taken) in
+    rw (lt-ltb _ _ (c .before .before .if1 .taken), f, one-shl (b .args .scale) (omega (arith, b .pre .1)))
 
 returns-2 : tie.Need-returns-2
 unfolding symbolOk
@@ -46,12 +36,5 @@ pub symbol-ok-spec : {M : Type 1} → statement M
 symbol-ok-spec =
     tie.close
     (tie.spec
-    shared-slice-read-entry
-    cast-entry
-    shl-result
-    sub-j
-    shared-slice-read-result
-    cast-result
-    returns
-    returns-2
-    returns-3)
+    (λ c. search needs) cast-entry (λ c. search needs) (λ c. search needs) (λ c. search needs) cast-result returns
+    returns-2 returns-3)

@@ -6,9 +6,6 @@ use Rattle.entcode.specs.Sound.{gateW}
 use Rattle.entenc.proofs.gate.gate.Statement.{statement}
 use Rattle.entenc.proofs.gate.gate.Tie as tie
 
-sound-requires : tie.Need-sound-requires
-sound-requires c κs = search needs
-
 returns : tie.Need-returns
 unfolding gateW
 returns c =
@@ -36,4 +33,4 @@ unfolding gateW
 returns-4 c = rw (lt-leb _ _ (c .if1 .left))
 
 pub gate-spec : {M : Type 1} → statement M
-gate-spec = tie.close (tie.spec sound-requires returns returns-2 returns-3 returns-4)
+gate-spec = tie.close (tie.spec (λ c κs. search needs) returns returns-2 returns-3 returns-4)

@@ -2,7 +2,7 @@
 use native.Mathlib.Omega.{arith}
 use borrow.Author.Tests.{lt-ltb, le-ltb}
 use Rattle.tests.specs.Both.{in-range}
-use Rattle.entenc_run.proofs.Parts.{one-shl}
+use Rattle.bitlen.proofs.Shift.{one-shl}
 use Rattle.entenc.proofs.rules.bits_rule.Statement.{statement}
 use Rattle.entenc.proofs.rules.bits_rule.Tie as tie
 

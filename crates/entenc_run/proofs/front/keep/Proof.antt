@@ -7,18 +7,9 @@ use Rattle.entcode.specs.CoreLaws.{cut-step}
 use Rattle.entcode.specs.Flat.{out}
 use Rattle.entcode.specs.WriterFacts.{atTurn}
 use Rattle.entcode.specs.WriterSteps.{settled}
-use Rattle.entenc_run.proofs.Digits.{cut-is}
+use Rattle.entenc_run.proofs.Turns.{cut-is}
 use Rattle.entenc_run.proofs.front.keep.Statement.{statement}
 use Rattle.entenc_run.proofs.front.keep.Tie as tie
-
-sub-above : tie.Need-sub-above
-sub-above c = search needs
-
-sub-q : tie.Need-sub-q
-sub-q c = search needs
-
-wrapping-add-u32-requires : tie.Need-wrapping-add-u32-requires
-wrapping-add-u32-requires c κs = search needs
 
 normalize-requires : tie.Need-normalize-requires
 normalize-requires c κs =
@@ -39,9 +30,6 @@ normalize-requires c κs =
       omega (arith, k .some),
     )
 
-same-length : tie.Need-same-length
-same-length c = search needs
-
 returns : tie.Need-returns
 returns c =
     let b = c .before .before .before .before .before .before .before in
@@ -56,4 +44,5 @@ returns c =
 pub keep-spec : {M : Type 1} → statement M
 keep-spec =
     tie.close
-    (tie.spec sub-above sub-q wrapping-add-u32-requires normalize-requires same-length returns)
+    (tie.spec
+    (λ c. search needs) (λ c. search needs) (λ c κs. search needs) normalize-requires (λ c. search needs) returns)

@@ -7,7 +7,7 @@ use Rattle.entcode.specs.Flat.{Out, out}
 use Rattle.entcode.specs.FlatLaws.{settled-done, settled-turn}
 use Rattle.entcode.specs.WriterFacts.{Ready}
 use Rattle.entcode.specs.WriterSteps.{turned, settled}
-use Rattle.entenc_run.proofs.Digits.{turn-ready}
+use Rattle.entenc_run.proofs.Turns.{turn-ready}
 use Rattle.entenc_run.proofs.front.normalize.Statement.{statement}
 use Rattle.entenc_run.proofs.front.normalize.Tie as tie
 

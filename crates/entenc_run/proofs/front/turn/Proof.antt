@@ -4,31 +4,20 @@ use Prim.Native.Nat.{_+_, _*_, _%_, _^_}
 use mathlib.Core.Path.{ap, _∙_}
 use Rattle.entcode.specs.Flat.{Out, out}
 use Rattle.entcode.specs.WriterFacts.{atTurn}
-use Rattle.entenc_run.proofs.Digits.{turn-is}
+use Rattle.entenc_run.proofs.Turns.{turn-is}
 use Rattle.entenc_run.proofs.front.turn.Statement.{statement}
 use Rattle.entenc_run.proofs.front.turn.Tie as tie
-
-mul-rng : tie.Need-mul-rng
-mul-rng c = search needs
-
-mul-val : tie.Need-mul-val
-mul-val c = search needs
-
-add-total : tie.Need-add-total
-add-total c = search needs
-
-carry-out-requires : tie.Need-carry-out-requires
-carry-out-requires c κs = search needs
-
-same-length : tie.Need-same-length
-same-length c = search needs
 
 returns : tie.Need-returns
 returns c =
     let b = c .before .before .before .before .before .before .before .before .before in
     let o = out (b .args .buf .now) (b .args .w) in
-    ap (λ (q : Out). atTurn q (256 * b .args .w .rng) (256 * (b .args .w .val % 2 ^ 23)) (b .args .w .total + 8)) (c .before .before .carry-out .ensures)
+    let w = b .args .w in
+    ap (λ (q : Out). atTurn q (256 * w .rng) (256 * (w .val % 2 ^ 23)) (w .total + 8)) (c .before .before .carry-out-run .ensures)
     ∙ turn-is o
 
 pub turn-spec : {M : Type 1} → statement M
-turn-spec = tie.close (tie.spec mul-rng mul-val add-total carry-out-requires same-length returns)
+turn-spec =
+    tie.close
+    (tie.spec
+    (λ c. search needs) (λ c. search needs) (λ c. search needs) (λ c κs. search needs) (λ c. search needs) returns)

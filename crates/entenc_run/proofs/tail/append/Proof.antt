@@ -6,27 +6,9 @@ use Rattle.entcode.specs.CoreLaws.{append-step}
 use Rattle.entcode.specs.Flat.{Out, out}
 use Rattle.entcode.specs.FlatLaws.{append-is}
 use Rattle.entcode.specs.WriterFacts.{atWindow}
-use Rattle.entenc_run.proofs.Window.{window-sum}
+use Rattle.entcode.proofs.Window.{window-sum}
 use Rattle.entenc_run.proofs.tail.append.Statement.{statement}
 use Rattle.entenc_run.proofs.tail.append.Tie as tie
-
-add-total : tie.Need-add-total
-add-total c = search needs
-
-spare-for-requires : tie.Need-spare-for-requires
-spare-for-requires c κs = search needs
-
-shl-wrapping-add-u32 : tie.Need-shl-wrapping-add-u32
-shl-wrapping-add-u32 c = search needs
-
-wrapping-add-u32-requires : tie.Need-wrapping-add-u32-requires
-wrapping-add-u32-requires c κs = search needs
-
-add-q : tie.Need-add-q
-add-q c = search needs
-
-same-length : tie.Need-same-length
-same-length c = search needs
 
 returns : tie.Need-returns
 returns c =
@@ -48,10 +30,5 @@ pub append-spec : {M : Type 1} → statement M
 append-spec =
     tie.close
     (tie.spec
-    add-total
-    spare-for-requires
-    shl-wrapping-add-u32
-    wrapping-add-u32-requires
-    add-q
-    same-length
-    returns)
+    (λ c. search needs) (λ c κs. search needs) (λ c. search needs) (λ c κs. search needs) (λ c. search needs)
+    (λ c. search needs) returns)

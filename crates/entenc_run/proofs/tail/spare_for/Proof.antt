@@ -7,20 +7,11 @@ use Rattle.entcode.specs.FlatLaws.{spared-full, spared-free}
 use Rattle.entenc_run.proofs.tail.spare_for.Statement.{statement}
 use Rattle.entenc_run.proofs.tail.spare_for.Tie as tie
 
-add-if1 : tie.Need-add-if1
-add-if1 c = search needs
-
-flush-all-requires : tie.Need-flush-all-requires
-flush-all-requires c κs = search needs
-
-same-length : tie.Need-same-length
-same-length c = search needs
-
 returns : tie.Need-returns
 returns c =
     let b = c .before .before .before .before .before .before .before in
     let o = out (b .args .buf .now) (b .args .w) in
-    let f = c .before .before .flush-all .ensures in
+    let f = c .before .before .flush-all-run .ensures in
     record {
       is = f .is ∙ spared-full o (b .args .n) (c .before .before .before .before .if1 .taken);
       free = omega (arith, f .free, b .pre .1);
@@ -34,4 +25,4 @@ returns-2 c =
     record { is = spared-free o (b .args .n) (b .pre .0 .roomy .fair) (c .if1 .left); free = c .if1 .left; windowed = b .pre .0 }
 
 pub spare-for-spec : {M : Type 1} → statement M
-spare-for-spec = tie.close (tie.spec add-if1 flush-all-requires same-length returns returns-2)
+spare-for-spec = tie.close (tie.spec (λ c. search needs) (λ c κs. search needs) (λ c. search needs) returns returns-2)
