@@ -10,7 +10,7 @@ ghost use Rattle.silk.specs.IndexSyntax.{bookOf};
 ghost use Rattle.silk.specs.IndexParts.{Upto, firstMost};
 ghost use Rattle.silk.specs.IndexSays.{WritesGains, WritesSpectrum, WritesPitch};
 ghost use Rattle.silk.specs.IndexFields.{WritesKind, Writes};
-use index_pitch::contour_size;
+use index_layout::contour_size;
 use ranges::all_in_range;
 use silk::Indices;
 

@@ -1,0 +1,24 @@
+-- `index_layout::contour_start` meets its contract. Assumes nothing.
+use borrow.Author.Tests.{eq-eqb, ne-eqb}
+use Rattle.silk.specs.IndexRows.{contourStart}
+use Rattle.index_layout.proofs.contour_start.Statement.{statement}
+use Rattle.index_layout.proofs.contour_start.Tie as tie
+
+returns : tie.Need-returns
+unfolding contourStart
+returns c = rw (eq-eqb _ _ (c .before .if1 .taken), eq-eqb _ _ (c .if2 .taken))
+
+returns-2 : tie.Need-returns-2
+unfolding contourStart
+returns-2 c = rw (eq-eqb _ _ (c .before .if1 .taken), ne-eqb _ _ (c .if2 .left))
+
+returns-3 : tie.Need-returns-3
+unfolding contourStart
+returns-3 c = rw (ne-eqb _ _ (c .before .if1 .left), eq-eqb _ _ (c .if3 .taken))
+
+returns-4 : tie.Need-returns-4
+unfolding contourStart
+returns-4 c = rw (ne-eqb _ _ (c .before .if1 .left), ne-eqb _ _ (c .if3 .left))
+
+pub contour-start-spec : {M : Type 1} → statement M
+contour-start-spec = tie.close (tie.spec returns returns-2 returns-3 returns-4)

@@ -1,0 +1,60 @@
+-- `index_pitch_read::period_index` meets its contract: the period, then a filter for each subframe. Assumes nothing.
+use borrow.Author.Needs.{needs}
+use mathlib.Core.Path.{_≡_}
+use native.Mathlib.Omega.{arith}
+use lib.IntN.{pos}
+use mir.Syntax.{w8}
+use mir.Val.{toZ}
+use mir.Facts.{toZ-pos}
+use Rattle.tree.specs.Ran.{ran-ask}
+use Rattle.silk.specs.IndexRows.{period-row}
+use Rattle.silk.specs.IndexSyntax.{period}
+use Rattle.index_pitch_read.proofs.period_index.Statement.{statement}
+use Rattle.index_pitch_read.proofs.period_index.Tie as tie
+
+sub-ec-dec-icdf8-run : tie.Need-sub-ec-dec-icdf8-run
+sub-ec-dec-icdf8-run c = search needs
+
+part-ec-dec-icdf8-run-start : tie.Need-part-ec-dec-icdf8-run-start
+part-ec-dec-icdf8-run-start c = search needs
+
+part-ec-dec-icdf8-run-end : tie.Need-part-ec-dec-icdf8-run-end
+part-ec-dec-icdf8-run-end c = search needs
+
+ec-dec-icdf8-run-requires : tie.Need-ec-dec-icdf8-run-requires
+ec-dec-icdf8-run-requires c κs =
+    let z = c .before .before .before in
+    (z .pre .0 .core, (omega arith, period-row (z .pre .0 .rows) .good))
+
+cast-out : tie.Need-cast-out
+cast-out c = search needs
+
+filter-indices-requires : tie.Need-filter-indices-requires
+filter-indices-requires c κs =
+    let z = c .before .before .before .before .before in
+    let a = c .before .ec-dec-icdf8-run in
+    let t = period-row (z .pre .0 .rows) in (
+      record { core = a .ensures .core; few = omega (arith, a .ensures .most, z .pre .0 .few); rows = z .pre .0 .rows },
+      (omega (arith, a .ensures .inside, t .size), z .pre .1),
+    )
+
+returns : tie.Need-returns
+unfolding period
+returns c =
+    let z = c .before .before .before .before .before .before in
+    let a = c .before .before .ec-dec-icdf8-run in
+    let t = period-row (z .pre .0 .rows) in
+    let e : toZ w8 (a .result .value) ≡ pos (a .result .value) = toZ-pos w8 {n = a .result .value} (omega (arith, a .ensures .inside, t .size)) in
+    ran-ask (t .is) (a .ensures) (rw e at (c .filter-indices .ensures))
+
+pub period-index-spec : {M : Type 1} → statement M
+period-index-spec =
+    tie.close
+    (tie.spec
+    sub-ec-dec-icdf8-run
+    part-ec-dec-icdf8-run-start
+    part-ec-dec-icdf8-run-end
+    ec-dec-icdf8-run-requires
+    cast-out
+    filter-indices-requires
+    returns)

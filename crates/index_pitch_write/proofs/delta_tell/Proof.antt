@@ -1,0 +1,52 @@
+-- `index_pitch_write::delta_tell` meets its contract: symbol 0 where the lag is relative, else nothing. Assumes nothing.
+use borrow.Author.Needs.{needs}
+use mathlib.Core.Path.{refl}
+use native.Mathlib.Omega.{arith}
+use Rattle.tree.specs.Told.{midway-start, midway-asked}
+use Rattle.silk.specs.IndexRows.{delta-lag-row}
+use Rattle.silk.specs.IndexSyntax.{lag}
+use Rattle.index_pitch_write.proofs.delta_tell.Statement.{statement}
+use Rattle.index_pitch_write.proofs.delta_tell.Tie as tie
+
+sub-ec-enc-icdf8-run : tie.Need-sub-ec-enc-icdf8-run
+sub-ec-enc-icdf8-run c = search needs
+
+part-ec-enc-icdf8-run-start : tie.Need-part-ec-enc-icdf8-run-start
+part-ec-enc-icdf8-run-start c = search needs
+
+part-ec-enc-icdf8-run-end : tie.Need-part-ec-enc-icdf8-run-end
+part-ec-enc-icdf8-run-end c = search needs
+
+ec-enc-icdf8-run-requires : tie.Need-ec-enc-icdf8-run-requires
+ec-enc-icdf8-run-requires c κs =
+    let z = c .before .before .before .before .before in
+    let t = delta-lag-row (z .pre .rows) in
+    (z .pre .core, (omega (arith, z .pre .few), (t .good, t .writable _ (omega arith))))
+
+same-length : tie.Need-same-length
+same-length c = search needs
+
+returns : tie.Need-returns
+unfolding lag
+returns c =
+    let z = c .before .before .before .before .before .before .before .before in
+    let a = c .before .before .ec-enc-icdf8-run in
+    λ khz before x.
+    rw (c .before .before .before .before .before .if1 .taken)
+    (midway-asked (midway-start {n = 0} (z .pre .core)) (delta-lag-row (z .pre .rows) .is) refl (a .ensures) (omega arith))
+
+returns-2 : tie.Need-returns-2
+unfolding lag
+returns-2 c = λ khz before x. rw (c .if1 .left) (midway-start (c .before .before .before .pre .core))
+
+pub delta-tell-spec : {M : Type 1} → statement M
+delta-tell-spec =
+    tie.close
+    (tie.spec
+    sub-ec-enc-icdf8-run
+    part-ec-enc-icdf8-run-start
+    part-ec-enc-icdf8-run-end
+    ec-enc-icdf8-run-requires
+    same-length
+    returns
+    returns-2)

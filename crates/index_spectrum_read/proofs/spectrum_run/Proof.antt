@@ -1,0 +1,115 @@
+-- `index_spectrum_read::spectrum_run` meets its contract: the first index, then a residual for each place of its book. Assumes nothing.
+use borrow.Author.Needs.{needs}
+use Prim.Native.Nat.{_+_, _*_, _/_, _<_}
+use mathlib.Core.Path.{_≡_}
+use native.Mathlib.Omega.{arith}
+use lib.IntN.{pos}
+use lib.ListN.{length}
+use mir.Syntax.{w8}
+use mir.Val.{toZ}
+use mir.Facts.{toZ-pos}
+use Rattle.tree.specs.Ran.{ran-ask}
+use Rattle.silk.specs.Record.{withNlsf}
+use Rattle.silk.specs.IndexRows.{rate-most, first-index-row}
+use Rattle.silk.specs.IndexSyntax.{bookOf, spectrum}
+use Rattle.silk.specs.IndexSteps.{residuals-picked}
+use Rattle.silk.specs.IndexParts.{order-most}
+use Rattle.index_spectrum_read.proofs.spectrum_run.Statement.{statement}
+use Rattle.index_spectrum_read.proofs.spectrum_run.Tie as tie
+
+-- which of the four rows it is
+below-four : (z : tie.Start) → z .args .khz / 16 * 2 + z .args .signal / 2 < 4
+below-four z = omega (arith, rate-most (z .pre .1 .0), z .pre .1 .1)
+
+mul-k : tie.Need-mul-k
+mul-k c = search needs
+
+add-k : tie.Need-add-k
+add-k c = search needs
+
+cast-k : tie.Need-cast-k
+cast-k c = search needs
+
+mul-start : tie.Need-mul-start
+mul-start c = search needs
+
+add-start : tie.Need-add-start
+add-start c = search needs
+
+add-end : tie.Need-add-end
+add-end c = search needs
+
+sub-ec-dec-icdf8-run : tie.Need-sub-ec-dec-icdf8-run
+sub-ec-dec-icdf8-run c = search needs
+
+part-ec-dec-icdf8-run-start : tie.Need-part-ec-dec-icdf8-run-start
+part-ec-dec-icdf8-run-start c = search needs
+
+part-ec-dec-icdf8-run-end : tie.Need-part-ec-dec-icdf8-run-end
+part-ec-dec-icdf8-run-end c =
+    let z = c .before .before in
+    omega (arith, below-four z, z .pre .0 .rows .size)
+
+ec-dec-icdf8-run-requires : tie.Need-ec-dec-icdf8-run-requires
+ec-dec-icdf8-run-requires c κs =
+    let z = c .before .before .before in
+    (z .pre .0 .core, (omega arith, first-index-row (z .pre .0 .rows) _ (below-four z) .good))
+
+cast-out : tie.Need-cast-out
+cast-out c = search needs
+
+element-set-from-out : tie.Need-element-set-from-out
+element-set-from-out c = search needs
+
+selectors-run-requires : tie.Need-selectors-run-requires
+selectors-run-requires c κs = search needs
+
+slice-aggregate-residual-indices : tie.Need-slice-aggregate-residual-indices
+slice-aggregate-residual-indices c = search needs
+
+order-of-requires : tie.Need-order-of-requires
+order-of-requires c κs = search needs
+
+residual-indices-requires : tie.Need-residual-indices-requires
+residual-indices-requires c κs =
+    let z = c .before .before .before .before .before .before .before .before in
+    let a = c .before .before .before .before .ec-dec-icdf8-run in
+    let s : length (c .before .before .selectors-run .result) ≡ 8 = search needs in
+    let o = c .order-of .ensures in (
+      record { core = a .ensures .core; few = omega (arith, a .ensures .most, z .pre .0 .few); rows = z .pre .0 .rows },
+      (z .pre .1 .0, omega (arith, o, order-most (z .args .khz)), omega (arith, o, order-most (z .args .khz))),
+    )
+
+returns : tie.Need-returns
+unfolding spectrum
+returns c =
+    let z = c .before .before .before .before .before .before .before .before .before in
+    let a = c .before .before .before .before .before .ec-dec-icdf8-run in
+    let s = c .before .before .before .selectors-run in
+    let t = first-index-row (z .pre .0 .rows) _ (below-four z) in
+    let w : toZ w8 (a .result .value) ≡ pos (a .result .value) = toZ-pos w8 {n = a .result .value} (omega (arith, a .ensures .inside, t .size)) in
+    let x = withNlsf (z .args .x) 0 (pos (a .result .value)) in
+    let e = residuals-picked (z .args .khz) (s .result) _ (bookOf (z .args .khz) .order) 0 x (λ j l. s .ensures j (omega arith)) in
+    ran-ask {n = 512} (t .is) (a .ensures) (rw (w, c .before .order-of .ensures, e) at (c .residual-indices .ensures))
+
+pub spectrum-run-spec : {M : Type 1} → statement M
+spectrum-run-spec =
+    tie.close
+    (tie.spec
+    mul-k
+    add-k
+    cast-k
+    mul-start
+    add-start
+    add-end
+    sub-ec-dec-icdf8-run
+    part-ec-dec-icdf8-run-start
+    part-ec-dec-icdf8-run-end
+    ec-dec-icdf8-run-requires
+    cast-out
+    element-set-from-out
+    selectors-run-requires
+    slice-aggregate-residual-indices
+    order-of-requires
+    residual-indices-requires
+    returns)
