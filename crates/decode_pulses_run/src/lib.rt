@@ -10,7 +10,7 @@ ghost use Rattle.silk.specs.PulsePlaces.{mags};
 ghost use Rattle.silk.specs.PulseBlocks.{Small, Sixteen, Held, rows16, Split, Lowered, Signed};
 ghost use Rattle.decode_pulses_run.specs.Excited.{Excited};
 use entcode::Dec;
-use pulse_counts::BlocksRead;
+use pulse_counts_read::BlocksRead;
 
 // The magnitudes before low bits of n blocks.
 fn shells(packet: &[u8], rows: &[u8], x: BlocksRead, pulses: &mut [i16], n: usize) -> Dec
@@ -26,7 +26,7 @@ fn shells(packet: &[u8], rows: &[u8], x: BlocksRead, pulses: &mut [i16], n: usiz
         let at = i * 16;
         let end = at + 16;
         let c = x.counts[i];
-        d = shell_coder::silk_shell_decoder_run(packet, d, rows, &mut pulses[at..end], c as u32);
+        d = pulse_shell_read::silk_shell_decoder_run(packet, d, rows, &mut pulses[at..end], c as u32);
         i += 1;
     }
     d
@@ -46,7 +46,7 @@ fn lows(packet: &[u8], from: Dec, rows: &[u8], x: BlocksRead, pulses: &mut [i16]
         let at = i * 16;
         let end = at + 16;
         let j = x.lows[i];
-        d = pulse_lows::block_lows_run(packet, d, &rows[823..825], &mut pulses[at..end], j as u32);
+        d = pulse_lows_read::block_lows_run(packet, d, &rows[823..825], &mut pulses[at..end], j as u32);
         i += 1;
     }
     d
@@ -74,10 +74,10 @@ fn signs(
     while i < n {
         let at = i * 16;
         let end = at + 16;
-        let row = code_signs::sign_row_at_run(signal, offset, x.counts[i]);
+        let row = pulse_row_places::sign_row_at_run(signal, offset, x.counts[i]);
         let last = row + 2;
         let empty = (x.counts[i] == 0) & (x.lows[i] == 0);
-        d = code_signs::silk_decode_signs_run(
+        d = pulse_signs_read::silk_decode_signs_run(
             packet,
             d,
             &rows[row..last],
@@ -109,7 +109,7 @@ pub fn silk_decode_pulses_run(
     let end = at + 9;
     let a = entdec_run::ec_dec_icdf8_run(packet, d, &rows[at..end]);
     let level = a.value as usize;
-    let x = pulse_counts::counts_run(packet, a.state, rows, level, n);
+    let x = pulse_counts_read::counts_run(packet, a.state, rows, level, n);
     let s = shells(packet, rows, x, pulses, n);
     let l = lows(packet, s, rows, x, pulses, n);
     signs(packet, l, rows, x, pulses, n, signal, offset)

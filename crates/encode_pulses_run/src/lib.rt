@@ -29,7 +29,7 @@ fn block_splits(buf: &mut [u8], w: Enc, rows: &[u8], part: &[i16], c: u32, j: u3
 {
     let mut places = [0u8; 16];
     pulse_shifts::shrink_run(&mut places, part, j);
-    shell_coder::encode::silk_shell_encoder_run(buf, w, rows, &places, c)
+    pulse_shell_write::silk_shell_encoder_run(buf, w, rows, &places, c)
 }
 
 // The splits of n blocks.
@@ -69,7 +69,7 @@ fn lows(buf: &mut [u8], from: Enc, rows: &[u8], pulses: &[i16], x: Plan, n: usiz
         let at = i * 16;
         let end = at + 16;
         let j = x.lows[i];
-        w = pulse_lows::encode::block_lows_tell_run(
+        w = pulse_lows_write::block_lows_tell_run(
             buf,
             w,
             &rows[823..825],
@@ -106,9 +106,9 @@ fn block_signs(
     ensures { λ r. ⌜ Told (out (now (buf .entry)) w) (now (part .entry)) (each (pos 0) (sign (signRowOf signal offset c)) (map natAbs (now (part .entry)))) 256 (out (now (buf .exit)) r) ⌝ }
 {
     if some_pulses(c, j) {
-        let row = code_signs::sign_row_at_run(signal, offset, c);
+        let row = pulse_row_places::sign_row_at_run(signal, offset, c);
         let last = row + 2;
-        return code_signs::encode::silk_encode_signs_run(buf, w, &rows[row..last], part);
+        return pulse_signs_write::silk_encode_signs_run(buf, w, &rows[row..last], part);
     }
     w
 }
@@ -168,7 +168,7 @@ pub fn silk_encode_pulses_run(
     let counts = x.counts;
     let shifts = x.lows;
     let level = rate as usize;
-    let c = pulse_counts::encode::counts_tell_run(buf, a, rows, level, counts, shifts, n);
+    let c = pulse_counts_write::counts_tell_run(buf, a, rows, level, counts, shifts, n);
     let s = splits(buf, c, rows, pulses, x, n);
     let l = lows(buf, s, rows, pulses, x, n);
     signs(buf, l, rows, pulses, x, n, signal, offset)

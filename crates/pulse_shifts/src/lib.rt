@@ -6,7 +6,7 @@ ghost use Rattle.silk.specs.PulseSyntax.{total};
 ghost use Rattle.silk.specs.PulseBlocks.{rows16};
 ghost use Rattle.silk.specs.PulseWriting.{shiftedBy};
 ghost use Rattle.silk.specs.PulsePlans.{Shift, Planned};
-use pulse_lows::encode::magnitude;
+use pulse_magnitude::magnitude;
 
 // A block's count before low bits and its shift: 0 and 11 for a block that has none.
 pub struct BlockShift {

@@ -1,0 +1,154 @@
+-- `all_signs` meets its contract. The invariant: the places up to the last of t pulses have their signs, and the tree has come as far. Assumes nothing.
+use borrow.Author.Needs.{needs, sfits-of}
+use Prim.Native.Nat.{ℕ, _-_, _<_, _≤_}
+use native.Mathlib.Numerals.{add-one}
+use native.Mathlib.Omega.{arith}
+use mathlib.Core.Path.{_≡_, _∙_}
+use mathlib.Core.List.{List}
+use lib.IntN.{ℤ, pos, natAbs}
+use lib.ListN.{length, getD, length-set, length-map}
+use mir.Facts.{toZ-ofZ}
+use mir.Syntax.{w16}
+use mir.Val.{SFits}
+use Rattle.entcode.specs.declared.Dec.{Dec}
+use Rattle.silk.specs.PulsePlaces.{mags, going-start, going-next}
+use Rattle.pulse_signs_read.specs.Gathered.{behind, Gathered}
+use Rattle.pulse_signs_read.proofs.Signing.{Signing, signing-mag, signing-natural, signing-bare, signing-ended}
+use Rattle.pulse_signs_read.proofs.all_signs.Statement.{statement}
+use Rattle.pulse_signs_read.proofs.all_signs.Tie as tie
+
+record Turn (packet row : List ℕ) (s₀ : List ℤ) (at : List ℕ) (n : ℕ) (d₀ : Dec) (s : List ℤ) (d : Dec) (t : ℕ) : Type 0 where
+  pub gathered : Gathered s₀ at n 16
+  pub going : Signing packet row s₀ d₀ s d (behind at t)
+  pub to : t ≤ n
+  pub size : length s ≡ 16
+
+-- up to the next pulse
+reached : (packet row : List ℕ) (s₀ : List ℤ) (at : List ℕ) (n : ℕ) (d₀ : Dec) (s : List ℤ) (d : Dec) (t : ℕ) → Turn packet row s₀ at n d₀ s d t → t < n
+    → length s₀ ≡ 16 → Signing packet row s₀ d₀ s d (getD at t 0)
+reached packet row s₀ at n d₀ s d t i l z =
+    let p = i .gathered .next t l in
+    signing-bare packet row s₀ d₀ s d (behind at t) (getD at t 0) (p .from) (omega (arith, i .gathered .below t l)) (p .bare) (i .going)
+
+abbrev Inv-loop : tie.InvT-loop
+Inv-loop packet row places₀ at n d₀ t₀ places d t = Turn packet row places₀ at n d₀ places d t
+
+abbrev μ-loop : tie.MeasureT-loop
+μ-loop packet row places₀ at n d₀ t₀ places d t = n - t
+
+pulse-places-requires : tie.Need-pulse-places-requires Inv-loop μ-loop
+pulse-places-requires c κs = search needs
+
+loop-holds : tie.Need-loop-holds Inv-loop μ-loop
+loop-holds c =
+    let b = c .before .before .before .before .before in
+    record {
+      gathered = c .pulse-places .ensures;
+      going = going-start _ _ _ _ _ _ _ _ (b .pre .1 .1 .1 .0) (b .pre .0);
+      to = omega arith;
+      size = b .pre .1 .1 .1 .1;
+    }
+
+array-read-k : tie.Need-array-read-k Inv-loop μ-loop
+array-read-k c = search needs
+
+cast-k : tie.Need-cast-k Inv-loop μ-loop
+cast-k c = let l = c .before .loop in omega (arith, l .inv .gathered .below (l .t) (c .loop-test .taken), l .inv .size)
+
+mul-m : tie.Need-mul-m Inv-loop μ-loop
+mul-m c = let l = c .before .loop in omega (arith, l .inv .gathered .below (l .t) (c .loop-test .taken), l .inv .size)
+
+slice-copy-out-m : tie.Need-slice-copy-out-m Inv-loop μ-loop
+slice-copy-out-m c = let l = c .before .loop in omega (arith, l .inv .gathered .below (l .t) (c .loop-test .taken), l .inv .size)
+
+decode-sign-requires : tie.Need-decode-sign-requires Inv-loop μ-loop
+decode-sign-requires c κs =
+    let b = c .before .before .before .before .before .before .before .before in
+    let l = c .before .before .loop in
+    let h = c .before .loop-test .taken in
+    let k = getD (c .before .before .before .pulse-places .last .1 .0) (l .t) 0 in
+    let g = reached _ _ _ _ _ _ (l .places) (l .d) (l .t) (l .inv) h (b .pre .1 .1 .1 .1) in
+    let m : k < length (b .args .places .now) = omega (arith, l .inv .gathered .below (l .t) h, b .pre .1 .1 .1 .1) in
+    let f : SFits w16 (getD (l .places) k (pos 0)) = sfits-of (c .m .given) in
+    let n = l .inv .gathered .next (l .t) h .some in (
+      g .through .core,
+      (
+        omega (arith, g .through .most, m, b .pre .1 .0, b .pre .1 .1 .1 .1),
+        (
+          b .pre .1 .1 .0,
+          rw (toZ-ofZ f)
+              (signing-natural _ _ (b .args .places .now) _ (l .places) (l .d) k g m, omega (arith, n, signing-mag _ _ (b .args .places .now) _ (l .places) (l .d) k g m)),
+        ),
+      ),
+    )
+
+mul-pulse : tie.Need-mul-pulse Inv-loop μ-loop
+mul-pulse c =
+    let l = c .before .before .before .before .loop in
+    omega (arith, l .inv .gathered .below (l .t) (c .before .before .before .loop-test .taken), l .inv .size)
+
+slice-set-from-pulse : tie.Need-slice-set-from-pulse Inv-loop μ-loop
+slice-set-from-pulse c =
+    let l = c .before .before .before .before .loop in
+    omega (arith, l .inv .gathered .below (l .t) (c .before .before .before .loop-test .taken), l .inv .size)
+
+add-t : tie.Need-add-t Inv-loop μ-loop
+add-t c = search needs
+
+loop-less : tie.Need-loop-less Inv-loop μ-loop
+loop-less c = search needs
+
+loop-again : tie.Need-loop-again Inv-loop μ-loop
+loop-again c =
+    let b = c .before .before .before .before .before .before .before .before .before .before .before in
+    let l = c .before .before .before .before .before .loop in
+    let h = c .before .before .before .before .loop-test .taken in
+    let k = getD (c .before .before .before .before .before .before .pulse-places .last .1 .0) (l .t) 0 in
+    let g = reached _ _ _ _ _ _ (l .places) (l .d) (l .t) (l .inv) h (b .pre .1 .1 .1 .1) in
+    let a = c .before .before .decode-sign in
+    let f : SFits w16 (getD (l .places) k (pos 0)) = sfits-of (c .before .before .before .m .given) in
+    let p : SFits w16 (a .result .pulse) = search needs in
+    let m : k < length (mags (b .args .places .now)) = omega (arith, l .inv .gathered .below (l .t) h, b .pre .1 .1 .1 .1, length-map (b .args .places .now) natAbs) in
+    rw (toZ-ofZ p, add-one)
+    (record {
+      gathered = l .inv .gathered;
+      going = rw add-one at (going-next _ _ _ _ _ _ _ (l .places) (l .d) k g m (a .result .pulse) (a .result .state) 16 (omega arith) (rw (toZ-ofZ f) at (a .ensures)));
+      to = omega (arith, h);
+      size = length-set (l .places) k (a .result .pulse) ∙ l .inv .size;
+    })
+
+same-length : tie.Need-same-length Inv-loop μ-loop
+same-length c = search needs
+
+returns : tie.Need-returns Inv-loop μ-loop
+returns c =
+    let b = c .before .before .before .before .before .before .before in
+    let l = c .before .loop in
+    let i = l .inv in
+    let e : l .t ≡ c .before .before .pulse-places .result = omega (arith, i .to) in
+    let r = i .gathered in
+    let s = b .args .places .now in
+    let n = b .pre .1 .1 .1 .1 in
+    let g = rw e at (i .going) in
+    signing-ended _ _ s _ (l .places) (l .d) (signing-bare _ _ s _ (l .places) (l .d) _ 16 (r .to) (omega (arith, n)) (r .rest) g) n
+
+pub all-signs-spec : {M : Type 1} → statement M
+all-signs-spec =
+    tie.close
+    (tie.spec
+    Inv-loop
+    μ-loop
+    pulse-places-requires
+    loop-holds
+    array-read-k
+    cast-k
+    mul-m
+    slice-copy-out-m
+    decode-sign-requires
+    mul-pulse
+    slice-set-from-pulse
+    add-t
+    loop-less
+    loop-again
+    same-length
+    returns)
