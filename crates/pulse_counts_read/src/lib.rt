@@ -1,5 +1,5 @@
-// The pulse counts of a frame's blocks, read (RFC 6716, section 4.2.7.8.2): the first loop of the crate's decode_pulses.rs. The pulses' rows are
-// lent whole.
+// The pulse counts of a frame's blocks, read (RFC 6716, section 4.2.7.8.2): the first loop of the crate's decode_pulses.rs. The pulses'
+// rows are lent whole.
 ghost use mathlib.Core.Path.{_≡_};
 ghost use Prim.Native.Nat.{_^_, _<_, _≤_};
 ghost use Rattle.lists.specs.AtMost.{AtMost};

@@ -1,5 +1,5 @@
-// The pulse counts of a frame's blocks, written as the reader reads them (RFC 6716, section 4.2.7.8.2): a block's sum of pulses before low bits (the
-// crate's sum_pulses), behind a 17 for each of its low bits (its nRshifts).
+// The pulse counts of a frame's blocks, written as the reader reads them (RFC 6716, section 4.2.7.8.2): a block's sum of pulses before
+// low bits (the crate's sum_pulses), behind a 17 for each of its low bits (its nRshifts).
 ghost use mathlib.Core.Path.{_≡_};
 ghost use Prim.Native.Nat.{_^_, _<_, _≤_};
 ghost use Rattle.lists.specs.AtMost.{AtMost};
@@ -23,7 +23,9 @@ fn later_tell(buf: &mut [u8], from: Enc, rows: &[u8], sum: u32, lows: u32) -> En
     requires { ⌜ from .total ≤ 2 ^ 29 ⌝ }
     requires { ⌜ PulseRows (now rows) ⌝ }
     requires { ⌜ (sum ≤ 16) × (lows ≤ 10) ⌝ }
-    ensures { λ r. ⌜ Told (out (now (buf .entry)) from) (record { count = sum; lows = lows }) (lowCounts 10 0 (countSaid 0 (record { count = sum; lows = lows }))) 160 (out (now (buf .exit)) r) ⌝ }
+    ensures { λ r.
+        ⌜ Told (out (now (buf .entry)) from) (record { count = sum; lows = lows })
+        (lowCounts 10 0 (countSaid 0 (record { count = sum; lows = lows }))) 160 (out (now (buf .exit)) r) ⌝ }
 {
     let mut w = from;
     let mut j: u32 = 0;

@@ -1,5 +1,5 @@
-// The low bits of a block's pulses, read (RFC 6716, section 4.2.7.8.4): for each place all of them, highest first. The third loop of the crate's
-// decode_pulses.rs. The row is lent.
+// The low bits of a block's pulses, read (RFC 6716, section 4.2.7.8.4): for each place all of them, highest first. The third loop of the
+// crate's decode_pulses.rs. The row is lent.
 ghost use mathlib.Core.Path.{_≡_};
 ghost use Prim.Native.Nat.{_+_, _^_, _<_, _≤_};
 ghost use lib.ListN.{length};

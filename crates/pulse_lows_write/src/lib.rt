@@ -37,7 +37,9 @@ fn all_lows_tell(buf: &mut [u8], from: Enc, row: &[u8], pulses: &[i16], n: u32) 
     requires { ⌜ from .total ≤ 2 ^ 28 ⌝ }
     requires { ⌜ (now row ≡ lowBitRow) × (n ≤ 10) ⌝ }
     requires { ⌜ length (now pulses) ≡ 16 ⌝ }
-    ensures { λ r. ⌜ Told (out (now (buf .entry)) from) (map natAbs (now (pulses .entry))) (each 0 (lowBits n) (shiftedBy n (now (pulses .entry)))) 2560 (out (now (buf .exit)) r) ⌝ }
+    ensures { λ r.
+        ⌜ Told (out (now (buf .entry)) from) (map natAbs (now (pulses .entry)))
+        (each 0 (lowBits n) (shiftedBy n (now (pulses .entry)))) 2560 (out (now (buf .exit)) r) ⌝ }
 {
     let mut w = from;
     let mut k: usize = 0;
@@ -56,7 +58,9 @@ pub fn block_lows_tell_run(buf: &mut [u8], w: Enc, row: &[u8], pulses: &[i16], n
     requires { ⌜ w .total ≤ 2 ^ 28 ⌝ }
     requires { ⌜ (now row ≡ lowBitRow) × (n ≤ 10) ⌝ }
     requires { ⌜ length (now pulses) ≡ 16 ⌝ }
-    ensures { λ r. ⌜ Told (out (now (buf .entry)) w) (map natAbs (now (pulses .entry))) (each 0 (lowBits n) (shiftedBy n (now (pulses .entry)))) 2560 (out (now (buf .exit)) r) ⌝ }
+    ensures { λ r.
+        ⌜ Told (out (now (buf .entry)) w) (map natAbs (now (pulses .entry)))
+        (each 0 (lowBits n) (shiftedBy n (now (pulses .entry)))) 2560 (out (now (buf .exit)) r) ⌝ }
 {
     if n == 0 {
         return w;

@@ -1,5 +1,5 @@
-// Where the rows that a block's pulses are coded by stand in the pulses' rows (RFC 6716, section 4.2.7.8): of its count behind low bits, of its
-// splits, of its signs. Reader and writer take them from here.
+// Where the rows that a block's pulses are coded by stand in the pulses' rows (RFC 6716, section 4.2.7.8): of its count behind low bits,
+// of its splits, of its signs. Reader and writer take them from here.
 ghost use mathlib.Core.Path.{_≡_};
 ghost use mathlib.Core.Bool.{cond};
 ghost use mathlib.Core.List.{flatten};

@@ -13,18 +13,29 @@ use Rattle.entcode.specs.declared.Dec.{Dec}
 use Rattle.entcode.specs.ReaderLaws.{Core}
 use Rattle.tree.specs.Ran.{Ran}
 use Rattle.silk.specs.PulseSyntax.{split, shell}
-use Rattle.silk.specs.PulseSteps.{Placed, halves}
+use Rattle.silk.specs.PulseSteps.{PulseRows, Placed, halves}
 
 -- how many of p pulses lie in half h, where `left` lie in the first
-abbrev pub halfCount : ℕ → ℕ → ℕ → ℕ
+abbrev halfCount : ℕ → ℕ → ℕ → ℕ
 halfCount left p h = cond (eqb h 0) left (p - left)
 
-pub half-within : (left p h : ℕ) → left ≤ p → halfCount left p h ≤ p
+half-within : (left p h : ℕ) → left ≤ p → halfCount left p h ≤ p
 half-within left p h l = go (eqb h 0)
   where
     go : (t : Bool) → cond t left (p - left) ≤ p
     go true = l
     go false = omega arith
+
+within : (w h : ℕ) → h ≤ 2 → h * w ≤ w + w
+within w zero l = omega arith
+within w (suc zero) l = omega arith
+within w (suc (suc zero)) l = omega arith
+within w (suc (suc (suc h))) l = absurd (omega arith)
+
+one-more : (w h : ℕ) → h < 2 → h * w + w ≡ (h + 1) * w
+one-more w zero l = omega arith
+one-more w (suc zero) l = omega arith
+one-more w (suc (suc h)) l = absurd (omega arith)
 
 -- 2 x w places, each half of 2^k, with `left` of p pulses in the first; a half has at most n bits
 module _ (b : List ℕ) (k w n left p : ℕ) (d₀ : Dec) (s₀ : List ℤ) where
@@ -42,50 +53,80 @@ module _ (b : List ℕ) (k w n left p : ℕ) (d₀ : Dec) (s₀ : List ℤ) wher
   Read (suc zero) s q = Placed b d₀ (shell k left) n s q
   Read (suc (suc h)) s q = Both s q
 
+  next-read : (h : ℕ) (f y : List ℤ) (q z : Dec) → h < 2 → Read h f q → Placed b q (shell k (halfCount left p h)) n y z → Read (h + 1) (f ++ y) z
+  unfolding Read
+  next-read zero f y q z l e r = rw (e .0) (subst (λ (d : Dec). Placed b d (shell k left) n y z) (e .1) r)
+  next-read (suc zero) f y q z l e r = record { one = f; two = y; between = q; is = refl; first = e; second = r }
+  next-read (suc (suc h)) f y q z l e r = absurd (omega arith)
+
+  both-read : (h : ℕ) (f : List ℤ) (q : Dec) → 2 ≤ h → Read h f q → Both f q
+  unfolding Read
+  both-read zero f q l r = absurd (omega arith)
+  both-read (suc zero) f q l r = absurd (omega arith)
+  both-read (suc (suc h)) f q l r = r
+
   pub record Halving (s : List ℤ) (q : Dec) (h : ℕ) : Type 0 where
     front : List ℤ
     is : s ≡ front ++ drop (h * w) s₀
     size : length front ≡ h * w
     read : Read h front q
-    pub to : h ≤ 2
-    pub core : Core b q
-    pub most : q .total ≤ d₀ .total + h * n
+    wide : length s₀ ≡ w + w
+    to : h ≤ 2
+    core : Core b q
+    most : q .total ≤ d₀ .total + h * n
+    pub fewer : left ≤ p
 
-  pub halving-start : Core b d₀ → Halving s₀ d₀ 0
+module _ {b : List ℕ} {k w n left p : ℕ} {d₀ : Dec} {s₀ : List ℤ} where
+  pub halving-start : Core b d₀ → left ≤ p → length s₀ ≡ w + w → Halving b k w n left p d₀ s₀ s₀ d₀ 0
   unfolding Read
-  halving-start c =
-      let e : 0 * w ≡ 0 = omega arith in
-      record { front = []; is = ap (λ (i : ℕ). drop i s₀) (sym e); size = sym e; read = (refl, refl); to = omega arith; core = c; most = omega arith }
+  halving-start c l e =
+      let z : 0 * w ≡ 0 = omega arith in
+      record {
+        front = [];
+        is = ap (λ (i : ℕ). drop i s₀) (sym z);
+        size = sym z;
+        read = (refl, refl);
+        wide = e;
+        to = omega arith;
+        core = c;
+        most = omega arith;
+        fewer = l;
+      }
 
-  within : (h : ℕ) → h ≤ 2 → h * w ≤ w + w
-  within zero l = omega arith
-  within (suc zero) l = omega arith
-  within (suc (suc zero)) l = omega arith
-  within (suc (suc (suc h))) l = absurd (omega arith)
-
-  one-more : (x h : ℕ) → h < 2 → h * x + x ≡ (h + 1) * x
-  one-more x zero l = omega arith
-  one-more x (suc zero) l = omega arith
-  one-more x (suc (suc h)) l = absurd (omega arith)
-
-  module _ (wide : length s₀ ≡ w + w) (s : List ℤ) (q : Dec) (h : ℕ) (g : Halving s q h) where
+  module _ {s : List ℤ} {q : Dec} {h : ℕ} (g : Halving b k w n left p d₀ s₀ s q h) where
     sized : length s ≡ h * w + (w + w - h * w)
-    sized = ap length (g .is) ∙ length-append (g .front) (drop (h * w) s₀) ∙ rw (g .size, length-drop (h * w) s₀, wide)
+    sized = ap length (g .is) ∙ length-append (g .front) (drop (h * w) s₀) ∙ rw (g .size, length-drop (h * w) s₀, g .wide)
 
-    pub halving-size : length s ≡ w + w
-    halving-size = omega (arith, sized, within h (g .to))
+    pub halving-kept : length s ≡ length s₀
+    halving-kept = omega (arith, sized, within w h (g .to), g .wide)
+
+    -- both are read, behind their split
+    pub halving-end : {d : Dec} → 2 ≤ h → Ran b d (split k p) 16 left d₀ → Placed b d (shell (suc k) p) (16 + (n + (n + 0))) s q
+    halving-end l r =
+        let t = both-read b k w n left p d₀ s₀ h (g .front) q l (g .read) in
+        let two : h ≡ 2 = omega (arith, g .to) in
+        let all : length s₀ ≤ h * w = omega (arith, g .wide, ap (λ (i : ℕ). i * w) two) in
+        let e : s ≡ t .one ++ t .two = g .is ∙ rw (drop-of-length-le s₀ {i = h * w} all) (append-nil (g .front) ∙ t .is) in
+        rw e (halves k p r (t .first) (t .second))
 
     module _ (l : h < 2) where
       pub halving-fits : h * w + w ≤ length s
-      halving-fits = omega (arith, halving-size, one-more w h l, within (h + 1) (omega arith))
+      halving-fits = omega (arith, halving-kept, g .wide, one-more w h l, within w (h + 1) (omega arith))
 
       -- the half at hand
-      pub halving-part : length (take (h * w + w - h * w) (drop (h * w) s)) ≡ w
-      halving-part =
-          length-take-le (h * w + w - h * w) (drop (h * w) s) (omega (arith, length-drop (h * w) s, halving-fits)) ∙ omega arith
+      part : length (take (h * w + w - h * w) (drop (h * w) s)) ≡ w
+      part = length-take-le (h * w + w - h * w) (drop (h * w) s) (omega (arith, length-drop (h * w) s, halving-fits)) ∙ omega arith
+
+      -- what its reader asks for
+      pub halving-asks : {rows : List ℕ} {c m : ℕ} → c ≡ halfCount left p h → d₀ .total + (n + n) ≤ m → PulseRows rows → p ≤ 16
+          → Core b q × ((q .total ≤ m) × (PulseRows rows × ((c ≤ 16) × (length (take (h * w + w - h * w) (drop (h * w) s)) ≡ w))))
+      halving-asks e room r few = (
+        g .core,
+        (omega (arith, g .most, within n h (g .to)), (r, (omega (arith, half-within left p h (g .fewer)), part))),
+      )
 
       ahead : w ≤ length (drop (h * w) s₀)
-      ahead = omega (arith, length-drop (h * w) s₀, wide, one-more w h l, within (h + 1) (omega arith))
+      ahead = omega (arith, length-drop (h * w) s₀, g .wide, one-more w h l, within w (h + 1) (omega arith))
 
       stored : (y : List ℤ) → take (h * w) s ++ (y ++ drop (h * w + w - h * w) (drop (h * w) s)) ≡ (g .front ++ y) ++ drop ((h + 1) * w) s₀
       stored y =
@@ -97,35 +138,18 @@ module _ (b : List ℕ) (k w n left p : ℕ) (d₀ : Dec) (s₀ : List ℤ) wher
           ∙ sym (append-assoc (g .front) y r)
           ∙ ap (λ (t : List ℤ). (g .front ++ y) ++ t) (drop-drop w (h * w) s₀ ∙ ap (λ (i : ℕ). drop i s₀) (one-more w h l))
 
-  next-read : (h : ℕ) (f y : List ℤ) (q z : Dec) → h < 2 → Read h f q → Placed b q (shell k (halfCount left p h)) n y z → Read (h + 1) (f ++ y) z
-  unfolding Read
-  next-read zero f y q z l e r = rw (e .0) (subst (λ (d : Dec). Placed b d (shell k left) n y z) (e .1) r)
-  next-read (suc zero) f y q z l e r = record { one = f; two = y; between = q; is = refl; first = e; second = r }
-  next-read (suc (suc h)) f y q z l e r = absurd (omega arith)
-
-  -- it is read
-  pub halving-next : length s₀ ≡ w + w → (s : List ℤ) (q : Dec) (h : ℕ) → Halving s q h → h < 2 → (y : List ℤ) (z : Dec) → length y ≡ w
-      → Placed b q (shell k (halfCount left p h)) n y z → Halving (take (h * w) s ++ (y ++ drop (h * w + w - h * w) (drop (h * w) s))) z (h + 1)
-  halving-next wide s q h g l y z e r =
-      record {
-        front = g .front ++ y;
-        is = stored wide s q h g l y;
-        size = length-append (g .front) y ∙ omega (arith, g .size, one-more w h l);
-        read = next-read h (g .front) y q z l (g .read) r;
-        to = omega arith;
-        core = r .ran .core;
-        most = omega (arith, r .ran .most, g .most, one-more n h l);
-      }
-
-  -- both are read, behind their split
-  pub halving-end : length s₀ ≡ w + w → (s : List ℤ) (q : Dec) (h : ℕ) → Halving s q h → 2 ≤ h → (d : Dec) → Ran b d (split k p) 16 left d₀
-      → Placed b d (shell (suc k) p) (16 + (n + (n + 0))) s q
-  unfolding Read
-  halving-end wide s q zero g l d r = absurd (omega arith)
-  halving-end wide s q (suc zero) g l d r = absurd (omega arith)
-  halving-end wide s q (suc (suc zero)) g l d r =
-      let t = g .read in
-      let e : s ≡ t .one ++ t .two =
-      g .is ∙ rw (drop-of-length-le s₀ {i = 2 * w} (omega (arith, wide))) (append-nil (g .front) ∙ t .is) in
-      rw e (halves k p r (t .first) (t .second))
-  halving-end wide s q (suc (suc (suc h))) g l d r = absurd (omega (arith, g .to))
+      -- it is read
+      pub halving-next : {c : ℕ} {y : List ℤ} {z : Dec} → c ≡ halfCount left p h → length y ≡ length (take (h * w + w - h * w) (drop (h * w) s))
+          → Placed b q (shell k c) n y z → Halving b k w n left p d₀ s₀ (take (h * w) s ++ (y ++ drop (h * w + w - h * w) (drop (h * w) s))) z (h + 1)
+      halving-next {y = y} {z = z} c e r =
+          record {
+            front = g .front ++ y;
+            is = stored y;
+            size = length-append (g .front) y ∙ omega (arith, g .size, e, part, one-more w h l);
+            read = next-read b k w n left p d₀ s₀ h (g .front) y q z l (g .read) (rw c at r);
+            wide = g .wide;
+            to = omega arith;
+            core = r .ran .core;
+            most = omega (arith, r .ran .most, g .most, one-more n h l);
+            fewer = g .fewer;
+          }

@@ -74,7 +74,8 @@ entries-from zero k s e = none (drop k s) (length-drop k s ∙ omega arith)
     none : (l : List ℕ) → length l ≡ 0 → l ≡ []
     none [] h = refl
     none (x ∷ l) h = absurd (omega arith)
-entries-from (suc n) k s e = drop-cons s k 0 (omega arith) ∙ ap {B = List ℕ} (λ (l : List ℕ). getD s k 0 ∷ l) (entries-from n (suc k) s (omega arith))
+entries-from (suc n) k s e =
+    drop-cons s k 0 (omega arith) ∙ ap {B = List ℕ} (λ (l : List ℕ). getD s k 0 ∷ l) (entries-from n (suc k) s (omega arith))
 
 -- a list is its entries
 pub entries : (n : ℕ) (s : List ℕ) → length s ≡ n → s ≡ entriesFrom n 0 s

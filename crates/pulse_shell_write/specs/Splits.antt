@@ -1,4 +1,5 @@
--- The splits of a block in the order in which they are coded (RFC 6716, section 4.2.7.8.3), each with the places that it splits. Assumes nothing.
+-- The splits of a block in the order in which they are coded (RFC 6716, section 4.2.7.8.3), each with the places that it splits. Assumes
+-- nothing.
 use Prim.Native.Nat.{ℕ, zero, suc, _^_}
 use mathlib.Core.List.{List, [], _∷_, _++_}
 use lib.ListN.{take, drop}

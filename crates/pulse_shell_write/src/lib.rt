@@ -1,5 +1,5 @@
-// The splits of a block's pulses, written as the reader reads them (RFC 6716, section 4.2.7.8.3): all halves are added up first, as by the crate's
-// combine_pulses, so that one loop writes and the state stays where it is.
+// The splits of a block's pulses, written as the reader reads them (RFC 6716, section 4.2.7.8.3): all halves are added up first, as by
+// the crate's combine_pulses, so that one loop writes and the state stays where it is.
 ghost use mathlib.Core.Path.{_≡_};
 ghost use mathlib.Core.Bool.{cond};
 ghost use mathlib.Core.List.{map};
@@ -69,9 +69,9 @@ fn counted(n: usize, c: u8) -> usize
     if c == 0 { n } else { n + 1 }
 }
 
-// How many splits of p pulses in 16 places have pulses. Of each, in their order: where its row starts, all of its pulses, and those in its left half.
-// One that has none is stored too, and the next takes its place: which ones have pulses can't be guessed ahead, and a jump on it would cost more. The
-// arrays are lent, since a struct of them would be copied.
+// How many splits of p pulses in 16 places have pulses. Of each, in their order: where its row starts, all of its pulses, and those in
+// its left half. One that has none is stored too, and the next takes its place: which ones have pulses can't be guessed ahead, and a jump
+// on it would cost more. The arrays are lent, since a struct of them would be copied.
 fn spoken_of(start: &mut [usize], all: &mut [u8], left: &mut [u8], x: &[u8], p: u8) -> usize
     requires { ⌜ Sized (now start) (now all) (now left) ⌝ }
     requires { ⌜ (length (now x) ≡ 16) × (p ≤ 16) × (total (now x) ≡ p) ⌝ }

@@ -1,4 +1,5 @@
-// Which shift each block of a frame's pulses is written with (document 01, "Pulses"): the smallest at which the shifted magnitudes total at most 16.
+// Which shift each block of a frame's pulses is written with (document 01, "Pulses"): the smallest at which the shifted magnitudes total
+// at most 16.
 ghost use mathlib.Core.Path.{_≡_};
 ghost use Prim.Native.Nat.{_*_, _≤_};
 ghost use lib.ListN.{length};

@@ -37,7 +37,13 @@ pub record Gathered (s : List ℤ) (at : List ℕ) (n k : ℕ) : Type 0 where
 
 pub gathered-start : (s : List ℤ) (at : List ℕ) → Gathered s at 0 0
 gathered-start s at =
-    record { count = omega arith; below = λ t h. absurd (omega arith); next = λ t h. absurd (omega arith); to = omega arith; rest = λ i h l. absurd (omega arith) }
+    record {
+      count = omega arith;
+      below = λ t h. absurd (omega arith);
+      next = λ t h. absurd (omega arith);
+      to = omega arith;
+      rest = λ i h l. absurd (omega arith);
+    }
 
 -- a place stored behind the first n leaves them
 behind-kept : (at : List ℕ) (n k t : ℕ) → t ≤ n → behind (set at n k) t ≡ behind at t

@@ -1,5 +1,5 @@
-// The signs of a block's pulses, read (RFC 6716, section 4.2.7.8.5): one for each place that is not 0; symbol 0 is minus. Names as in the crate's
-// code_signs.rs. The block's row is lent.
+// The signs of a block's pulses, read (RFC 6716, section 4.2.7.8.5): one for each place that is not 0; symbol 0 is minus. Names as in the
+// crate's code_signs.rs. The block's row is lent.
 ghost use mathlib.Core.Path.{_≡_};
 ghost use mathlib.Core.Bool.{true};
 ghost use Prim.Native.Nat.{_^_, _<_, _≤_};
@@ -36,8 +36,8 @@ fn decode_sign(packet: &[u8], d: Dec, row: &[u8], m: i16) -> SignRead
     SignRead { pulse: m, state }
 }
 
-// The places that have a pulse, in their order, and how many. Each place is stored, and the next one takes its place where it has none: no jump
-// depends on them.
+// The places that have a pulse, in their order, and how many. Each place is stored, and the next one takes its place where it has none:
+// no jump depends on them.
 fn pulse_places(places: &[i16], at: &mut [u8; 16]) -> usize
     requires { ⌜ (length (now places) ≡ 16) × (length (now at) ≡ 16) ⌝ }
     ensures { λ n. ⌜ Gathered (now (places .entry)) (now (at .exit)) n 16 ⌝ }
@@ -59,7 +59,9 @@ fn all_signs(packet: &[u8], from: Dec, row: &[u8], places: &mut [i16]) -> Dec
     requires { ⌜ from .total ≤ 2 ^ 29 ⌝ }
     requires { ⌜ Icdf 8 (now row) ⌝ }
     requires { ⌜ Natural (now places) × (length (now places) ≡ 16) ⌝ }
-    ensures { λ z. ⌜ Ran (now (packet .entry)) from (each (pos 0) (sign (now (row .entry))) (mags (now (places .entry)))) 256 (now (places .exit)) z ⌝ }
+    ensures { λ z.
+        ⌜ Ran (now (packet .entry)) from (each (pos 0) (sign (now (row .entry))) (mags (now (places .entry)))) 256
+        (now (places .exit)) z ⌝ }
 {
     let mut at = [0u8; 16];
     let n = pulse_places(places, &mut at);
@@ -104,7 +106,9 @@ pub fn silk_decode_signs_run(
     requires { ⌜ from .total ≤ 2 ^ 29 ⌝ }
     requires { ⌜ Icdf 8 (now row) ⌝ }
     requires { ⌜ Natural (now places) × (length (now places) ≡ 16) ⌝ }
-    ensures { λ z. ⌜ Ran (now (packet .entry)) from (each (pos 0) (sign (now (row .entry))) (mags (now (places .entry)))) 256 (now (places .exit)) z ⌝ }
+    ensures { λ z.
+        ⌜ Ran (now (packet .entry)) from (each (pos 0) (sign (now (row .entry))) (mags (now (places .entry)))) 256
+        (now (places .exit)) z ⌝ }
 {
     if empty {
         if no_pulse(places) {

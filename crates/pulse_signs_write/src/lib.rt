@@ -1,5 +1,5 @@
-// The signs of a block's pulses, written as the reader reads them (RFC 6716, section 4.2.7.8.5). Names as in the crate's code_signs.rs. The block's
-// row is lent.
+// The signs of a block's pulses, written as the reader reads them (RFC 6716, section 4.2.7.8.5). Names as in the crate's code_signs.rs.
+// The block's row is lent.
 ghost use mathlib.Core.Path.{_≡_};
 ghost use mathlib.Core.Bool.{cond};
 ghost use mathlib.Core.List.{map};
@@ -53,7 +53,9 @@ pub fn silk_encode_signs_run(buf: &mut [u8], from: Enc, row: &[u8], pulses: &[i1
     requires { ⌜ Icdf 8 (now row) ⌝ }
     requires { ⌜ Writable 8 (now row) 0 × Writable 8 (now row) 1 ⌝ }
     requires { ⌜ length (now pulses) ≡ 16 ⌝ }
-    ensures { λ r. ⌜ Told (out (now (buf .entry)) from) (now (pulses .entry)) (each (pos 0) (sign (now (row .entry))) (map natAbs (now (pulses .entry)))) 256 (out (now (buf .exit)) r) ⌝ }
+    ensures { λ r.
+        ⌜ Told (out (now (buf .entry)) from) (now (pulses .entry))
+        (each (pos 0) (sign (now (row .entry))) (map natAbs (now (pulses .entry)))) 256 (out (now (buf .exit)) r) ⌝ }
 {
     let mut symbols = [0u8; 16];
     let count = signs_said(&mut symbols, pulses);

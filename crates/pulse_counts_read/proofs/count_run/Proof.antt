@@ -42,30 +42,14 @@ Inv-loop packet rows level start end d₀ v₀ j₀ d v j = Going packet d₀ v�
 abbrev μ-loop : tie.MeasureT-loop
 μ-loop packet rows level start end d₀ v₀ j₀ d v j = 10 - j
 
-mul-start : tie.Need-mul-start Inv-loop μ-loop
-mul-start c = search needs
-
-add-start : tie.Need-add-start Inv-loop μ-loop
-add-start c = search needs
-
-add-end : tie.Need-add-end Inv-loop μ-loop
-add-end c = search needs
-
-sub-ec-dec-icdf8-run : tie.Need-sub-ec-dec-icdf8-run Inv-loop μ-loop
-sub-ec-dec-icdf8-run c = search needs
-
-part-ec-dec-icdf8-run-start : tie.Need-part-ec-dec-icdf8-run-start Inv-loop μ-loop
-part-ec-dec-icdf8-run-start c = search needs
-
-part-ec-dec-icdf8-run-end : tie.Need-part-ec-dec-icdf8-run-end Inv-loop μ-loop
-part-ec-dec-icdf8-run-end c = search needs
+abbrev start : tie.At-loop Inv-loop μ-loop → tie.Start Inv-loop μ-loop
+start l = l .before .before .before .before .before .before
 
 ec-dec-icdf8-run-requires : tie.Need-ec-dec-icdf8-run-requires Inv-loop μ-loop
 ec-dec-icdf8-run-requires c κs =
-    let z = c .before .before .before in (
-      z .pre .0,
-      (omega (arith, z .pre .1 .0), rw (count-in (z .args .rows .now) (z .args .level) (z .pre .1 .1 .0) (omega arith)) (row-good (48 + z .args .level) (omega arith))),
-    )
+    let z = c .before .before .before in
+    let e = count-in (z .args .rows .now) (z .args .level) (z .pre .1 .1 .0) (omega arith) in
+    (z .pre .0, (omega (arith, z .pre .1 .0), rw e (row-good (48 + z .args .level) (omega arith))))
 
 loop-holds : tie.Need-loop-holds Inv-loop μ-loop
 loop-holds c =
@@ -82,12 +66,6 @@ loop-holds c =
       most = omega arith;
     }
 
-add-j : tie.Need-add-j Inv-loop μ-loop
-add-j c = search needs
-
-later-at-requires : tie.Need-later-at-requires Inv-loop μ-loop
-later-at-requires c κs = search needs
-
 sub-ec-dec-icdf8-run-2 : tie.Need-sub-ec-dec-icdf8-run-2 Inv-loop μ-loop
 sub-ec-dec-icdf8-run-2 c = later-within (c .before .before .loop .j + 1) (c .later-at .result) (c .later-at .ensures)
 
@@ -95,12 +73,9 @@ part-ec-dec-icdf8-run-start-2 : tie.Need-part-ec-dec-icdf8-run-start-2 Inv-loop 
 part-ec-dec-icdf8-run-start-2 c =
     let h = later-within (c .before .before .loop .j + 1) (c .later-at .result) (c .later-at .ensures) in search needs
 
-part-ec-dec-icdf8-run-end-2 : tie.Need-part-ec-dec-icdf8-run-end-2 Inv-loop μ-loop
-part-ec-dec-icdf8-run-end-2 c = search needs
-
 ec-dec-icdf8-run-requires-2 : tie.Need-ec-dec-icdf8-run-requires-2 Inv-loop μ-loop
 ec-dec-icdf8-run-requires-2 c κs =
-    let z = c .before .before .before .before .before .before .before .before .before in
+    let z = start (c .before .before .before) in
     let l = c .before .before .before .loop in
     let e = later-in (z .args .rows .now) (l .j + 1) (c .before .later-at .result) (z .pre .1 .1 .0) (c .before .later-at .ensures) in
     (l .inv .core, (omega (arith, l .inv .most, z .pre .1 .0), rw e (later (l .j + 1) .good)))
@@ -113,7 +88,7 @@ loop-less c =
 
 loop-again : tie.Need-loop-again Inv-loop μ-loop
 loop-again c =
-    let z = c .before .before .before .before .before .before .before .before .before .before .before in
+    let z = start (c .before .before .before .before .before) in
     let l = c .before .before .before .before .before .loop in
     let t = c .before .before .before .before .loop-test .taken in
     let p : l .j < 10 = not-tenth (l .j) (l .v) (l .inv .to) (l .inv .tenth) t in
@@ -134,7 +109,7 @@ loop-again c =
 returns : tie.Need-returns Inv-loop μ-loop
 unfolding count
 returns c =
-    let z = c .before .before .before .before .before .before .before in
+    let z = start (c .before) in
     let l = c .before .loop in
     let i = l .inv in
     let a = c .before .before .before .ec-dec-icdf8-run in
@@ -157,19 +132,19 @@ count-run-spec =
     (tie.spec
     Inv-loop
     μ-loop
-    mul-start
-    add-start
-    add-end
-    sub-ec-dec-icdf8-run
-    part-ec-dec-icdf8-run-start
-    part-ec-dec-icdf8-run-end
+    (λ c. search needs)
+    (λ c. search needs)
+    (λ c. search needs)
+    (λ c. search needs)
+    (λ c. search needs)
+    (λ c. search needs)
     ec-dec-icdf8-run-requires
     loop-holds
-    add-j
-    later-at-requires
+    (λ c. search needs)
+    (λ c κs. search needs)
     sub-ec-dec-icdf8-run-2
     part-ec-dec-icdf8-run-start-2
-    part-ec-dec-icdf8-run-end-2
+    (λ c. search needs)
     ec-dec-icdf8-run-requires-2
     loop-less
     loop-again

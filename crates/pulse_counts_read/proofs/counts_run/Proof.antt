@@ -36,6 +36,9 @@ Inv-loop packet rows level n counts₀ lows₀ d₀ i₀ counts lows d i = Count
 abbrev μ-loop : tie.MeasureT-loop
 μ-loop packet rows level n counts₀ lows₀ d₀ i₀ counts lows d i = n - i
 
+abbrev start : tie.At-loop Inv-loop μ-loop → tie.Start Inv-loop μ-loop
+start l = l .before .before .before
+
 loop-holds : tie.Need-loop-holds Inv-loop μ-loop
 unfolding blocksFrom
 loop-holds c =
@@ -55,27 +58,9 @@ count-run-requires c κs =
     let i = c .before .loop .inv in
     (i .through .core, (omega (arith, i .through .most, z .pre .1 .0, z .pre .1 .1 .1 .1), (z .pre .1 .1 .0, z .pre .1 .1 .1 .0)))
 
-cast-counts : tie.Need-cast-counts Inv-loop μ-loop
-cast-counts c = search needs
-
-array-write-counts : tie.Need-array-write-counts Inv-loop μ-loop
-array-write-counts c = search needs
-
-cast-lows : tie.Need-cast-lows Inv-loop μ-loop
-cast-lows c = search needs
-
-array-write-lows : tie.Need-array-write-lows Inv-loop μ-loop
-array-write-lows c = search needs
-
-add-i : tie.Need-add-i Inv-loop μ-loop
-add-i c = search needs
-
-loop-less : tie.Need-loop-less Inv-loop μ-loop
-loop-less c = search needs
-
 loop-again : tie.Need-loop-again Inv-loop μ-loop
 loop-again c =
-    let z = c .before .before .before .before .before .before .before .before in
+    let z = start (c .before .before .before .before .before) in
     let l = c .before .before .before .before .before .loop in
     let g = l .inv in
     let b = c .before .before .before .count-run in
@@ -93,7 +78,7 @@ loop-again c =
 
 returns : tie.Need-returns Inv-loop μ-loop
 returns c =
-    let z = c .before .before .before .before in
+    let z = start (c .before) in
     let l = c .before .loop in
     (finish _ (z .args .level) (z .args .n) _ (l .counts) (l .lows) _ (l .i) (l .inv) (omega arith) (z .pre .1 .1 .1 .1), (l .inv .small, l .inv .small2))
 
@@ -105,11 +90,11 @@ counts-run-spec =
     μ-loop
     loop-holds
     count-run-requires
-    cast-counts
-    array-write-counts
-    cast-lows
-    array-write-lows
-    add-i
-    loop-less
+    (λ c. search needs)
+    (λ c. search needs)
+    (λ c. search needs)
+    (λ c. search needs)
+    (λ c. search needs)
+    (λ c. search needs)
     loop-again
     returns)

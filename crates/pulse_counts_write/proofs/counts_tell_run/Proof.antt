@@ -42,48 +42,24 @@ Inv-loop buf₀ rows level n sums lows start end w₀ i₀ buf w i = Telling (ou
 abbrev μ-loop : tie.MeasureT-loop
 μ-loop buf₀ rows level n sums lows start end w₀ i₀ buf w i = n - i
 
-mul-start : tie.Need-mul-start Inv-loop μ-loop
-mul-start c = search needs
-
-add-start : tie.Need-add-start Inv-loop μ-loop
-add-start c = search needs
-
-add-end : tie.Need-add-end Inv-loop μ-loop
-add-end c = search needs
+abbrev start : tie.At-loop Inv-loop μ-loop → tie.Start Inv-loop μ-loop
+start l = l .before .before .before
 
 loop-holds : tie.Need-loop-holds Inv-loop μ-loop
 loop-holds c =
     let z = c .before .before in
     record { midway = rw (sub-zero (z .args .n)) (midway-start (z .pre .0)); to = omega arith; kept = refl }
 
-array-read-sum : tie.Need-array-read-sum Inv-loop μ-loop
-array-read-sum c = search needs
-
-array-read-shift : tie.Need-array-read-shift Inv-loop μ-loop
-array-read-shift c = search needs
-
 cast-count-said : tie.Need-cast-count-said Inv-loop μ-loop
-cast-count-said c = omega (arith, c .before .before .before .before .pre .1 .1 .1 .1 .0 (c .before .loop .i))
+cast-count-said c = omega (arith, start (c .before) .pre .1 .1 .1 .1 .0 (c .before .loop .i))
 
 cast-count-said-2 : tie.Need-cast-count-said-2 Inv-loop μ-loop
-cast-count-said-2 c = omega (arith, c .before .before .before .before .pre .1 .1 .1 .1 .1 (c .before .loop .i))
-
-count-said-requires : tie.Need-count-said-requires Inv-loop μ-loop
-count-said-requires c κs = search needs
-
-sub-ec-enc-icdf-run : tie.Need-sub-ec-enc-icdf-run Inv-loop μ-loop
-sub-ec-enc-icdf-run c = search needs
-
-part-ec-enc-icdf-run-start : tie.Need-part-ec-enc-icdf-run-start Inv-loop μ-loop
-part-ec-enc-icdf-run-start c = search needs
-
-part-ec-enc-icdf-run-end : tie.Need-part-ec-enc-icdf-run-end Inv-loop μ-loop
-part-ec-enc-icdf-run-end c = search needs
+cast-count-said-2 c = omega (arith, start (c .before) .pre .1 .1 .1 .1 .1 (c .before .loop .i))
 
 ec-enc-icdf-run-requires : tie.Need-ec-enc-icdf-run-requires Inv-loop μ-loop
 ec-enc-icdf-run-requires c κs =
-    let z = c .before .before .before .before .before .before .before in
     let l = c .before .before .before .before .loop in
+    let z = start (c .before .before .before .before) in
     let m = l .inv .midway in
     let p = z .pre .1 .1 in
     let e = count-in (z .args .rows .now) (z .args .level) (p .0) (omega arith) in
@@ -92,36 +68,33 @@ ec-enc-icdf-run-requires c κs =
     (m .core, (omega (arith, m .most, z .pre .1 .0, p .1 .0 .1), rw (e, v) (row-good (48 + z .args .level) (omega arith), h)))
 
 cast-later-tell : tie.Need-cast-later-tell Inv-loop μ-loop
-cast-later-tell c = omega (arith, c .before .before .before .before .before .before .before .before .before .before .before .before .pre .1 .1 .1 .1 .0 (c .before .before .before .before .before .before .before .before .before .loop .i))
+cast-later-tell c =
+    let l = c .before .before .before .before .before .before .before .before .before in omega (arith, start l .pre .1 .1 .1 .1 .0 (l .loop .i))
 
 cast-later-tell-2 : tie.Need-cast-later-tell-2 Inv-loop μ-loop
-cast-later-tell-2 c = omega (arith, c .before .before .before .before .before .before .before .before .before .before .before .before .pre .1 .1 .1 .1 .1 (c .before .before .before .before .before .before .before .before .before .loop .i))
+cast-later-tell-2 c =
+    let l = c .before .before .before .before .before .before .before .before .before in omega (arith, start l .pre .1 .1 .1 .1 .1 (l .loop .i))
 
 later-tell-requires : tie.Need-later-tell-requires Inv-loop μ-loop
 later-tell-requires c κs =
-    let z = c .before .before .before .before .before .before .before .before .before .before .before .before in
-    let l = c .before .before .before .before .before .before .before .before .before .loop in
+    let l = c .before .before .before .before .before .before .before .before .before in
+    let z = start l in
+    let i = l .loop .i in
     let p = z .pre .1 .1 in
     let a = c .before .before .before .before .ec-enc-icdf-run .ensures in
-    (a .core, (omega (arith, a .most, l .inv .midway .most, z .pre .1 .0, p .1 .0 .1), (p .0, (p .1 .1 .0 (l .i), p .1 .1 .1 (l .i)))))
-
-add-i : tie.Need-add-i Inv-loop μ-loop
-add-i c = search needs
-
-loop-less : tie.Need-loop-less Inv-loop μ-loop
-loop-less c = search needs
+    (a .core, (omega (arith, a .most, l .loop .inv .midway .most, z .pre .1 .0, p .1 .0 .1), (p .0, (p .1 .1 .0 i, p .1 .1 .1 i))))
 
 loop-again : tie.Need-loop-again Inv-loop μ-loop
 loop-again c =
-    let z = c .before .before .before .before .before .before .before .before .before .before .before in
-    let l = c .before .before .before .before .before .before .before .before .loop in
+    let h = c .before .before .before .before .before .before .before in
+    let z = start (h .before) in
+    let l = h .before .loop in
     let a = c .before .before .before .ec-enc-icdf-run in
     let p = z .pre .1 .1 in
     let b = blockAt (z .args .t5) (z .args .t6) (l .i) in
     let e = count-in (z .args .rows .now) (z .args .level) (p .0) (omega arith) in
     let v = c .before .before .before .before .before .before .count-said .ensures in
-    let t = c .before .before .before .before .before .before .before .loop-test .taken in
-    let s = counts-said (z .args .t5) (z .args .t6) (z .args .level) (z .args .n) (l .i) t in
+    let s = counts-said (z .args .t5) (z .args .t6) (z .args .level) (z .args .n) (l .i) (h .loop-test .taken) in
     ⊎-elim
     (λ w.
     rw (w .5, w .6)
@@ -133,7 +106,9 @@ loop-again c =
     (λ w.
     rw (w .1, w .2)
     (record {
-      midway = midway-next (l .inv .midway) (count-told (z .args .level) b e v (a .ensures) (lows-untold b (omega (arith, w .0 .left)) (p .1 .1 .0 (l .i)) (a .ensures .core))) s (omega arith);
+      midway =
+          midway-next (l .inv .midway)
+          (count-told (z .args .level) b e v (a .ensures) (lows-untold b (omega (arith, w .0 .left)) (p .1 .1 .0 (l .i)) (a .ensures .core))) s (omega arith);
       to = omega arith;
       kept = a .kept .0 ∙ l .inv .kept;
     }))
@@ -144,7 +119,7 @@ same-length c = c .before .loop .inv .kept
 
 returns : tie.Need-returns Inv-loop μ-loop
 returns c =
-    let z = c .before .before .before .before in
+    let z = start (c .before) in
     let l = c .before .loop in
     told-within (omega (arith, l .inv .to, z .pre .1 .1 .1 .0 .1))
     (midway-end (l .inv .midway) (counts-silent (z .args .t5) (z .args .t6) (z .args .level) (z .args .n) (l .i) (omega arith)))
@@ -155,24 +130,24 @@ counts-tell-run-spec =
     (tie.spec
     Inv-loop
     μ-loop
-    mul-start
-    add-start
-    add-end
+    (λ c. search needs)
+    (λ c. search needs)
+    (λ c. search needs)
     loop-holds
-    array-read-sum
-    array-read-shift
+    (λ c. search needs)
+    (λ c. search needs)
     cast-count-said
     cast-count-said-2
-    count-said-requires
-    sub-ec-enc-icdf-run
-    part-ec-enc-icdf-run-start
-    part-ec-enc-icdf-run-end
+    (λ c κs. search needs)
+    (λ c. search needs)
+    (λ c. search needs)
+    (λ c. search needs)
     ec-enc-icdf-run-requires
     cast-later-tell
     cast-later-tell-2
     later-tell-requires
-    add-i
-    loop-less
+    (λ c. search needs)
+    (λ c. search needs)
     loop-again
     same-length
     returns)

@@ -26,17 +26,11 @@ abbrev μ-loop : tie.MeasureT-loop
 abbrev said : (c : tie.Start Inv-loop μ-loop) → Block
 said c = record { count = c .args .sum; lows = c .args .lows }
 
+abbrev start : tie.At-loop Inv-loop μ-loop → tie.Start Inv-loop μ-loop
+start l = l .before .before .before
+
 loop-holds : tie.Need-loop-holds Inv-loop μ-loop
 loop-holds c = record { midway = midway-start (c .before .before .pre .0); to = omega arith; kept = refl }
-
-add-j : tie.Need-add-j Inv-loop μ-loop
-add-j c = search needs
-
-later-at-requires : tie.Need-later-at-requires Inv-loop μ-loop
-later-at-requires c κs = search needs
-
-count-said-requires : tie.Need-count-said-requires Inv-loop μ-loop
-count-said-requires c κs = search needs
 
 sub-ec-enc-icdf-run : tie.Need-sub-ec-enc-icdf-run Inv-loop μ-loop
 sub-ec-enc-icdf-run c =
@@ -49,12 +43,9 @@ part-ec-enc-icdf-run-start c =
     let h = later-within (c .before .before .before .before .loop .j + 1) (at .result) (at .ensures) in
     search needs
 
-part-ec-enc-icdf-run-end : tie.Need-part-ec-enc-icdf-run-end Inv-loop μ-loop
-part-ec-enc-icdf-run-end c = search needs
-
 ec-enc-icdf-run-requires : tie.Need-ec-enc-icdf-run-requires Inv-loop μ-loop
 ec-enc-icdf-run-requires c κs =
-    let z = c .before .before .before .before .before .before .before .before in
+    let z = start (c .before .before .before .before .before) in
     let l = c .before .before .before .before .before .loop in
     let at = c .before .before .before .later-at in
     let p = z .pre .1 .1 in
@@ -64,20 +55,17 @@ ec-enc-icdf-run-requires c κs =
       (omega (arith, l .inv .midway .most, z .pre .1 .0), rw (e, v) (later (l .j + 1) .good, said-writable (said z) (l .j + 1) (p .1 .0) (p .1 .1))),
     )
 
-loop-less : tie.Need-loop-less Inv-loop μ-loop
-loop-less c = search needs
-
 loop-again : tie.Need-loop-again Inv-loop μ-loop
 loop-again c =
-    let z = c .before .before .before .before .before .before .before .before .before .before .before in
-    let l = c .before .before .before .before .before .before .before .before .loop in
+    let h = c .before .before .before .before .before .before .before in
+    let z = start (h .before) in
+    let l = h .before .loop in
     let at = c .before .before .before .before .before .before .later-at in
     let a = c .before .before .ec-enc-icdf-run in
-    let t = c .before .before .before .before .before .before .before .loop-test .taken in
     let e = later-in (z .args .rows .now) (l .j + 1) (at .result) (z .pre .1 .1 .0) (at .ensures) in
     let v = c .before .before .before .before .before .count-said .ensures in
     record {
-      midway = midway-asked (rw (lows-left (said z) 10 (l .j) (omega arith) t) at (l .inv .midway)) e v (a .ensures) (omega arith);
+      midway = midway-asked (rw (lows-left (said z) 10 (l .j) (omega arith) (h .loop-test .taken)) at (l .inv .midway)) e v (a .ensures) (omega arith);
       to = omega arith;
       kept = a .kept .0 ∙ l .inv .kept;
     }
@@ -87,7 +75,7 @@ same-length c = c .before .loop .inv .kept
 
 returns : tie.Need-returns Inv-loop μ-loop
 returns c =
-    let z = c .before .before .before .before in
+    let z = start (c .before) in
     let l = c .before .loop in
     told-within (omega arith) (midway-end (l .inv .midway) (lows-said (said z) (10 - l .j) (l .j) (omega arith) (z .pre .1 .1 .1 .0)))
 
@@ -98,14 +86,14 @@ later-tell-spec =
     Inv-loop
     μ-loop
     loop-holds
-    add-j
-    later-at-requires
-    count-said-requires
+    (λ c. search needs)
+    (λ c κs. search needs)
+    (λ c κs. search needs)
     sub-ec-enc-icdf-run
     part-ec-enc-icdf-run-start
-    part-ec-enc-icdf-run-end
+    (λ c. search needs)
     ec-enc-icdf-run-requires
-    loop-less
+    (λ c. search needs)
     loop-again
     same-length
     returns)

@@ -33,6 +33,9 @@ Inv-loop packet row places₀ n d₀ k₀ places d k = Turn packet n places₀ d
 abbrev μ-loop : tie.MeasureT-loop
 μ-loop packet row places₀ n d₀ k₀ places d k = 16 - k
 
+abbrev start : tie.At-loop Inv-loop μ-loop → tie.Start Inv-loop μ-loop
+start l = l .before .before .before
+
 counted : (c : tie.Start Inv-loop μ-loop) → length (mags (c .args .places .now)) ≡ 16
 counted c = length-map (c .args .places .now) natAbs ∙ c .pre .1 .1 .1 .1
 
@@ -53,64 +56,42 @@ loop-holds c =
     let b = c .before .before in
     record { going = going-start _ _ _ _ _ _ _ _ (b .pre .1 .1 .1 .0) (b .pre .0); to = omega arith; size = b .pre .1 .1 .1 .1 }
 
-mul-m : tie.Need-mul-m Inv-loop μ-loop
-mul-m c = search needs
-
-slice-copy-out-m : tie.Need-slice-copy-out-m Inv-loop μ-loop
-slice-copy-out-m c = search needs
-
 cast-low-bits : tie.Need-cast-low-bits Inv-loop μ-loop
 cast-low-bits c =
-    let b = c .before .before .before .before .before in
+    let b = start (c .before .before) in
     let l = c .before .before .loop in
     let f : SFits w16 (getD (l .places) (l .k) (pos 0)) = sfits-of (c .m .given) in
     let h = counted b in
-    rw (toZ-ofZ f)
-    (natural-fits (getD (l .places) (l .k) (pos 0)) (going-natural _ _ _ _ _ _ _ (l .places) (l .d) (l .k) (l .inv .going) (omega arith)) (small (c .before .before) (omega arith)))
+    let n = going-natural _ _ _ _ _ _ _ (l .places) (l .d) (l .k) (l .inv .going) (omega arith) in
+    rw (toZ-ofZ f) (natural-fits (getD (l .places) (l .k) (pos 0)) n (small (c .before .before) (omega arith)))
 
 low-bits-requires : tie.Need-low-bits-requires Inv-loop μ-loop
 low-bits-requires c κs =
-    let b = c .before .before .before .before .before in
+    let b = start (c .before .before) in
     let l = c .before .before .loop in
     let g = l .inv .going .through in
     let f : SFits w16 (getD (l .places) (l .k) (pos 0)) = sfits-of (c .m .given) in
     (g .core, (omega (arith, g .most, b .pre .1 .0), (b .pre .1 .1 .0 .0, (rw (toZ-ofZ f) (small (c .before .before) (omega arith)), b .pre .1 .1 .0 .1))))
 
-cast-places : tie.Need-cast-places Inv-loop μ-loop
-cast-places c = search needs
-
-mul-t12 : tie.Need-mul-t12 Inv-loop μ-loop
-mul-t12 c = search needs
-
-slice-set-from-places : tie.Need-slice-set-from-places Inv-loop μ-loop
-slice-set-from-places c = search needs
-
-add-k : tie.Need-add-k Inv-loop μ-loop
-add-k c = search needs
-
-loop-less : tie.Need-loop-less Inv-loop μ-loop
-loop-less c = search needs
-
 loop-again : tie.Need-loop-again Inv-loop μ-loop
 loop-again c =
-    let b = c .before .before .before .before .before .before .before in
+    let b = start (c .before .before .before .before) in
     let l = c .before .before .before .before .loop in
     let a = c .before .low-bits in
     let f : SFits w16 (getD (l .places) (l .k) (pos 0)) = sfits-of (c .before .before .m .given) in
     let h = counted b in
     rw (toZ-pos w16 {n = a .result .value} (omega (arith, a .ensures .1)))
     (record {
-      going = going-next _ _ _ _ _ _ _ (l .places) (l .d) (l .k) (l .inv .going) (omega arith) (a .result .value) (a .result .state) 160 (omega arith) (rw (toZ-ofZ f) at (a .ensures .0));
+      going =
+          going-next _ _ _ _ _ _ _ (l .places) (l .d) (l .k) (l .inv .going) (omega arith) (a .result .value) (a .result .state) 160 (omega arith)
+          (rw (toZ-ofZ f) at (a .ensures .0));
       to = omega arith;
       size = length-set (l .places) (l .k) (pos (a .result .value)) ∙ l .inv .size;
     })
 
-same-length : tie.Need-same-length Inv-loop μ-loop
-same-length c = search needs
-
 returns : tie.Need-returns Inv-loop μ-loop
 returns c =
-    let b = c .before .before .before .before in
+    let b = start (c .before) in
     let l = c .before .loop in
     let h = counted b in
     finish _ _ (b .args .places .now) _ _ _ (going-ended _ _ _ _ _ _ _ (l .places) (l .d) (l .k) (l .inv .going) (omega arith)) h
@@ -122,15 +103,15 @@ all-lows-spec =
     Inv-loop
     μ-loop
     loop-holds
-    mul-m
-    slice-copy-out-m
+    (λ c. search needs)
+    (λ c. search needs)
     cast-low-bits
     low-bits-requires
-    cast-places
-    mul-t12
-    slice-set-from-places
-    add-k
-    loop-less
+    (λ c. search needs)
+    (λ c. search needs)
+    (λ c. search needs)
+    (λ c. search needs)
+    (λ c. search needs)
     loop-again
-    same-length
+    (λ c. search needs)
     returns)

@@ -26,14 +26,5 @@ returns c =
     let b = c .before .before .before in
     none _ _ (b .args .n) (b .args .places .now) (c .if1 .taken) (b .pre .0) (b .pre .1 .1 .1 .0)
 
-all-lows-requires : tie.Need-all-lows-requires
-all-lows-requires c κs = search needs
-
-same-length : tie.Need-same-length
-same-length c = search needs
-
-returns-2 : tie.Need-returns-2
-returns-2 c = search needs
-
 pub block-lows-run-spec : {M : Type 1} → statement M
-block-lows-run-spec = tie.close (tie.spec returns all-lows-requires same-length returns-2)
+block-lows-run-spec = tie.close (tie.spec returns (λ c κs. search needs) (λ c. search needs) (λ c. search needs))

@@ -35,6 +35,9 @@ abbrev μ-loop : tie.MeasureT-loop
 within : {b : List ℕ} {m n : ℕ} {d₀ : Dec} {v : ℕ} {d : Dec} {j : ℕ} → Going b m n d₀ v d j → n ≤ 10 → v ≤ 17407
 within {j = j} g h = omega (arith, g .small, pow-mono {i = j} {j = 10} (omega (arith, g .to)))
 
+abbrev start : tie.At-loop Inv-loop μ-loop → tie.Start Inv-loop μ-loop
+start l = l .before .before .before
+
 loop-holds : tie.Need-loop-holds Inv-loop μ-loop
 loop-holds c =
     let z = c .before .before in
@@ -54,22 +57,17 @@ ec-dec-icdf8-run-requires c κs =
     (i .core, (omega (arith, i .most, z .pre .1 .0, z .pre .1 .1 .1 .1), rw (z .pre .1 .1 .0) (row-good 123 (omega arith))))
 
 mul-v : tie.Need-mul-v Inv-loop μ-loop
-mul-v c = omega (arith, within (c .before .before .loop .inv) (c .before .before .before .before .before .pre .1 .1 .1 .1))
+mul-v c = let l = c .before .before in omega (arith, within (l .loop .inv) (start l .pre .1 .1 .1 .1))
 
 add-v : tie.Need-add-v Inv-loop μ-loop
 add-v c =
-    let z = c .before .before .before .before .before .before in
-    omega (arith, within (c .before .before .before .loop .inv) (z .pre .1 .1 .1 .1), c .before .ec-dec-icdf8-run .ensures .inside, ap length (z .pre .1 .1 .0), low-bit-size)
-
-add-j : tie.Need-add-j Inv-loop μ-loop
-add-j c = search needs
-
-loop-less : tie.Need-loop-less Inv-loop μ-loop
-loop-less c = search needs
+    let l = c .before .before .before in
+    let p = start l .pre .1 .1 in
+    omega (arith, within (l .loop .inv) (p .1 .1), c .before .ec-dec-icdf8-run .ensures .inside, ap length (p .0), low-bit-size)
 
 loop-again : tie.Need-loop-again Inv-loop μ-loop
 loop-again c =
-    let z = c .before .before .before .before .before .before .before in
+    let z = start (c .before .before .before .before) in
     let l = c .before .before .before .before .loop in
     let a = c .before .before .ec-dec-icdf8-run in
     let q : 2 ^ (l .j + 1) ≡ 2 ^ l .j * 2 = pow-add 2 (l .j) 1 in
@@ -84,7 +82,7 @@ loop-again c =
 
 returns : tie.Need-returns Inv-loop μ-loop
 returns c =
-    let z = c .before .before .before .before in
+    let z = start (c .before) in
     let l = c .before .loop in
     let i = l .inv in (
       record {
@@ -106,7 +104,7 @@ low-bits-spec =
     ec-dec-icdf8-run-requires
     mul-v
     add-v
-    add-j
-    loop-less
+    (λ c. search needs)
+    (λ c. search needs)
     loop-again
     returns)

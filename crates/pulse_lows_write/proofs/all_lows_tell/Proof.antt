@@ -30,17 +30,11 @@ abbrev μ-loop : tie.MeasureT-loop
 counted : (c : tie.Start Inv-loop μ-loop) → length (map natAbs (c .args .pulses .now)) ≡ 16
 counted c = length-map (c .args .pulses .now) natAbs ∙ c .pre .1 .1 .1
 
+abbrev start : tie.At-loop Inv-loop μ-loop → tie.Start Inv-loop μ-loop
+start l = l .before .before .before
+
 loop-holds : tie.Need-loop-holds Inv-loop μ-loop
 loop-holds c = record { told = midway-start (c .before .before .pre .0); to = omega arith; kept = refl }
-
-mul-pulse : tie.Need-mul-pulse Inv-loop μ-loop
-mul-pulse c = search needs
-
-shared-slice-copy-out-pulse : tie.Need-shared-slice-copy-out-pulse Inv-loop μ-loop
-shared-slice-copy-out-pulse c = search needs
-
-magnitude-requires : tie.Need-magnitude-requires Inv-loop μ-loop
-magnitude-requires c κs = search needs
 
 low-bits-tell-requires : tie.Need-low-bits-tell-requires Inv-loop μ-loop
 low-bits-tell-requires c κs =
@@ -48,15 +42,9 @@ low-bits-tell-requires c κs =
     let t = c .before .before .before .before .loop .inv .told in
     (t .core, (omega (arith, t .most, z .pre .1 .0), z .pre .1 .1 .0))
 
-add-k : tie.Need-add-k Inv-loop μ-loop
-add-k c = search needs
-
-loop-less : tie.Need-loop-less Inv-loop μ-loop
-loop-less c = search needs
-
 loop-again : tie.Need-loop-again Inv-loop μ-loop
 loop-again c =
-    let z = c .before .before .before .before .before .before .before .before .before .before in
+    let z = start (c .before .before .before .before .before .before .before) in
     let s = z .args .pulses .now in
     let l = c .before .before .before .before .before .before .before .loop in
     let f : SFits w16 (getD s (l .k) (pos 0)) = sfits-of (c .before .before .before .before .before .pulse .given) in
@@ -74,7 +62,7 @@ same-length c = c .before .loop .inv .kept
 
 returns : tie.Need-returns Inv-loop μ-loop
 returns c =
-    let z = c .before .before .before .before in
+    let z = start (c .before) in
     let l = c .before .loop in
     told-within (omega (arith, l .inv .to)) (places-told _ _ _ _ _ (map natAbs (z .args .pulses .now)) (l .k) (l .inv .told) (omega (arith, counted z)))
 
@@ -85,12 +73,12 @@ all-lows-tell-spec =
     Inv-loop
     μ-loop
     loop-holds
-    mul-pulse
-    shared-slice-copy-out-pulse
-    magnitude-requires
+    (λ c. search needs)
+    (λ c. search needs)
+    (λ c κs. search needs)
     low-bits-tell-requires
-    add-k
-    loop-less
+    (λ c. search needs)
+    (λ c. search needs)
     loop-again
     same-length
     returns)

@@ -24,18 +24,18 @@ Inv-loop buf₀ row m n w₀ k₀ buf w k = Telling (out buf₀ w₀) m n (out b
 abbrev μ-loop : tie.MeasureT-loop
 μ-loop buf₀ row m n w₀ k₀ buf w k = k
 
+abbrev start : tie.At-loop Inv-loop μ-loop → tie.Start Inv-loop μ-loop
+start l = l .before .before .before
+
 loop-holds : tie.Need-loop-holds Inv-loop μ-loop
 loop-holds c = record { midway = midway-start (c .before .before .pre .0); to = omega arith; kept = refl }
-
-sub-k : tie.Need-sub-k Inv-loop μ-loop
-sub-k c = search needs
 
 shr-bit : tie.Need-shr-bit Inv-loop μ-loop
 shr-bit c = omega (arith, c .before .loop .inv .to, c .before .before .before .before .pre .1 .1 .1)
 
 ec-enc-icdf-run-requires : tie.Need-ec-enc-icdf-run-requires Inv-loop μ-loop
 ec-enc-icdf-run-requires c κs =
-    let z = c .before .before .before .before .before in
+    let z = start (c .before .before) in
     let l = c .before .before .loop in
     let m = l .inv .midway in
     let bit = z .args .m / 2 ^ (l .k - 1) % 2 in (
@@ -46,12 +46,9 @@ ec-enc-icdf-run-requires c κs =
       ),
     )
 
-loop-less : tie.Need-loop-less Inv-loop μ-loop
-loop-less c = search needs
-
 loop-again : tie.Need-loop-again Inv-loop μ-loop
 loop-again c =
-    let z = c .before .before .before .before .before .before .before .before in
+    let z = start (c .before .before .before .before .before) in
     let l = c .before .before .before .before .before .loop in
     let a = c .before .before .ec-enc-icdf-run in
     record {
@@ -65,7 +62,7 @@ same-length c = c .before .loop .inv .kept
 
 returns : tie.Need-returns Inv-loop μ-loop
 returns c =
-    let z = c .before .before .before .before in
+    let z = start (c .before) in
     let l = c .before .loop in
     let e : l .k ≡ 0 = omega arith in
     told-within (omega (arith, z .pre .1 .1 .1)) (midway-end (rw e at (l .inv .midway)) (bits-silent (z .args .m) _))
@@ -77,10 +74,10 @@ low-bits-tell-spec =
     Inv-loop
     μ-loop
     loop-holds
-    sub-k
+    (λ c. search needs)
     shr-bit
     ec-enc-icdf-run-requires
-    loop-less
+    (λ c. search needs)
     loop-again
     same-length
     returns)

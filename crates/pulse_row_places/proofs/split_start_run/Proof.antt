@@ -12,15 +12,6 @@ use Rattle.pulse_row_places.proofs.split_start_run.Tie as tie
 most : (c : tie.Start) → c .args .n * (c .args .n + 1) ≤ 272
 most c = mul-le-mul {n₁ = c .args .n} {m₁ = c .args .n + 1} {n₂ = 16} {m₂ = 17} (c .pre .1) (omega (arith, c .pre .1))
 
-mul-result : tie.Need-mul-result
-mul-result c = search needs
-
-add-result : tie.Need-add-result
-add-result c = search needs
-
-add-result-2 : tie.Need-add-result-2
-add-result-2 c = search needs
-
 mul-result-2 : tie.Need-mul-result-2
 mul-result-2 c = omega (arith, most c)
 
@@ -38,4 +29,4 @@ returns c l =
 pub split-start-run-spec : {M : Type 1} → statement M
 split-start-run-spec =
     tie.close
-    (tie.spec mul-result add-result add-result-2 mul-result-2 add-result-3 returns)
+    (tie.spec (λ c. search needs) (λ c. search needs) (λ c. search needs) mul-result-2 add-result-3 returns)

@@ -10,40 +10,32 @@ use Rattle.silk.specs.PulseSteps.{split-none, split-some}
 use Rattle.pulse_shell_read.proofs.decode_split.Statement.{statement}
 use Rattle.pulse_shell_read.proofs.decode_split.Tie as tie
 
+abbrev start : tie.After-split-start-run → tie.Start
+start c = c .before .before .before .before
+
 -- where the row of p pulses stands in what is lent
 place : (c : tie.After-split-start-run)
-    → let b = c .before .before .before .before in Stands (58 + b .args .table * 16 + b .args .p) (b .args .rows .now) (c .split-start-run .result) (b .args .p + 1)
-place c = stands-in (c .before .before .before .before .pre .1 .1 .0 .is) (c .split-start-run .ensures (omega arith))
+    → let a = start c .args in
+    Stands (58 + a .table * 16 + a .p) (a .rows .now) (c .split-start-run .result) (a .p + 1)
+place c = stands-in (start c .pre .1 .1 .0 .is) (c .split-start-run .ensures (omega arith))
 
 returns : tie.Need-returns
 returns c = let b = c .before .before .before in (split-none (b .args .table) (b .args .p) (c .if1 .taken) (b .pre .0), omega arith)
 
-split-start-run-requires : tie.Need-split-start-run-requires
-split-start-run-requires c κs = search needs
-
-add-end : tie.Need-add-end
-add-end c = search needs
-
 add-end-2 : tie.Need-add-end-2
-add-end-2 c = omega (arith, place c .within, c .before .before .before .before .pre .1 .1 .0 .size)
-
-sub-ec-dec-icdf8-run : tie.Need-sub-ec-dec-icdf8-run
-sub-ec-dec-icdf8-run c = search needs
-
-part-ec-dec-icdf8-run-start : tie.Need-part-ec-dec-icdf8-run-start
-part-ec-dec-icdf8-run-start c = search needs
+add-end-2 c = omega (arith, place c .within, start c .pre .1 .1 .0 .size)
 
 part-ec-dec-icdf8-run-end : tie.Need-part-ec-dec-icdf8-run-end
 part-ec-dec-icdf8-run-end c = place c .within
 
 ec-dec-icdf8-run-requires : tie.Need-ec-dec-icdf8-run-requires
 ec-dec-icdf8-run-requires c κs =
-    let b = c .before .before .before .before .before in
+    let b = start (c .before) in
     (b .pre .0, (b .pre .1 .0, rw (lent _ (place (c .before)) refl) (row-good (58 + b .args .table * 16 + b .args .p) (omega arith))))
 
 returns-2 : tie.Need-returns-2
 returns-2 c =
-    let b = c .before .before .before .before .before .before in
+    let b = start (c .before .before) in
     let s = place (c .before .before) in
     let a = c .ec-dec-icdf8-run .ensures in
     let e = lent _ s refl in
@@ -54,11 +46,11 @@ decode-split-spec =
     tie.close
     (tie.spec
     returns
-    split-start-run-requires
-    add-end
+    (λ c κs. search needs)
+    (λ c. search needs)
     add-end-2
-    sub-ec-dec-icdf8-run
-    part-ec-dec-icdf8-run-start
+    (λ c. search needs)
+    (λ c. search needs)
     part-ec-dec-icdf8-run-end
     ec-dec-icdf8-run-requires
     returns-2)

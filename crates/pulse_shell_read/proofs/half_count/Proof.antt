@@ -4,9 +4,6 @@ use borrow.Author.Tests.{eq-eqb, ne-eqb}
 use Rattle.pulse_shell_read.proofs.half_count.Statement.{statement}
 use Rattle.pulse_shell_read.proofs.half_count.Tie as tie
 
-sub-result : tie.Need-sub-result
-sub-result c = search needs
-
 returns : tie.Need-returns
 returns c = rw (eq-eqb (c .before .args .h) 0 (c .if1 .taken))
 
@@ -14,4 +11,4 @@ returns-2 : tie.Need-returns-2
 returns-2 c = rw (ne-eqb (c .before .args .h) 0 (c .if1 .left))
 
 pub half-count-spec : {M : Type 1} → statement M
-half-count-spec = tie.close (tie.spec sub-result returns returns-2)
+half-count-spec = tie.close (tie.spec (λ c. search needs) returns returns-2)

@@ -18,27 +18,6 @@ both-set (a ∷ []) x y e = absurd (omega arith)
 both-set (a ∷ (b ∷ [])) x y e = refl
 both-set (a ∷ (b ∷ (c ∷ s))) x y e = absurd (omega arith)
 
-decode-split-requires : tie.Need-decode-split-requires
-decode-split-requires c κs = search needs
-
-cast-places : tie.Need-cast-places
-cast-places c = search needs
-
-slice-set-from-places : tie.Need-slice-set-from-places
-slice-set-from-places c = search needs
-
-sub-places : tie.Need-sub-places
-sub-places c = search needs
-
-cast-places-2 : tie.Need-cast-places-2
-cast-places-2 c = search needs
-
-slice-set-from-places-2 : tie.Need-slice-set-from-places-2
-slice-set-from-places-2 c = search needs
-
-same-length : tie.Need-same-length
-same-length c = search needs
-
 returns : tie.Need-returns
 returns c =
     let b = c .before .before .before .before in
@@ -52,11 +31,11 @@ pub shell-2-spec : {M : Type 1} → statement M
 shell-2-spec =
     tie.close
     (tie.spec
-    decode-split-requires
-    cast-places
-    slice-set-from-places
-    sub-places
-    cast-places-2
-    slice-set-from-places-2
-    same-length
+    (λ c κs. search needs)
+    (λ c. search needs)
+    (λ c. search needs)
+    (λ c. search needs)
+    (λ c. search needs)
+    (λ c. search needs)
+    (λ c. search needs)
     returns)

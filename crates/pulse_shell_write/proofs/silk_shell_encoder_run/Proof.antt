@@ -11,7 +11,7 @@ use Rattle.silk.specs.PulseTold.{ToldTo, place-told, places-told, split-told}
 use Rattle.sheet.specs.Places.{Stands, stands-in, lent}
 use Rattle.sheet.specs.Directory.{rowCount}
 use Rattle.sheet.specs.SheetRule.{row-good, row-writable}
-use Rattle.pulse_shell_write.specs.Splits.{partsOf, allOf, splitOf, noPart}
+use Rattle.pulse_shell_write.specs.Splits.{Part, partsOf, allOf, splitOf, noPart}
 use Rattle.pulse_shell_write.specs.SplitLaws.{itself}
 use Rattle.pulse_shell_write.specs.Spoken.{spoken, shell-told, Stored}
 use Rattle.pulse_shell_write.proofs.silk_shell_encoder_run.Statement.{statement}
@@ -28,44 +28,41 @@ Inv-loop buf₀ rows places p starts alls lefts count q₀ k₀ buf q k = Tellin
 abbrev μ-loop : tie.MeasureT-loop
 μ-loop buf₀ rows places p starts alls lefts count q₀ k₀ buf q k = count - k
 
-slice-aggregate-spoken-of : tie.Need-slice-aggregate-spoken-of Inv-loop μ-loop
-slice-aggregate-spoken-of c = search needs
-
-slice-aggregate-spoken-of-2 : tie.Need-slice-aggregate-spoken-of-2 Inv-loop μ-loop
-slice-aggregate-spoken-of-2 c = search needs
-
-slice-aggregate-spoken-of-3 : tie.Need-slice-aggregate-spoken-of-3 Inv-loop μ-loop
-slice-aggregate-spoken-of-3 c = search needs
-
-cast-spoken-of : tie.Need-cast-spoken-of Inv-loop μ-loop
-cast-spoken-of c = search needs
-
 spoken-of-requires : tie.Need-spoken-of-requires Inv-loop μ-loop
 spoken-of-requires c κs =
     let b = c .before .before .before .before .before .before in
     (record { start-size = refl; all-size = refl; left-size = refl }, (b .pre .1 .1 .1 .1, b .pre .1 .1 .1 .0, b .pre .1 .1 .1 .2))
 
+abbrev spoke : tie.At-loop Inv-loop μ-loop → tie.After-spoken-of Inv-loop μ-loop
+spoke l = l .before .before .before .before
+
+abbrev start : tie.After-spoken-of Inv-loop μ-loop → tie.Start Inv-loop μ-loop
+start s = s .before .before .before .before .before .before .before
+
+-- the parts that have pulses
+abbrev parts : tie.At-loop Inv-loop μ-loop → List Part
+parts l = spoken (partsOf 4 (start (spoke l) .args .places .now))
+
 loop-holds : tie.Need-loop-holds Inv-loop μ-loop
-loop-holds c = record { told = midway-start (c .before .before .before .before .before .before .before .before .before .before .pre .0); to = omega arith; kept = refl }
+loop-holds c = record { told = midway-start (start (c .before .before .before) .pre .0); to = omega arith; kept = refl }
 
 -- the part at hand
 part : (c : tie.In-loop Inv-loop μ-loop)
-    → let s = c .before .before .before .before .before .spoken-of .last in
+    → let s = spoke (c .before) .spoken-of .last in
     let k = c .before .loop .k in
-    Stored (getD (s .0) k 0) (getD (s .1 .0) k 0) (getD (s .1 .1 .0) k 0) (getD (spoken (partsOf 4 (c .before .before .before .before .before .before .before .before .before .before .before .before .args .places .now))) k noPart)
-part c = c .before .before .before .before .before .spoken-of .ensures .at (c .before .loop .k) (c .loop-test .taken)
+    Stored (getD (s .0) k 0) (getD (s .1 .0) k 0) (getD (s .1 .1 .0) k 0) (getD (parts (c .before)) k noPart)
+part c = spoke (c .before) .spoken-of .ensures .at (c .before .loop .k) (c .loop-test .taken)
 
 inside : (c : tie.In-loop Inv-loop μ-loop) → c .before .loop .k < 15
-inside c = omega (arith, c .before .before .before .before .before .spoken-of .ensures .most, c .loop-test .taken)
+inside c = omega (arith, spoke (c .before) .spoken-of .ensures .most, c .loop-test .taken)
 
 -- where its row stands in what is lent
 place : (c : tie.In-loop Inv-loop μ-loop)
-    → let s = c .before .before .before .before .before .spoken-of .last in
-    let b = c .before .before .before .before .before .before .before .before .before .before .before .before in
+    → let s = spoke (c .before) in
     let k = c .before .loop .k in
-    let q = getD (spoken (partsOf 4 (b .args .places .now))) k noPart in
-    Stands (58 + q .table * 16 + allOf q) (b .args .rows .now) (getD (s .0) k 0) (getD (s .1 .0) k 0 + 1)
-place c = let a = part c in rw (a .all-is) (stands-in (c .before .before .before .before .before .before .before .before .before .before .before .before .pre .1 .1 .0 .is) (a .stands))
+    let q = getD (parts (c .before)) k noPart in
+    Stands (58 + q .table * 16 + allOf q) (start s .args .rows .now) (getD (s .spoken-of .last .0) k 0) (getD (s .spoken-of .last .1 .0) k 0 + 1)
+place c = let a = part c in rw (a .all-is) (stands-in (start (spoke (c .before)) .pre .1 .1 .0 .is) (a .stands))
 
 mul-start : tie.Need-mul-start Inv-loop μ-loop
 mul-start c = omega (arith, inside c)
@@ -83,7 +80,7 @@ add-end : tie.Need-add-end Inv-loop μ-loop
 add-end c = let a = part c in omega (arith, a .all-is, a .within .most)
 
 add-end-2 : tie.Need-add-end-2 Inv-loop μ-loop
-add-end-2 c = omega (arith, place c .within, c .before .before .before .before .before .before .before .before .before .before .before .before .pre .1 .1 .0 .size)
+add-end-2 c = omega (arith, place c .within, start (spoke (c .before)) .pre .1 .1 .0 .size)
 
 array-read-left : tie.Need-array-read-left Inv-loop μ-loop
 array-read-left c = inside c
@@ -91,24 +88,18 @@ array-read-left c = inside c
 cast-left : tie.Need-cast-left Inv-loop μ-loop
 cast-left c = let a = part c in omega (arith, a .left-is, a .left-most, a .within .most)
 
-sub-ec-enc-icdf-run : tie.Need-sub-ec-enc-icdf-run Inv-loop μ-loop
-sub-ec-enc-icdf-run c = search needs
-
-part-ec-enc-icdf-run-start : tie.Need-part-ec-enc-icdf-run-start Inv-loop μ-loop
-part-ec-enc-icdf-run-start c = search needs
-
 part-ec-enc-icdf-run-end : tie.Need-part-ec-enc-icdf-run-end Inv-loop μ-loop
 part-ec-enc-icdf-run-end c = place (c .before) .within
 
 ec-enc-icdf-run-requires : tie.Need-ec-enc-icdf-run-requires Inv-loop μ-loop
 ec-enc-icdf-run-requires c κs =
     let d = c .before .before in
-    let b = d .before .before .before .before .before .before .before .before .before .before .before .before in
+    let b = start (spoke (d .before)) in
     let l = d .before .loop in
     let a = part d in
     let s = place d in
     let t = l .inv .told in
-    let q = getD (spoken (partsOf 4 (b .args .places .now))) (l .k) noPart in
+    let q = getD (parts (d .before)) (l .k) noPart in
     let i = 58 + q .table * 16 + allOf q in
     let h : i < rowCount = omega (arith, a .within .table, a .within .most) in (
       t .core,
@@ -118,23 +109,18 @@ ec-enc-icdf-run-requires c κs =
       ),
     )
 
-add-k : tie.Need-add-k Inv-loop μ-loop
-add-k c = search needs
-
-loop-less : tie.Need-loop-less Inv-loop μ-loop
-loop-less c = search needs
-
 loop-again : tie.Need-loop-again Inv-loop μ-loop
 loop-again c =
     let d = c .before .before .before .before .before in
     let l = d .before .loop in
     let a = part d in
     let w = c .before .before .ec-enc-icdf-run in
-    let qs = spoken (partsOf 4 (d .before .before .before .before .before .before .before .before .before .before .before .before .args .places .now)) in
+    let qs = parts (d .before) in
     let q = getD qs (l .k) noPart in
     let t = split-told {y = q .places} (q .table) (allOf q) (a .some) (lent _ (place d) refl) (a .left-is) (w .ensures) in
     record {
-      told = place-told _ _ _ _ _ qs (l .k) (l .inv .told) (omega (arith, d .before .before .before .before .before .spoken-of .ensures .count, d .loop-test .taken)) refl (told-of (λ r. r .places) t);
+      told = place-told _ _ _ _ _ qs (l .k) (l .inv .told) (omega (arith, spoke (d .before) .spoken-of .ensures .count, d .loop-test .taken)) refl
+          (told-of (λ r. r .places) t);
       to = omega (arith, inside d);
       kept = w .kept .0 ∙ l .inv .kept;
     }
@@ -144,11 +130,12 @@ same-length c = c .before .loop .inv .kept
 
 returns : tie.Need-returns Inv-loop μ-loop
 returns c =
-    let b = c .before .before .before .before .before .before .before .before .before .before .before .before in
+    let s = spoke (c .before) in
+    let b = start s in
     let l = c .before .loop in
     shell-told 4 (b .args .p) (b .args .places .now) (b .pre .1 .1 .1 .2)
     (told-within (omega (arith, l .inv .to))
-    (places-told _ _ _ _ _ (spoken (partsOf 4 (b .args .places .now))) (l .k) (l .inv .told) (omega (arith, c .before .before .before .before .before .spoken-of .ensures .count, c .loop-test .left))))
+    (places-told _ _ _ _ _ (parts (c .before)) (l .k) (l .inv .told) (omega (arith, s .spoken-of .ensures .count, c .loop-test .left))))
 
 pub silk-shell-encoder-run-spec : {M : Type 1} → statement M
 silk-shell-encoder-run-spec =
@@ -156,10 +143,10 @@ silk-shell-encoder-run-spec =
     (tie.spec
     Inv-loop
     μ-loop
-    slice-aggregate-spoken-of
-    slice-aggregate-spoken-of-2
-    slice-aggregate-spoken-of-3
-    cast-spoken-of
+    (λ c. search needs)
+    (λ c. search needs)
+    (λ c. search needs)
+    (λ c. search needs)
     spoken-of-requires
     loop-holds
     mul-start
@@ -170,12 +157,12 @@ silk-shell-encoder-run-spec =
     add-end-2
     array-read-left
     cast-left
-    sub-ec-enc-icdf-run
-    part-ec-enc-icdf-run-start
+    (λ c. search needs)
+    (λ c. search needs)
     part-ec-enc-icdf-run-end
     ec-enc-icdf-run-requires
-    add-k
-    loop-less
+    (λ c. search needs)
+    (λ c. search needs)
     loop-again
     same-length
     returns)

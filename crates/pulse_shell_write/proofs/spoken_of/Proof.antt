@@ -28,25 +28,22 @@ abbrev μ-loop : tie.MeasureT-loop
 splits-of-requires : tie.Need-splits-of-requires Inv-loop μ-loop
 splits-of-requires c κs = c .before .before .before .before .pre .1
 
+abbrev start : tie.At-loop Inv-loop μ-loop → tie.Start Inv-loop μ-loop
+start l = l .before .before .before .before .before .before
+
 -- the part at hand
 part : (c : tie.In-loop Inv-loop μ-loop)
     → let s = c .before .before .splits-of .result in
-    let y = c .before .before .before .before .before .before .before .args .x .now in
+    let y = start (c .before) .args .x .now in
     At y (s .all) (s .left) (c .before .loop .k) (getD (partsOf 4 y) (c .before .loop .k) noPart)
 part c =
-    let b = c .before .before .before .before .before .before .before in
+    let b = start (c .before) in
     let s = c .before .before .splits-of in
     part-at (b .args .x .now) (s .result .all) (s .result .left) (c .before .loop .k) (c .loop-test .taken) (omega (arith, b .pre .1 .1, b .pre .1 .2))
     (s .ensures .0) (s .ensures .1)
 
 loop-holds : tie.Need-loop-holds Inv-loop μ-loop
 loop-holds c = record { are = gathered-none (c .before .before .before .before .before .pre .0); few = omega arith; to = omega arith }
-
-element-copy-out-c : tie.Need-element-copy-out-c Inv-loop μ-loop
-element-copy-out-c c = search needs
-
-array-read-split-start-run : tie.Need-array-read-split-start-run Inv-loop μ-loop
-array-read-split-start-run c = search needs
 
 cast-split-start-run : tie.Need-cast-split-start-run Inv-loop μ-loop
 cast-split-start-run c = let a = part (c .before) in omega (arith, a .table, a .within .table)
@@ -71,30 +68,22 @@ slice-write-start c = omega (arith, room (c .before .before), c .before .before 
 slice-write-all : tie.Need-slice-write-all Inv-loop μ-loop
 slice-write-all c = omega (arith, room (c .before .before), c .before .before .before .loop .inv .are .sizes .all-size)
 
-element-copy-out-left : tie.Need-element-copy-out-left Inv-loop μ-loop
-element-copy-out-left c = search needs
-
 slice-write-left : tie.Need-slice-write-left Inv-loop μ-loop
 slice-write-left c = omega (arith, room (c .before .before .before), c .before .before .before .before .loop .inv .are .sizes .left-size)
 
 counted-requires : tie.Need-counted-requires Inv-loop μ-loop
 counted-requires c κs = room (c .before .before .before)
 
-add-k : tie.Need-add-k Inv-loop μ-loop
-add-k c = search needs
-
-loop-less : tie.Need-loop-less Inv-loop μ-loop
-loop-less c = search needs
-
 loop-again : tie.Need-loop-again Inv-loop μ-loop
 loop-again c =
     let b = c .before .before .before .before in
     let l = b .before .loop in
     let a = part b in
-    let ps = partsOf 4 (b .before .before .before .before .before .before .before .args .x .now) in
+    let y = start (b .before) .args .x .now in
+    let ps = partsOf 4 y in
     let q = getD ps (l .k) noPart in
     let n = getD (b .before .before .splits-of .result .all) (l .k) 0 in
-    let m : l .k < length ps = omega (arith, parts-length (b .before .before .before .before .before .before .before .args .x .now), b .loop-test .taken) in
+    let m : l .k < length ps = omega (arith, parts-length y, b .loop-test .taken) in
     record {
       are = rw (add-one, take-suc ps (l .k) noPart m, c .counted .ensures)
           (gathered-next (take (l .k) ps) q _ _ _ (l .inv .are) (room b) (a .all-is)
@@ -112,18 +101,18 @@ loop-again c =
     }
 
 same-length : tie.Need-same-length Inv-loop μ-loop
-same-length c = omega (arith, c .before .loop .inv .are .sizes .start-size, c .before .before .before .before .before .before .before .pre .0 .start-size)
+same-length c = omega (arith, c .before .loop .inv .are .sizes .start-size, start (c .before) .pre .0 .start-size)
 
 same-length-2 : tie.Need-same-length-2 Inv-loop μ-loop
-same-length-2 c = omega (arith, c .before .loop .inv .are .sizes .all-size, c .before .before .before .before .before .before .before .pre .0 .all-size)
+same-length-2 c = omega (arith, c .before .loop .inv .are .sizes .all-size, start (c .before) .pre .0 .all-size)
 
 same-length-3 : tie.Need-same-length-3 Inv-loop μ-loop
-same-length-3 c = omega (arith, c .before .loop .inv .are .sizes .left-size, c .before .before .before .before .before .before .before .pre .0 .left-size)
+same-length-3 c = omega (arith, c .before .loop .inv .are .sizes .left-size, start (c .before) .pre .0 .left-size)
 
 returns : tie.Need-returns Inv-loop μ-loop
 returns c =
     let l = c .before .loop in
-    let y = c .before .before .before .before .before .before .before .args .x .now in
+    let y = start (c .before) .args .x .now in
     rw (take-all (l .k) (partsOf 4 y) (omega (arith, parts-length y, c .loop-test .left, l .inv .to))) at (l .inv .are)
 
 pub spoken-of-spec : {M : Type 1} → statement M
@@ -134,19 +123,19 @@ spoken-of-spec =
     μ-loop
     splits-of-requires
     loop-holds
-    element-copy-out-c
-    array-read-split-start-run
+    (λ c. search needs)
+    (λ c. search needs)
     cast-split-start-run
     cast-split-start-run-2
     split-start-run-requires
     mul-start
     slice-write-start
     slice-write-all
-    element-copy-out-left
+    (λ c. search needs)
     slice-write-left
     counted-requires
-    add-k
-    loop-less
+    (λ c. search needs)
+    (λ c. search needs)
     loop-again
     same-length
     same-length-2

@@ -36,9 +36,6 @@ Inv-loop packet row places₀ at n d₀ t₀ places d t = Turn packet row places
 abbrev μ-loop : tie.MeasureT-loop
 μ-loop packet row places₀ at n d₀ t₀ places d t = n - t
 
-pulse-places-requires : tie.Need-pulse-places-requires Inv-loop μ-loop
-pulse-places-requires c κs = search needs
-
 loop-holds : tie.Need-loop-holds Inv-loop μ-loop
 loop-holds c =
     let b = c .before .before .before .before .before in
@@ -49,24 +46,22 @@ loop-holds c =
       size = b .pre .1 .1 .1 .1;
     }
 
-array-read-k : tie.Need-array-read-k Inv-loop μ-loop
-array-read-k c = search needs
+abbrev start : tie.At-loop Inv-loop μ-loop → tie.Start Inv-loop μ-loop
+start l = l .before .before .before .before .before .before
 
-cast-k : tie.Need-cast-k Inv-loop μ-loop
-cast-k c = let l = c .before .loop in omega (arith, l .inv .gathered .below (l .t) (c .loop-test .taken), l .inv .size)
+-- the place at hand
+abbrev place : tie.At-loop Inv-loop μ-loop → ℕ
+place l = getD (l .before .pulse-places .last .1 .0) (l .loop .t) 0
 
-mul-m : tie.Need-mul-m Inv-loop μ-loop
-mul-m c = let l = c .before .loop in omega (arith, l .inv .gathered .below (l .t) (c .loop-test .taken), l .inv .size)
-
-slice-copy-out-m : tie.Need-slice-copy-out-m Inv-loop μ-loop
-slice-copy-out-m c = let l = c .before .loop in omega (arith, l .inv .gathered .below (l .t) (c .loop-test .taken), l .inv .size)
+below : (c : tie.In-loop Inv-loop μ-loop) → place (c .before) < length (c .before .loop .places)
+below c = let l = c .before .loop in omega (arith, l .inv .gathered .below (l .t) (c .loop-test .taken), l .inv .size)
 
 decode-sign-requires : tie.Need-decode-sign-requires Inv-loop μ-loop
 decode-sign-requires c κs =
-    let b = c .before .before .before .before .before .before .before .before in
+    let b = start (c .before .before) in
     let l = c .before .before .loop in
     let h = c .before .loop-test .taken in
-    let k = getD (c .before .before .before .pulse-places .last .1 .0) (l .t) 0 in
+    let k = place (c .before .before) in
     let g = reached _ _ _ _ _ _ (l .places) (l .d) (l .t) (l .inv) h (b .pre .1 .1 .1 .1) in
     let m : k < length (b .args .places .now) = omega (arith, l .inv .gathered .below (l .t) h, b .pre .1 .1 .1 .1) in
     let f : SFits w16 (getD (l .places) k (pos 0)) = sfits-of (c .m .given) in
@@ -76,53 +71,40 @@ decode-sign-requires c κs =
         omega (arith, g .through .most, m, b .pre .1 .0, b .pre .1 .1 .1 .1),
         (
           b .pre .1 .1 .0,
-          rw (toZ-ofZ f)
-              (signing-natural _ _ (b .args .places .now) _ (l .places) (l .d) k g m, omega (arith, n, signing-mag _ _ (b .args .places .now) _ (l .places) (l .d) k g m)),
+          rw (toZ-ofZ f) (
+            signing-natural _ _ (b .args .places .now) _ (l .places) (l .d) k g m,
+            omega (arith, n, signing-mag _ _ (b .args .places .now) _ (l .places) (l .d) k g m),
+          ),
         ),
       ),
     )
 
-mul-pulse : tie.Need-mul-pulse Inv-loop μ-loop
-mul-pulse c =
-    let l = c .before .before .before .before .loop in
-    omega (arith, l .inv .gathered .below (l .t) (c .before .before .before .loop-test .taken), l .inv .size)
-
-slice-set-from-pulse : tie.Need-slice-set-from-pulse Inv-loop μ-loop
-slice-set-from-pulse c =
-    let l = c .before .before .before .before .loop in
-    omega (arith, l .inv .gathered .below (l .t) (c .before .before .before .loop-test .taken), l .inv .size)
-
-add-t : tie.Need-add-t Inv-loop μ-loop
-add-t c = search needs
-
-loop-less : tie.Need-loop-less Inv-loop μ-loop
-loop-less c = search needs
-
 loop-again : tie.Need-loop-again Inv-loop μ-loop
 loop-again c =
-    let b = c .before .before .before .before .before .before .before .before .before .before .before in
-    let l = c .before .before .before .before .before .loop in
-    let h = c .before .before .before .before .loop-test .taken in
-    let k = getD (c .before .before .before .before .before .before .pulse-places .last .1 .0) (l .t) 0 in
+    let i = c .before .before .before .before in
+    let b = start (i .before) in
+    let l = i .before .loop in
+    let h = i .loop-test .taken in
+    let k = place (i .before) in
     let g = reached _ _ _ _ _ _ (l .places) (l .d) (l .t) (l .inv) h (b .pre .1 .1 .1 .1) in
     let a = c .before .before .decode-sign in
     let f : SFits w16 (getD (l .places) k (pos 0)) = sfits-of (c .before .before .before .m .given) in
     let p : SFits w16 (a .result .pulse) = search needs in
-    let m : k < length (mags (b .args .places .now)) = omega (arith, l .inv .gathered .below (l .t) h, b .pre .1 .1 .1 .1, length-map (b .args .places .now) natAbs) in
+    let s = b .args .places .now in
+    let m : k < length (mags s) = omega (arith, l .inv .gathered .below (l .t) h, b .pre .1 .1 .1 .1, length-map s natAbs) in
     rw (toZ-ofZ p, add-one)
     (record {
       gathered = l .inv .gathered;
-      going = rw add-one at (going-next _ _ _ _ _ _ _ (l .places) (l .d) k g m (a .result .pulse) (a .result .state) 16 (omega arith) (rw (toZ-ofZ f) at (a .ensures)));
+      going =
+          rw add-one at
+          (going-next _ _ _ _ _ _ _ (l .places) (l .d) k g m (a .result .pulse) (a .result .state) 16 (omega arith) (rw (toZ-ofZ f) at (a .ensures)));
       to = omega (arith, h);
       size = length-set (l .places) k (a .result .pulse) ∙ l .inv .size;
     })
 
-same-length : tie.Need-same-length Inv-loop μ-loop
-same-length c = search needs
-
 returns : tie.Need-returns Inv-loop μ-loop
 returns c =
-    let b = c .before .before .before .before .before .before .before in
+    let b = start (c .before) in
     let l = c .before .loop in
     let i = l .inv in
     let e : l .t ≡ c .before .before .pulse-places .result = omega (arith, i .to) in
@@ -138,17 +120,17 @@ all-signs-spec =
     (tie.spec
     Inv-loop
     μ-loop
-    pulse-places-requires
+    (λ c κs. search needs)
     loop-holds
-    array-read-k
-    cast-k
-    mul-m
-    slice-copy-out-m
+    (λ c. search needs)
+    (λ c. omega (arith, below c))
+    (λ c. omega (arith, below c))
+    (λ c. below c)
     decode-sign-requires
-    mul-pulse
-    slice-set-from-pulse
-    add-t
-    loop-less
+    (λ c. omega (arith, below (c .before .before .before)))
+    (λ c. below (c .before .before .before))
+    (λ c. search needs)
+    (λ c. search needs)
     loop-again
-    same-length
+    (λ c. search needs)
     returns)

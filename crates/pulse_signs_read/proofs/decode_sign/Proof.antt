@@ -23,9 +23,6 @@ minus-fits m e f =
     let l = fits-up m f in
     rw (+ℤ-idl (negℤ m), e) (parts-fit (negℤ (pos (natAbs m))) (omega (arith, up-neg (pos (natAbs m)))) (omega (arith, down-neg (pos (natAbs m)), ap up e)))
 
-ec-dec-icdf8-run-requires : tie.Need-ec-dec-icdf8-run-requires
-ec-dec-icdf8-run-requires c κs = search needs
-
 sub-pulse : tie.Need-sub-pulse
 sub-pulse c =
     let b = c .before .before .before .before .before .before in
@@ -42,8 +39,10 @@ returns-2 : tie.Need-returns-2
 returns-2 c =
     let b = c .before .before .before .before .before .before in
     let m = b .args .m in
-    rw (toZ-ofZ (b .fits .m)) (subst (λ (z : ℤ). Ran (b .args .packet .now) (b .args .d) (sign (b .args .row .now) (natAbs m)) 16 z (c .before .before .before .ec-dec-icdf8-run .result .state)) (sym (b .pre .1 .1 .1 .0))
-    (sign-plus (b .args .row .now) (natAbs m) (b .pre .1 .1 .1 .1) (c .before .before .before .ec-dec-icdf8-run .ensures) (c .if1 .left)))
+    let r = c .before .before .before .ec-dec-icdf8-run in
+    rw (toZ-ofZ (b .fits .m))
+    (subst (λ (z : ℤ). Ran (b .args .packet .now) (b .args .d) (sign (b .args .row .now) (natAbs m)) 16 z (r .result .state)) (sym (b .pre .1 .1 .1 .0))
+    (sign-plus (b .args .row .now) (natAbs m) (b .pre .1 .1 .1 .1) (r .ensures) (c .if1 .left)))
 
 pub decode-sign-spec : {M : Type 1} → statement M
-decode-sign-spec = tie.close (tie.spec ec-dec-icdf8-run-requires sub-pulse returns returns-2)
+decode-sign-spec = tie.close (tie.spec (λ c κs. search needs) sub-pulse returns returns-2)

@@ -40,18 +40,6 @@ zero-next s k h l z r =
 loop-holds : tie.Need-loop-holds Inv-loop μ-loop
 loop-holds c = (omega arith, λ e. zero-end (c .args .places .now))
 
-sub-j : tie.Need-sub-j Inv-loop μ-loop
-sub-j c = search needs
-
-mul-m : tie.Need-mul-m Inv-loop μ-loop
-mul-m c = search needs
-
-shared-slice-copy-out-m : tie.Need-shared-slice-copy-out-m Inv-loop μ-loop
-shared-slice-copy-out-m c = search needs
-
-loop-less : tie.Need-loop-less Inv-loop μ-loop
-loop-less c = search needs
-
 loop-again : tie.Need-loop-again Inv-loop μ-loop
 loop-again c =
     let b = c .before .before in
@@ -80,9 +68,9 @@ no-pulse-spec =
     Inv-loop
     μ-loop
     loop-holds
-    sub-j
-    mul-m
-    shared-slice-copy-out-m
-    loop-less
+    (λ c. search needs)
+    (λ c. search needs)
+    (λ c. search needs)
+    (λ c. search needs)
     loop-again
     returns)

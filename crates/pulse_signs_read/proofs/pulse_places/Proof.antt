@@ -40,31 +40,10 @@ stepped s at n k g l false f h = gathered-some s at n k g l (h refl)
 loop-holds : tie.Need-loop-holds Inv-loop μ-loop
 loop-holds c = (omega arith, (c .pre .1, gathered-start (c .args .places .now) (c .args .at .now)))
 
-cast-at : tie.Need-cast-at Inv-loop μ-loop
-cast-at c = search needs
-
-element-write-at : tie.Need-element-write-at Inv-loop μ-loop
-element-write-at c = search needs
-
-mul-m : tie.Need-mul-m Inv-loop μ-loop
-mul-m c = search needs
-
-shared-slice-copy-out-m : tie.Need-shared-slice-copy-out-m Inv-loop μ-loop
-shared-slice-copy-out-m c = search needs
-
-cast-n : tie.Need-cast-n Inv-loop μ-loop
-cast-n c = search needs
-
 add-n : tie.Need-add-n Inv-loop μ-loop
 add-n c =
     let b = c .before .before in
     omega (arith, b .loop .inv .1 .1 .count, one (not (eqb (ofZ w16 (getD (b .before .args .places .now) (b .loop .k) (pos 0))) 0)))
-
-add-k : tie.Need-add-k Inv-loop μ-loop
-add-k c = search needs
-
-loop-less : tie.Need-loop-less Inv-loop μ-loop
-loop-less c = search needs
 
 loop-again : tie.Need-loop-again Inv-loop μ-loop
 loop-again c =
@@ -92,13 +71,13 @@ pulse-places-spec =
     Inv-loop
     μ-loop
     loop-holds
-    cast-at
-    element-write-at
-    mul-m
-    shared-slice-copy-out-m
-    cast-n
+    (λ c. search needs)
+    (λ c. search needs)
+    (λ c. search needs)
+    (λ c. search needs)
+    (λ c. search needs)
     add-n
-    add-k
-    loop-less
+    (λ c. search needs)
+    (λ c. search needs)
     loop-again
     returns)

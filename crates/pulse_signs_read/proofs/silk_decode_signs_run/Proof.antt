@@ -26,25 +26,10 @@ no-signs b d r (suc n) =
 none : (b : List ℕ) (d : Dec) (r : List ℕ) (s : List ℤ) → s ≡ replicate (length s) (pos 0) → Core b d → Ran b d (each (pos 0) (sign r) (mags s)) 256 s d
 none b d r s e c = rw e (record { is = no-signs b d r (length s); core = c; least = omega arith; most = omega arith })
 
-no-pulse-requires : tie.Need-no-pulse-requires
-no-pulse-requires c κs = search needs
-
-same-length : tie.Need-same-length
-same-length c = search needs
-
 returns : tie.Need-returns
 returns c =
     let b = c .before .before .before .before .before .before in
     none _ _ _ (b .args .places .now) (c .before .no-pulse .ensures (c .if2 .taken)) (b .pre .0)
 
-all-signs-requires : tie.Need-all-signs-requires
-all-signs-requires c κs = search needs
-
-same-length-2 : tie.Need-same-length-2
-same-length-2 c = search needs
-
-returns-2 : tie.Need-returns-2
-returns-2 c = search needs
-
 pub silk-decode-signs-run-spec : {M : Type 1} → statement M
-silk-decode-signs-run-spec = tie.close (tie.spec no-pulse-requires same-length returns all-signs-requires same-length-2 returns-2)
+silk-decode-signs-run-spec = tie.close (tie.spec (λ c κs. search needs) (λ c. search needs) returns (λ c κs. search needs) (λ c. search needs) (λ c. search needs))

@@ -10,9 +10,6 @@ use Rattle.pulse_magnitude.specs.Bits.{zero-of}
 use Rattle.pulse_signs_write.proofs.next_place.Statement.{statement}
 use Rattle.pulse_signs_write.proofs.next_place.Tie as tie
 
-add-result : tie.Need-add-result
-add-result c = search needs
-
 returns : tie.Need-returns
 returns c =
     let z = c .before .args .pulse in
@@ -25,4 +22,4 @@ returns-2 c =
     omega (arith, one-said z n)
 
 pub next-place-spec : {M : Type 1} → statement M
-next-place-spec = tie.close (tie.spec add-result returns returns-2)
+next-place-spec = tie.close (tie.spec (λ c. search needs) returns returns-2)

@@ -33,26 +33,11 @@ loop-holds : tie.Need-loop-holds Inv-loop μ-loop
 unfolding signsSaid
 loop-holds c = record { few = omega arith; to = omega arith; size = c .before .pre .0; are = refl }
 
-mul-pulse : tie.Need-mul-pulse Inv-loop μ-loop
-mul-pulse c = search needs
-
-shared-slice-copy-out-pulse : tie.Need-shared-slice-copy-out-pulse Inv-loop μ-loop
-shared-slice-copy-out-pulse c = search needs
-
-sign-said-requires : tie.Need-sign-said-requires Inv-loop μ-loop
-sign-said-requires c κs = search needs
-
 slice-write-symbols : tie.Need-slice-write-symbols Inv-loop μ-loop
 slice-write-symbols c = omega (arith, c .before .before .before .loop .inv .few, c .before .before .before .loop .inv .size)
 
 next-place-requires : tie.Need-next-place-requires Inv-loop μ-loop
 next-place-requires c κs = omega (arith, c .before .before .before .loop .inv .few)
-
-add-k : tie.Need-add-k Inv-loop μ-loop
-add-k c = search needs
-
-loop-less : tie.Need-loop-less Inv-loop μ-loop
-loop-less c = search needs
 
 loop-again : tie.Need-loop-again Inv-loop μ-loop
 loop-again c =
@@ -89,13 +74,13 @@ signs-said-spec =
     Inv-loop
     μ-loop
     loop-holds
-    mul-pulse
-    shared-slice-copy-out-pulse
-    sign-said-requires
+    (λ c. search needs)
+    (λ c. search needs)
+    (λ c κs. search needs)
     slice-write-symbols
     next-place-requires
-    add-k
-    loop-less
+    (λ c. search needs)
+    (λ c. search needs)
     loop-again
     same-length
     returns)

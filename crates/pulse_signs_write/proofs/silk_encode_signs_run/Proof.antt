@@ -43,12 +43,6 @@ symbol c k h =
     let s = c .signs-said in
     sym (getD-take (s .result) (s .last .0) k 0 h) ∙ ap (λ (l : List ℕ). getD l k 0) (s .ensures .1)
 
-slice-aggregate-signs-said : tie.Need-slice-aggregate-signs-said Inv-loop μ-loop
-slice-aggregate-signs-said c = search needs
-
-signs-said-requires : tie.Need-signs-said-requires Inv-loop μ-loop
-signs-said-requires c κs = search needs
-
 loop-holds : tie.Need-loop-holds Inv-loop μ-loop
 loop-holds c =
     let b = c .before .before .before .before .before in
@@ -80,9 +74,6 @@ ec-enc-icdf-run-requires c κs =
 add-k : tie.Need-add-k Inv-loop μ-loop
 add-k c = omega (arith, c .before .before .before .before .before .before .before .signs-said .ensures .0)
 
-loop-less : tie.Need-loop-less Inv-loop μ-loop
-loop-less c = search needs
-
 loop-again : tie.Need-loop-again Inv-loop μ-loop
 loop-again c =
     let l = c .before .before .before .before .before .loop in
@@ -109,14 +100,14 @@ silk-encode-signs-run-spec =
     (tie.spec
     Inv-loop
     μ-loop
-    slice-aggregate-signs-said
-    signs-said-requires
+    (λ c. search needs)
+    (λ c κs. search needs)
     loop-holds
     array-read-ec-enc-icdf-run
     cast-ec-enc-icdf-run
     ec-enc-icdf-run-requires
     add-k
-    loop-less
+    (λ c. search needs)
     loop-again
     same-length
     returns)

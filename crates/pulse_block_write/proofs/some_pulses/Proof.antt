@@ -5,8 +5,8 @@ use mathlib.Core.Path.{_≡_, refl}
 use native.Mathlib.Omega.{arith}
 use borrow.Author.Tests.{eqb-true}
 use lib.Dec.{eqb}
-use Rattle.encode_pulses_run.proofs.some_pulses.Statement.{statement}
-use Rattle.encode_pulses_run.proofs.some_pulses.Tie as tie
+use Rattle.pulse_block_write.proofs.some_pulses.Statement.{statement}
+use Rattle.pulse_block_write.proofs.some_pulses.Tie as tie
 
 neither : (a b : Bool) → not a || not b ≡ false → (a ≡ true) × (b ≡ true)
 neither true true e = (refl, refl)

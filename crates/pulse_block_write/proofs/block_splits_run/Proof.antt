@@ -1,4 +1,4 @@
--- `block_splits` meets its contract: the shifted magnitudes are those that the splits are written for. Assumes nothing.
+-- `block_splits_run` meets its contract: the shifted magnitudes are those that the splits are written for. Assumes nothing.
 use borrow.Author.Needs.{needs}
 use Prim.Native.Nat.{ℕ}
 use mathlib.Core.Path.{ap, subst, _∙_}
@@ -7,26 +7,14 @@ use Rattle.entcode.specs.Flat.{out}
 use Rattle.tree.specs.Told.{Told}
 use Rattle.silk.specs.PulseSyntax.{total, shell}
 use Rattle.silk.specs.PulseWriting.{shiftedBy}
-use Rattle.encode_pulses_run.proofs.block_splits.Statement.{statement}
-use Rattle.encode_pulses_run.proofs.block_splits.Tie as tie
-
-slice-aggregate-shrink-run : tie.Need-slice-aggregate-shrink-run
-slice-aggregate-shrink-run c = search needs
-
-shrink-run-requires : tie.Need-shrink-run-requires
-shrink-run-requires c κs = search needs
-
-slice-aggregate-silk-shell-encoder-run : tie.Need-slice-aggregate-silk-shell-encoder-run
-slice-aggregate-silk-shell-encoder-run c = search needs
+use Rattle.pulse_block_write.proofs.block_splits_run.Statement.{statement}
+use Rattle.pulse_block_write.proofs.block_splits_run.Tie as tie
 
 silk-shell-encoder-run-requires : tie.Need-silk-shell-encoder-run-requires
 silk-shell-encoder-run-requires c κs =
     let b = c .before .before .before .before .before .before .before in
     let s = c .before .before .before .shrink-run in
     (b .pre .0, (b .pre .1 .0, (b .pre .1 .1 .0, (b .pre .1 .1 .1 .1, s .kept .0, ap total (s .ensures) ∙ b .pre .1 .1 .1 .3))))
-
-same-length : tie.Need-same-length
-same-length c = search needs
 
 returns : tie.Need-returns
 returns c =
@@ -35,13 +23,13 @@ returns c =
     let r = c .before .before .silk-shell-encoder-run in
     subst (λ (y : List ℕ). Told (out (b .args .buf .now) (b .args .w)) y (shell 4 (b .args .c)) 240 (out (r .last .0) (r .result))) (s .ensures) (r .ensures)
 
-pub block-splits-spec : {M : Type 1} → statement M
-block-splits-spec =
+pub block-splits-run-spec : {M : Type 1} → statement M
+block-splits-run-spec =
     tie.close
     (tie.spec
-    slice-aggregate-shrink-run
-    shrink-run-requires
-    slice-aggregate-silk-shell-encoder-run
+    (λ c. search needs)
+    (λ c κs. search needs)
+    (λ c. search needs)
     silk-shell-encoder-run-requires
-    same-length
+    (λ c. search needs)
     returns)
