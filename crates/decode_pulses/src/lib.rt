@@ -1,5 +1,5 @@
-// The call that reads a frame's pulses (document 01): packet, state, numbers and the slice's length are tested once, in the order of refusals;
-// a refusal touches no pulse. Name as in the crate's decode_pulses.rs.
+// The call that reads a frame's pulses (document 01): packet, state, numbers and the slice's length are tested once, in the order of
+// refusals; a refusal touches no pulse. Name as in the crate's decode_pulses.rs.
 ghost use mathlib.Core.Path.{_≡_};
 ghost use Rattle.silk.specs.FrameCalls.{pulsed, decodePulses};
 use entcode::Dec;
@@ -14,7 +14,8 @@ pub fn silk_decode_pulses(
     signal: u32,
     offset: u32,
 ) -> Decoded
-    ensures { λ a. ⌜ pulsed (now (pulses .exit)) a ≡ decodePulses (now (packet .entry)) d (now (pulses .entry)) khz subframes signal offset ⌝ }
+    ensures { λ a.
+        ⌜ pulsed (now (pulses .exit)) a ≡ decodePulses (now (packet .entry)) d (now (pulses .entry)) khz subframes signal offset ⌝ }
 {
     let rule = pulse_numbers::pulse_rule(pulses.len(), khz, subframes, signal, offset);
     let n = refusals::first_refusal(entdec::gate(packet, d), rule);

@@ -1,5 +1,5 @@
-// The excitation of a frame (RFC 6716, section 4.2.7.8), read into one slice of blocks of 16 places: rate level, counts, splits, low bits, signs.
-// The loops over blocks of the crate's decode_pulses.rs and code_signs.rs.
+// The excitation of a frame (RFC 6716, section 4.2.7.8), read into one slice of blocks of 16 places: rate level, counts, splits, low
+// bits, signs. The loops over blocks of the crate's decode_pulses.rs and code_signs.rs.
 ghost use mathlib.Core.Path.{_≡_};
 ghost use Prim.Native.Nat.{_*_, _^_, _<_, _≤_};
 ghost use lib.ListN.{length};
@@ -10,7 +10,8 @@ ghost use Rattle.silk.specs.PulsePlaces.{mags};
 ghost use Rattle.silk.specs.PulseBlocks.{Small, Sixteen, Held, rows16, Split, Lowered, Signed};
 ghost use Rattle.decode_pulses_run.specs.Excited.{Excited};
 use entcode::Dec;
-use pulse_counts::BlocksRead;
+use pulse_counts_read::BlocksRead;
+use pulse_numbers::FrameNumbers;
 
 // The magnitudes before low bits of n blocks.
 fn shells(packet: &[u8], rows: &[u8], x: BlocksRead, pulses: &mut [i16], n: usize) -> Dec
@@ -26,7 +27,13 @@ fn shells(packet: &[u8], rows: &[u8], x: BlocksRead, pulses: &mut [i16], n: usiz
         let at = i * 16;
         let end = at + 16;
         let c = x.counts[i];
-        d = shell_coder::silk_shell_decoder_run(packet, d, rows, &mut pulses[at..end], c as u32);
+        d = pulse_shell_read::silk_shell_decoder_run(
+            packet,
+            d,
+            rows,
+            &mut pulses[at..end],
+            c as u32,
+        );
         i += 1;
     }
     d
@@ -46,38 +53,38 @@ fn lows(packet: &[u8], from: Dec, rows: &[u8], x: BlocksRead, pulses: &mut [i16]
         let at = i * 16;
         let end = at + 16;
         let j = x.lows[i];
-        d = pulse_lows::block_lows_run(packet, d, &rows[823..825], &mut pulses[at..end], j as u32);
+        d = pulse_lows_read::block_lows_run(
+            packet,
+            d,
+            &rows[823..825],
+            &mut pulses[at..end],
+            j as u32,
+        );
         i += 1;
     }
     d
 }
 
 // The signs of n blocks.
-fn signs(
-    packet: &[u8],
-    from: Dec,
-    rows: &[u8],
-    x: BlocksRead,
-    pulses: &mut [i16],
-    n: usize,
-    signal: u32,
-    offset: u32,
-) -> Dec
+fn signs(packet: &[u8], from: Dec, rows: &[u8], x: BlocksRead, pulses: &mut [i16], f: FrameNumbers) -> Dec
     requires { ⌜ Core (now packet) from ⌝ }
     requires { ⌜ from .total ≤ 2 ^ 26 ⌝ }
     requires { ⌜ PulseRows (now rows) ⌝ }
-    requires { ⌜ (n ≤ 20) × (signal ≤ 2) × (offset ≤ 1) × Held Sixteen n (now pulses) ⌝ }
-    ensures { λ z. ⌜ Signed (now (packet .entry)) from signal offset (x .counts) (x .lows) (rows16 n (mags (now (pulses .entry)))) n (now (pulses .exit)) z ⌝ }
+    requires { ⌜ (f .blocks ≤ 20) × (f .signal ≤ 2) × (f .offset ≤ 1) × Held Sixteen (f .blocks) (now pulses) ⌝ }
+    ensures { λ z.
+        ⌜ Signed (now (packet .entry)) from (f .signal) (f .offset) (x .counts) (x .lows)
+        (rows16 (f .blocks) (mags (now (pulses .entry)))) (f .blocks) (now (pulses .exit)) z ⌝ }
 {
+    let n = f.blocks;
     let mut d = from;
     let mut i: usize = 0;
     while i < n {
         let at = i * 16;
         let end = at + 16;
-        let row = code_signs::sign_row_at_run(signal, offset, x.counts[i]);
+        let row = pulse_row_places::sign_row_at_run(f.signal, f.offset, x.counts[i]);
         let last = row + 2;
         let empty = (x.counts[i] == 0) & (x.lows[i] == 0);
-        d = code_signs::silk_decode_signs_run(
+        d = pulse_signs_read::silk_decode_signs_run(
             packet,
             d,
             &rows[row..last],
@@ -109,8 +116,13 @@ pub fn silk_decode_pulses_run(
     let end = at + 9;
     let a = entdec_run::ec_dec_icdf8_run(packet, d, &rows[at..end]);
     let level = a.value as usize;
-    let x = pulse_counts::counts_run(packet, a.state, rows, level, n);
+    let x = pulse_counts_read::counts_run(packet, a.state, rows, level, n);
     let s = shells(packet, rows, x, pulses, n);
     let l = lows(packet, s, rows, x, pulses, n);
-    signs(packet, l, rows, x, pulses, n, signal, offset)
+    let f = FrameNumbers {
+        blocks: n,
+        signal,
+        offset,
+    };
+    signs(packet, l, rows, x, pulses, f)
 }

@@ -3,6 +3,21 @@ ghost use mathlib.Core.Path.{_≡_};
 ghost use Prim.Native.Nat.{_≤_};
 ghost use Rattle.silk.specs.FrameCalls.{pulseNumbersOk, blocksOf, pulseRule};
 
+// What a call that writes pulses is told of its frame.
+pub struct CallNumbers {
+    pub khz: u32,
+    pub subframes: u32,
+    pub signal: u32,
+    pub offset: u32,
+}
+
+// A frame by its blocks of 16 places, and its types.
+pub struct FrameNumbers {
+    pub blocks: usize,
+    pub signal: u32,
+    pub offset: u32,
+}
+
 fn numbers_ok(khz: u32, subframes: u32, signal: u32, offset: u32) -> bool
     ensures { λ b. ⌜ b ≡ pulseNumbersOk khz subframes signal offset ⌝ }
 {

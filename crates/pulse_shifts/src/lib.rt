@@ -1,4 +1,5 @@
-// Which shift each block of a frame's pulses is written with (document 01, "Pulses"): the smallest at which the shifted magnitudes total at most 16.
+// Which shift each block of a frame's pulses is written with (document 01, "Pulses"): the smallest at which the shifted magnitudes total
+// at most 16.
 ghost use mathlib.Core.Path.{_≡_};
 ghost use Prim.Native.Nat.{_*_, _≤_};
 ghost use lib.ListN.{length};
@@ -6,7 +7,7 @@ ghost use Rattle.silk.specs.PulseSyntax.{total};
 ghost use Rattle.silk.specs.PulseBlocks.{rows16};
 ghost use Rattle.silk.specs.PulseWriting.{shiftedBy};
 ghost use Rattle.silk.specs.PulsePlans.{Shift, Planned};
-use pulse_lows::encode::magnitude;
+use pulse_magnitude::magnitude;
 
 // A block's count before low bits and its shift: 0 and 11 for a block that has none.
 pub struct BlockShift {

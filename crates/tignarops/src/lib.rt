@@ -20,6 +20,7 @@ use entcode::Encoded;
 use frame_type::FrameType;
 use framing::Packet;
 use framing::PacketWritten;
+use pulse_numbers::CallNumbers;
 use silk::Indices;
 use silk::IndicesRead;
 use silk::IndicesWritten;
@@ -235,7 +236,13 @@ pub extern "C" fn tg_encode_pulses(
         ⌜ sent (now (buf .exit)) a ≡
         encodePulses (out (now (buf .entry)) w) (now (pulses .entry)) khz subframes signal offset rate ⌝ }
 {
-    encode_pulses::silk_encode_pulses(buf, w, pulses, khz, subframes, signal, offset, rate)
+    let f = CallNumbers {
+        khz,
+        subframes,
+        signal,
+        offset,
+    };
+    encode_pulses::silk_encode_pulses(buf, w, pulses, f, rate)
 }
 
 // ---- line spectra

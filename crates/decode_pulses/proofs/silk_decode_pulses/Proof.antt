@@ -14,52 +14,43 @@ use Rattle.decode_pulses_run.specs.Excited.{Excited}
 use Rattle.decode_pulses.proofs.silk_decode_pulses.Statement.{statement}
 use Rattle.decode_pulses.proofs.silk_decode_pulses.Tie as tie
 
+abbrev start : tie.After-first-refusal → tie.Start
+start c = c .before .before .before .before
+
 -- the number of the call: the gate's refusal, or the rule's
 number : (c : tie.After-first-refusal)
-    → let a = c .before .before .before .before .args in
+    → let a = start c .args in
     c .first-refusal .result ≡ pulsesRule (a .packet .now) (a .d) (a .pulses .now) (a .khz) (a .subframes) (a .signal) (a .offset)
 number c = c .first-refusal .ensures ∙ ap₂ firstOf (c .before .gate .ensures) (c .before .before .pulse-rule .ensures)
 
 -- what an accepted call has
 record Accepted (c : tie.Then1) : Type 0 where
-  pub gate : let a = c .before .before .before .before .before .args in Open (a .packet .now) (a .d)
-  pub own : let a = c .before .before .before .before .before .args in PulseOpen (length (a .pulses .now)) (a .khz) (a .subframes) (a .signal) (a .offset)
+  pub gate : let a = start (c .before) .args in Open (a .packet .now) (a .d)
+  pub own : let a = start (c .before) .args in PulseOpen (length (a .pulses .now)) (a .khz) (a .subframes) (a .signal) (a .offset)
 
 accepted : (c : tie.Then1) → Accepted c
 accepted c =
-    let a = c .before .before .before .before .before .args in
-    let f = first-none (gateR (a .packet .now) (a .d)) (pulseRule (length (a .pulses .now)) (a .khz) (a .subframes) (a .signal) (a .offset)) (sym (number (c .before)) ∙ c .if1 .taken) in
-    record { gate = gate-open (a .packet .now) (a .d) (f .0); own = pulse-open (length (a .pulses .now)) (a .khz) (a .subframes) (a .signal) (a .offset) (f .1) }
-
-pulse-rule-requires : tie.Need-pulse-rule-requires
-pulse-rule-requires c κs = search needs
-
-gate-requires : tie.Need-gate-requires
-gate-requires c κs = search needs
-
-first-refusal-requires : tie.Need-first-refusal-requires
-first-refusal-requires c κs = search needs
-
-pulse-rows-requires : tie.Need-pulse-rows-requires
-pulse-rows-requires c κs = search needs
-
-blocks-of-run-requires : tie.Need-blocks-of-run-requires
-blocks-of-run-requires c κs = let o = accepted (c .before) .own .numbers in (o .khz16, o .subframes4)
-
-slice-aggregate-silk-decode-pulses-run : tie.Need-slice-aggregate-silk-decode-pulses-run
-slice-aggregate-silk-decode-pulses-run c = search needs
+    let a = start (c .before) .args in
+    let rule = pulseRule (length (a .pulses .now)) (a .khz) (a .subframes) (a .signal) (a .offset) in
+    let f = first-none (gateR (a .packet .now) (a .d)) rule (sym (number (c .before)) ∙ c .if1 .taken) in
+    record {
+      gate = gate-open (a .packet .now) (a .d) (f .0);
+      own = pulse-open (length (a .pulses .now)) (a .khz) (a .subframes) (a .signal) (a .offset) (f .1);
+    }
 
 silk-decode-pulses-run-requires : tie.Need-silk-decode-pulses-run-requires
 silk-decode-pulses-run-requires c κs =
-    let a = c .before .before .before .before .before .before .before .before .before .args in
-    let k = accepted (c .before .before .before .before) in
+    let b = c .before .before in
+    let t = b .before .before in
+    let a = start (t .before) .args in
+    let k = accepted t in
     let o = k .own .numbers in
-    let e = c .before .before .blocks-of-run .ensures in (
+    let e = b .blocks-of-run .ensures in (
       k .gate .sound .core,
       (
         omega (arith, k .gate .low),
         (
-          pulse-rows _ (c .before .before .before .pulse-rows .ensures),
+          pulse-rows _ (b .before .pulse-rows .ensures),
           (
             omega (arith, e, blocks-most (a .khz) (a .subframes) (o .khz16) (o .subframes4)),
             omega (arith, e, k .own .length16),
@@ -70,34 +61,34 @@ silk-decode-pulses-run-requires c κs =
       ),
     )
 
-same-length : tie.Need-same-length
-same-length c = search needs
-
 returns : tie.Need-returns
 returns c =
-    let a = c .before .before .before .before .before .before .before .before .before .before .before .args in
+    let b = c .before .before .before .before in
+    let t = b .before .before in
+    let a = start (t .before) .args in
     let r = c .before .silk-decode-pulses-run in
-    let x : Excited (a .packet .now) (a .d) (a .signal) (a .offset) _ (r .last .1 .1 .1 .0) (r .result) =
-    subst (λ (k : ℕ). Excited (a .packet .now) (a .d) (a .signal) (a .offset) k (r .last .1 .1 .1 .0) (r .result)) (c .before .before .before .before .blocks-of-run .ensures) (r .ensures) in
-    pulses-read (a .packet .now) (a .d) (a .pulses .now) (a .khz) (a .subframes) (a .signal) (a .offset) _ (number (c .before .before .before .before .before .before .before))
-    (c .before .before .before .before .before .before .if1 .taken) _ _ (x .value) (x .ran .is) (x .is)
+    let s = r .last .1 .1 .1 .0 in
+    let x : Excited (a .packet .now) (a .d) (a .signal) (a .offset) _ s (r .result) =
+    subst (λ (k : ℕ). Excited (a .packet .now) (a .d) (a .signal) (a .offset) k s (r .result)) (b .blocks-of-run .ensures) (r .ensures) in
+    pulses-read (a .packet .now) (a .d) (a .pulses .now) (a .khz) (a .subframes) (a .signal) (a .offset) _ (number (t .before)) (t .if1 .taken)
+    _ _ (x .value) (x .ran .is) (x .is)
 
-returns-2 : tie.Need-returns-2
-returns-2 c =
-    let a = c .before .before .before .before .before .args in
+refused : tie.Need-returns-2
+refused c =
+    let a = start (c .before) .args in
     pulses-refused (a .packet .now) (a .d) (a .pulses .now) (a .khz) (a .subframes) (a .signal) (a .offset) _ (number (c .before)) (c .if1 .left)
 
 pub silk-decode-pulses-spec : {M : Type 1} → statement M
 silk-decode-pulses-spec =
     tie.close
     (tie.spec
-    pulse-rule-requires
-    gate-requires
-    first-refusal-requires
-    pulse-rows-requires
-    blocks-of-run-requires
-    slice-aggregate-silk-decode-pulses-run
+    (λ c κs. search needs)
+    (λ c κs. search needs)
+    (λ c κs. search needs)
+    (λ c κs. search needs)
+    (λ c κs. let o = accepted (c .before) .own .numbers in (o .khz16, o .subframes4))
+    (λ c. search needs)
     silk-decode-pulses-run-requires
-    same-length
+    (λ c. search needs)
     returns
-    returns-2)
+    refused)

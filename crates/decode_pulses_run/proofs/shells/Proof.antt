@@ -2,7 +2,7 @@
 use borrow.Author.Needs.{needs}
 use Prim.Native.Nat.{_+_, _-_, _*_}
 use native.Mathlib.Omega.{arith}
-use mathlib.Core.Path.{_≡_, _∙_}
+use mathlib.Core.Path.{_≡_, sym, _∙_}
 use borrow.Rule.Slice.PartMut.{mid-len}
 use lib.ListN.{length}
 use Rattle.silk.specs.PulseRounds.{Splitting, splitting-start, splitting-size, splitting-next, splitting-end}
@@ -15,63 +15,30 @@ Inv-loop packet rows pulses₀ n x d₀ i₀ pulses d i = Splitting packet d₀ 
 abbrev μ-loop : tie.MeasureT-loop
 μ-loop packet rows pulses₀ n x d₀ i₀ pulses d i = n - i
 
+abbrev start : tie.At-loop Inv-loop μ-loop → tie.Start Inv-loop μ-loop
+start l = l .before .before .before .before
+
 -- the slice keeps its length
-sized : (c : tie.At-loop Inv-loop μ-loop) → length (c .loop .pulses) ≡ c .before .before .before .before .args .n * 16
-sized c = splitting-size _ _ _ _ _ _ _ _ (c .loop .inv)
-
-loop-holds : tie.Need-loop-holds Inv-loop μ-loop
-loop-holds c = let b = c .before .before .before in splitting-start _ _ _ _ _ _ (b .pre .1 .1 .1 .1) (b .pre .0)
-
-mul-at : tie.Need-mul-at Inv-loop μ-loop
-mul-at c = search needs
-
-add-end : tie.Need-add-end Inv-loop μ-loop
-add-end c = search needs
-
-element-copy-out-c : tie.Need-element-copy-out-c Inv-loop μ-loop
-element-copy-out-c c = search needs
-
-mul-silk-shell-decoder-run : tie.Need-mul-silk-shell-decoder-run Inv-loop μ-loop
-mul-silk-shell-decoder-run c = search needs
-
-sub-silk-shell-decoder-run : tie.Need-sub-silk-shell-decoder-run Inv-loop μ-loop
-sub-silk-shell-decoder-run c = search needs
-
-part-silk-shell-decoder-run-start : tie.Need-part-silk-shell-decoder-run-start Inv-loop μ-loop
-part-silk-shell-decoder-run-start c = omega (arith, sized (c .before .before))
-
-part-silk-shell-decoder-run-end : tie.Need-part-silk-shell-decoder-run-end Inv-loop μ-loop
-part-silk-shell-decoder-run-end c = omega (arith, sized (c .before .before))
-
-cast-silk-shell-decoder-run : tie.Need-cast-silk-shell-decoder-run Inv-loop μ-loop
-cast-silk-shell-decoder-run c = omega (arith, c .before .before .before .before .before .before .before .pre .1 .1 .1 .2 (c .before .before .before .loop .i))
+sized : (l : tie.At-loop Inv-loop μ-loop) → length (l .loop .pulses) ≡ start l .args .n * 16
+sized l = splitting-size _ _ _ _ _ _ _ _ (l .loop .inv)
 
 silk-shell-decoder-run-requires : tie.Need-silk-shell-decoder-run-requires Inv-loop μ-loop
 silk-shell-decoder-run-requires c κs =
-    let b = c .before .before .before .before .before .before .before in
-    let l = c .before .before .before .loop in
-    let g = l .inv .turning .through in
-    let m = mid-len (l .i * 16) (l .i * 16 + 16) (l .pulses) (omega (arith, sized (c .before .before .before))) in
-    (g .core, (omega (arith, g .most, b .pre .1 .0, b .pre .1 .1 .1 .0), (b .pre .1 .1 .0, (b .pre .1 .1 .1 .2 (l .i), omega (arith, m)))))
-
-add-i : tie.Need-add-i Inv-loop μ-loop
-add-i c = search needs
-
-loop-less : tie.Need-loop-less Inv-loop μ-loop
-loop-less c = search needs
+    let l = c .before .before .before in
+    let i = l .loop .i in
+    let g = l .loop .inv .turning .through in
+    let b = start l in
+    let p = b .pre .1 .1 in
+    let m = mid-len (i * 16) (i * 16 + 16) (l .loop .pulses) (omega (arith, sized l)) in
+    (g .core, (omega (arith, g .most, b .pre .1 .0, p .1 .0), (p .0, (p .1 .2 i, omega (arith, m)))))
 
 loop-again : tie.Need-loop-again Inv-loop μ-loop
 loop-again c =
-    let b = c .before .before .before .before .before .before .before .before .before in
-    let l = c .before .before .before .before .before .loop in
-    let a = c .before .silk-shell-decoder-run in
-    splitting-next _ _ _ _ _ (l .pulses) (l .d) (l .i) (l .inv) (omega arith) (b .pre .1 .1 .1 .2 (l .i)) (a .last .1 .1 .1 .0) (a .result) (a .ensures)
-
-same-length : tie.Need-same-length Inv-loop μ-loop
-same-length c = sized (c .before) ∙ omega (arith, c .before .before .before .before .before .pre .1 .1 .1 .1)
-
-returns : tie.Need-returns Inv-loop μ-loop
-returns c = let l = c .before .loop in splitting-end _ _ _ _ _ (l .pulses) (l .d) (l .i) (l .inv) (omega arith)
+    let t = c .before .before .before .before in
+    let l = t .before .loop in
+    let r = c .before .silk-shell-decoder-run in
+    let few = start (t .before) .pre .1 .1 .1 .2 (l .i) in
+    splitting-next _ _ _ _ _ (l .pulses) (l .d) (l .i) (l .inv) (t .loop-test .taken) few (r .last .1 .1 .1 .0) (r .result) (r .ensures)
 
 pub shells-spec : {M : Type 1} → statement M
 shells-spec =
@@ -79,18 +46,18 @@ shells-spec =
     (tie.spec
     Inv-loop
     μ-loop
-    loop-holds
-    mul-at
-    add-end
-    element-copy-out-c
-    mul-silk-shell-decoder-run
-    sub-silk-shell-decoder-run
-    part-silk-shell-decoder-run-start
-    part-silk-shell-decoder-run-end
-    cast-silk-shell-decoder-run
+    (λ c. let b = c .before .before .before in splitting-start _ _ _ _ _ _ (b .pre .1 .1 .1 .1) (b .pre .0))
+    (λ c. search needs)
+    (λ c. search needs)
+    (λ c. search needs)
+    (λ c. search needs)
+    (λ c. search needs)
+    (λ c. omega (arith, sized (c .before .before)))
+    (λ c. omega (arith, sized (c .before .before)))
+    (λ c. let l = c .before .before .before in omega (arith, start l .pre .1 .1 .1 .2 (l .loop .i)))
     silk-shell-decoder-run-requires
-    add-i
-    loop-less
+    (λ c. search needs)
+    (λ c. search needs)
     loop-again
-    same-length
-    returns)
+    (λ c. sized (c .before) ∙ sym (start (c .before) .pre .1 .1 .1 .1))
+    (λ c. let l = c .before .loop in splitting-end _ _ _ _ _ (l .pulses) (l .d) (l .i) (l .inv) (c .loop-test .left)))

@@ -1,9 +1,10 @@
 -- `silk_decode_pulses_run` meets its contract: the parts in order. Assumes nothing.
 use borrow.Author.Needs.{needs}
-use Prim.Native.Nat.{_+_, _/_, _<_}
+use Prim.Native.Nat.{_+_, _-_, _*_, _/_, _<_}
 use native.Mathlib.Omega.{arith}
-use mathlib.Core.Path.{ap, _∙_}
-use lib.ListN.{length}
+use mathlib.Core.Path.{_≡_, ap, _∙_}
+use lib.ListN.{length, take, drop}
+use Rattle.sheet.specs.Directory.{rowOf}
 use Rattle.sheet.specs.Families.{rate-stands}
 use Rattle.sheet.specs.SheetRule.{row-good}
 use Rattle.silk.specs.PulseRowLaws.{rate-in}
@@ -12,70 +13,67 @@ use Rattle.decode_pulses_run.proofs.Chain.{chain}
 use Rattle.decode_pulses_run.proofs.silk_decode_pulses_run.Statement.{statement}
 use Rattle.decode_pulses_run.proofs.silk_decode_pulses_run.Tie as tie
 
-cast-at : tie.Need-cast-at
-cast-at c = search needs
+-- behind the rate level, the counts, the splits, the low bits, the signs
+abbrev start : tie.After-ec-dec-icdf8-run → tie.Start
+start c = c .before .before .before .before
 
-mul-at : tie.Need-mul-at
-mul-at c = search needs
+abbrev rated : tie.After-counts-run → tie.After-ec-dec-icdf8-run
+rated c = c .before .before
 
-add-end : tie.Need-add-end
-add-end c = search needs
+abbrev counted : tie.After-shells → tie.After-counts-run
+counted c = c .before .before
 
-sub-ec-dec-icdf8-run : tie.Need-sub-ec-dec-icdf8-run
-sub-ec-dec-icdf8-run c = search needs
+abbrev split : tie.After-lows → tie.After-shells
+split c = c .before .before .before
 
-part-ec-dec-icdf8-run-start : tie.Need-part-ec-dec-icdf8-run-start
-part-ec-dec-icdf8-run-start c = search needs
+abbrev lowered : tie.After-signs → tie.After-lows
+lowered c = c .before .before .before
 
-part-ec-dec-icdf8-run-end : tie.Need-part-ec-dec-icdf8-run-end
-part-ec-dec-icdf8-run-end c = search needs
+-- the row of the rate level
+two-rows : (b : tie.Start) → b .args .signal / 2 < 2
+two-rows b = omega (arith, b .pre .1 .1 .1 .2)
+
+rate-is : (b : tie.Start) → let k = b .args .signal / 2 in take (k * 9 + 9 - k * 9) (drop (k * 9) (b .args .rows .now)) ≡ rowOf (46 + k)
+rate-is b = rate-in (b .args .rows .now) (b .args .signal / 2) (b .pre .1 .1 .0) (two-rows b)
 
 ec-dec-icdf8-run-requires : tie.Need-ec-dec-icdf8-run-requires
 ec-dec-icdf8-run-requires c κs =
     let b = c .before .before .before in
-    let k : b .args .signal / 2 < 2 = omega (arith, b .pre .1 .1 .1 .2) in
-    (b .pre .0, (omega (arith, b .pre .1 .0), rw (rate-in (b .args .rows .now) (b .args .signal / 2) (b .pre .1 .1 .0) k) (row-good (46 + b .args .signal / 2) (omega arith))))
-
-cast-level : tie.Need-cast-level
-cast-level c = search needs
+    (b .pre .0, (omega (arith, b .pre .1 .0), rw (rate-is b) (row-good (46 + b .args .signal / 2) (omega (arith, two-rows b)))))
 
 counts-run-requires : tie.Need-counts-run-requires
 counts-run-requires c κs =
-    let b = c .before .before .before .before .before in
+    let b = start (c .before) in
     let a = c .before .ec-dec-icdf8-run .ensures in
-    let k : b .args .signal / 2 < 2 = omega (arith, b .pre .1 .1 .1 .2) in
-    let e = rate-in (b .args .rows .now) (b .args .signal / 2) (b .pre .1 .1 .0) k in (
-      a .core,
-      (
-        omega (arith, a .most, b .pre .1 .0),
-        (b .pre .1 .1 .0, (omega (arith, a .inside, ap length e, rate-stands (b .args .signal / 2) k .size), b .pre .1 .1 .1 .0)),
-      ),
-    )
+    let p = b .pre .1 .1 in
+    let rate = rate-stands (b .args .signal / 2) (two-rows b) in
+    (a .core, (omega (arith, a .most, b .pre .1 .0), (p .0, (omega (arith, a .inside, ap length (rate-is b), rate .size), p .1 .0))))
 
 shells-requires : tie.Need-shells-requires
 shells-requires c κs =
-    let b = c .before .before .before .before .before .before .before in
-    let a = c .before .before .before .ec-dec-icdf8-run .ensures in
-    let f = c .before .counts-run .ensures in (
-      f .0 .core,
-      (omega (arith, a .most, f .0 .most, b .pre .1 .0), (b .pre .1 .1 .0, (b .pre .1 .1 .1 .0, b .pre .1 .1 .1 .1, f .1 .0))),
-    )
+    let b = start (rated (c .before)) in
+    let a = rated (c .before) .ec-dec-icdf8-run .ensures in
+    let f = c .before .counts-run .ensures in
+    let p = b .pre .1 .1 in
+    (f .0 .core, (omega (arith, a .most, f .0 .most, b .pre .1 .0), (p .0, (p .1 .0, p .1 .1, f .1 .0))))
 
 lows-requires : tie.Need-lows-requires
 lows-requires c κs =
-    let b = c .before .before .before .before .before .before .before .before .before .before in
-    let a = c .before .before .before .before .before .before .ec-dec-icdf8-run .ensures in
-    let f = c .before .before .before .before .counts-run .ensures in
-    let t = c .before .before .shells in (
+    let s = c .before .before in
+    let r = rated (counted s) in
+    let b = start r in
+    let f = counted s .counts-run .ensures in
+    let t = s .shells in
+    let p = b .pre .1 .1 in (
       t .ensures .ran .core,
       (
-        omega (arith, a .most, f .0 .most, t .ensures .ran .most, b .pre .1 .0, b .pre .1 .1 .1 .0),
+        omega (arith, r .ec-dec-icdf8-run .ensures .most, f .0 .most, t .ensures .ran .most, b .pre .1 .0, p .1 .0),
         (
-          b .pre .1 .1 .0,
+          p .0,
           (
-            b .pre .1 .1 .1 .0,
+            p .1 .0,
             f .1 .1,
-            turned-held Small (λ w k. k .size) _ _ _ _ (t .last .1 .1 .1 .0) _ (b .args .n) (t .ensures) (t .kept .1 .1 .1 .0 ∙ b .pre .1 .1 .1 .1),
+            turned-held Small (λ w k. k .size) _ _ _ _ (t .last .1 .1 .1 .0) _ (b .args .n) (t .ensures) (t .kept .1 .1 .1 .0 ∙ p .1 .1),
           ),
         ),
       ),
@@ -83,58 +81,56 @@ lows-requires c κs =
 
 signs-requires : tie.Need-signs-requires
 signs-requires c κs =
-    let b = c .before .before .before .before .before .before .before .before .before .before .before .before .before in
-    let a = c .before .before .before .before .before .before .before .before .before .ec-dec-icdf8-run .ensures in
-    let f = c .before .before .before .before .before .before .before .counts-run .ensures in
-    let t = c .before .before .before .before .before .shells in
-    let u = c .before .before .lows in (
+    let l = c .before .before in
+    let s = split l in
+    let r = rated (counted s) in
+    let b = start r in
+    let f = counted s .counts-run .ensures in
+    let t = s .shells in
+    let u = l .lows in
+    let p = b .pre .1 .1 in (
       u .ensures .ran .core,
       (
-        omega (arith, a .most, f .0 .most, t .ensures .ran .most, u .ensures .ran .most, b .pre .1 .0, b .pre .1 .1 .1 .0),
+        omega (arith, r .ec-dec-icdf8-run .ensures .most, f .0 .most, t .ensures .ran .most, u .ensures .ran .most, b .pre .1 .0, p .1 .0),
         (
-          b .pre .1 .1 .0,
+          p .0,
           (
-            b .pre .1 .1 .1 .0,
-            b .pre .1 .1 .1 .2,
-            b .pre .1 .1 .1 .3,
+            p .1 .0,
+            p .1 .2,
+            p .1 .3,
             turned-held Sixteen (λ w k. k) _ _ _ _ (u .last .1 .1 .1 .1 .0) _ (b .args .n) (u .ensures)
-                (u .kept .1 .1 .1 .1 .0 ∙ t .kept .1 .1 .1 .0 ∙ b .pre .1 .1 .1 .1),
+                (u .kept .1 .1 .1 .1 .0 ∙ t .kept .1 .1 .1 .0 ∙ p .1 .1),
           ),
         ),
       ),
     )
 
-same-length : tie.Need-same-length
-same-length c = search needs
-
 returns : tie.Need-returns
 returns c =
-    let b = c .before .before .before .before .before .before .before .before .before .before .before .before .before .before .before in
-    let a = c .before .before .before .before .before .before .before .before .before .before .before .ec-dec-icdf8-run in
-    let f = c .before .before .before .before .before .before .before .before .before .counts-run in
-    let t = c .before .before .before .before .before .before .before .shells in
-    let u = c .before .before .before .before .lows in
-    let v = c .before .signs in
-    let k : b .args .signal / 2 < 2 = omega (arith, b .pre .1 .1 .1 .2) in
-    let e = rate-in (b .args .rows .now) (b .args .signal / 2) (b .pre .1 .1 .0) k in
-    chain _ _ _ (a .result) (b .args .signal) (b .args .offset) (b .args .n) (f .result .counts) (f .result .lows) (t .last .1 .1 .1 .0) (u .last .1 .1 .1 .1 .0) _ _ _ _ _
-    (b .pre .1 .1 .1 .0) e (a .ensures) (f .ensures .0) (t .ensures) (u .ensures) (v .ensures)
+    let l = lowered (c .before) in
+    let s = split l in
+    let r = rated (counted s) in
+    let b = start r in
+    let f = counted s .counts-run in
+    chain _ _ _ (r .ec-dec-icdf8-run .result) (b .args .signal) (b .args .offset) (b .args .n) (f .result .counts) (f .result .lows)
+    (s .shells .last .1 .1 .1 .0) (l .lows .last .1 .1 .1 .1 .0) _ _ _ _ _
+    (b .pre .1 .1 .1 .0) (rate-is b) (r .ec-dec-icdf8-run .ensures) (f .ensures .0) (s .shells .ensures) (l .lows .ensures) (c .before .signs .ensures)
 
 pub silk-decode-pulses-run-spec : {M : Type 1} → statement M
 silk-decode-pulses-run-spec =
     tie.close
     (tie.spec
-    cast-at
-    mul-at
-    add-end
-    sub-ec-dec-icdf8-run
-    part-ec-dec-icdf8-run-start
-    part-ec-dec-icdf8-run-end
+    (λ c. search needs)
+    (λ c. search needs)
+    (λ c. search needs)
+    (λ c. search needs)
+    (λ c. search needs)
+    (λ c. search needs)
     ec-dec-icdf8-run-requires
-    cast-level
+    (λ c. search needs)
     counts-run-requires
     shells-requires
     lows-requires
     signs-requires
-    same-length
+    (λ c. search needs)
     returns)

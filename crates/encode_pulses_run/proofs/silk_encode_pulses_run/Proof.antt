@@ -1,8 +1,10 @@
 -- `silk_encode_pulses_run` meets its contract: the parts in order. Assumes nothing.
 use borrow.Author.Needs.{needs}
-use Prim.Native.Nat.{_+_, _/_, _<_}
-use mathlib.Core.Path.{_∙_}
+use Prim.Native.Nat.{_+_, _-_, _*_, _/_, _<_}
+use mathlib.Core.Path.{_≡_, _∙_}
 use native.Mathlib.Omega.{arith}
+use lib.ListN.{take, drop}
+use Rattle.sheet.specs.Directory.{rowOf}
 use Rattle.sheet.specs.Families.{rate-stands}
 use Rattle.sheet.specs.SheetRule.{row-good, row-writable}
 use Rattle.silk.specs.PulseRowLaws.{rate-in}
@@ -10,107 +12,120 @@ use Rattle.encode_pulses_run.proofs.Chain.{chain}
 use Rattle.encode_pulses_run.proofs.silk_encode_pulses_run.Statement.{statement}
 use Rattle.encode_pulses_run.proofs.silk_encode_pulses_run.Tie as tie
 
-cast-at : tie.Need-cast-at
-cast-at c = search needs
+-- behind the rate level, the counts, the splits, the low bits, the signs
+abbrev start : tie.After-ec-enc-icdf-run → tie.Start
+start c = c .before .before .before .before .before .before
 
-mul-at : tie.Need-mul-at
-mul-at c = search needs
+abbrev rated : tie.After-counts-tell-run → tie.After-ec-enc-icdf-run
+rated c = c .before .before .before .before .before .before
 
-add-end : tie.Need-add-end
-add-end c = search needs
+abbrev counted : tie.After-splits → tie.After-counts-tell-run
+counted c = c .before .before .before .before
 
-sub-ec-enc-icdf-run : tie.Need-sub-ec-enc-icdf-run
-sub-ec-enc-icdf-run c = search needs
+abbrev split : tie.After-lows → tie.After-splits
+split c = c .before .before .before .before
 
-part-ec-enc-icdf-run-start : tie.Need-part-ec-enc-icdf-run-start
-part-ec-enc-icdf-run-start c = search needs
+abbrev lowered : tie.After-signs → tie.After-lows
+lowered c = c .before .before .before .before
 
-part-ec-enc-icdf-run-end : tie.Need-part-ec-enc-icdf-run-end
-part-ec-enc-icdf-run-end c = search needs
+-- the row of the rate level
+two-rows : (b : tie.Start) → b .args .f .signal / 2 < 2
+two-rows b = omega (arith, b .pre .1 .1 .1 .0 .2)
+
+rate-is : (b : tie.Start) → let k = b .args .f .signal / 2 in take (k * 9 + 9 - k * 9) (drop (k * 9) (b .args .rows .now)) ≡ rowOf (46 + k)
+rate-is b = rate-in (b .args .rows .now) (b .args .f .signal / 2) (b .pre .1 .1 .0) (two-rows b)
 
 ec-enc-icdf-run-requires : tie.Need-ec-enc-icdf-run-requires
 ec-enc-icdf-run-requires c κs =
-    let b = c .before .before .before .before in
-    let k : b .args .signal / 2 < 2 = omega (arith, b .pre .1 .1 .1 .0 .2) in
-    let w = row-writable (46 + b .args .signal / 2) (b .args .rate) (omega arith) (omega (arith, rate-stands (b .args .signal / 2) k .size, b .pre .1 .1 .1 .0 .4)) in
-    (b .pre .0, (omega (arith, b .pre .1 .0), rw (rate-in (b .args .rows .now) (b .args .signal / 2) (b .pre .1 .1 .0) k) (row-good (46 + b .args .signal / 2) (omega arith), w)))
+    let b = c .before .before .before .before .before in
+    let k = b .args .f .signal / 2 in
+    let h = two-rows b in
+    let w = row-writable (46 + k) (b .args .rate) (omega arith) (omega (arith, rate-stands k h .size, b .pre .1 .1 .1 .0 .4)) in
+    (b .pre .0, (omega (arith, b .pre .1 .0), rw (rate-is b) (row-good (46 + k) (omega arith), w)))
 
 counts-tell-run-requires : tie.Need-counts-tell-run-requires
 counts-tell-run-requires c κs =
-    let b = c .before .before .before .before .before .before .before .before .before .before in
-    let a = c .before .before .before .before .before .ec-enc-icdf-run .ensures in
-    let s = b .pre .1 .1 .1 .1 in (
-      a .core,
-      (
-        omega (arith, a .most, b .pre .1 .0),
-        (b .pre .1 .1 .0, ((omega (arith, b .pre .1 .1 .1 .0 .4), b .pre .1 .1 .1 .0 .0), (s .most, s .few))),
-      ),
-    )
+    let r = c .before .before .before .before .before in
+    let b = start r in
+    let a = r .ec-enc-icdf-run .ensures in
+    let p = b .pre .1 .1 in
+    (a .core, (omega (arith, a .most, b .pre .1 .0), (p .0, ((omega (arith, p .1 .0 .4), p .1 .0 .0), (p .1 .1 .most, p .1 .1 .few)))))
 
 splits-requires : tie.Need-splits-requires
 splits-requires c κs =
-    let b = c .before .before .before .before .before .before .before .before .before .before .before .before .before .before in
-    let a = c .before .before .before .before .before .before .before .before .before .ec-enc-icdf-run .ensures in
-    let f = c .before .before .before .counts-tell-run .ensures in (
-      f .core,
+    let f = c .before .before .before in
+    let r = rated f in
+    let b = start r in
+    let p = b .pre .1 .1 in (
+      f .counts-tell-run .ensures .core,
       (
-        omega (arith, a .most, f .most, b .pre .1 .0),
-        (b .pre .1 .1 .0, (b .pre .1 .1 .1 .0 .0, b .pre .1 .1 .1 .0 .1, b .pre .1 .1 .1 .1)),
+        omega (arith, r .ec-enc-icdf-run .ensures .most, f .counts-tell-run .ensures .most, b .pre .1 .0),
+        (p .0, (p .1 .0 .0, p .1 .0 .1, p .1 .1)),
       ),
     )
 
 lows-requires : tie.Need-lows-requires
 lows-requires c κs =
-    let b = c .before .before .before .before .before .before .before .before .before .before .before .before .before .before .before .before .before .before in
-    let a = c .before .before .before .before .before .before .before .before .before .before .before .before .before .ec-enc-icdf-run .ensures in
-    let f = c .before .before .before .before .before .before .before .counts-tell-run .ensures in
-    let t = c .before .before .before .splits .ensures in (
+    let s = c .before .before .before in
+    let f = counted s in
+    let r = rated f in
+    let b = start r in
+    let p = b .pre .1 .1 in
+    let t = s .splits .ensures in (
       t .core,
       (
-        omega (arith, a .most, f .most, t .most, b .pre .1 .0, b .pre .1 .1 .1 .0 .0),
-        (b .pre .1 .1 .0, (b .pre .1 .1 .1 .0 .0, b .pre .1 .1 .1 .0 .1, b .pre .1 .1 .1 .1 .few)),
+        omega (arith, r .ec-enc-icdf-run .ensures .most, f .counts-tell-run .ensures .most, t .most, b .pre .1 .0, p .1 .0 .0),
+        (p .0, (p .1 .0 .0, p .1 .0 .1, p .1 .1 .few)),
       ),
     )
 
 signs-requires : tie.Need-signs-requires
 signs-requires c κs =
-    let b = c .before .before .before .before .before .before .before .before .before .before .before .before .before .before .before .before .before .before .before .before .before .before in
-    let a = c .before .before .before .before .before .before .before .before .before .before .before .before .before .before .before .before .before .ec-enc-icdf-run .ensures in
-    let f = c .before .before .before .before .before .before .before .before .before .before .before .counts-tell-run .ensures in
-    let t = c .before .before .before .before .before .before .before .splits .ensures in
-    let u = c .before .before .before .lows .ensures in
-    let n = b .pre .1 .1 .1 .0 in (
+    let l = c .before .before .before in
+    let s = split l in
+    let f = counted s in
+    let r = rated f in
+    let b = start r in
+    let p = b .pre .1 .1 in
+    let n = p .1 .0 in
+    let u = l .lows .ensures in (
       u .core,
-      (omega (arith, a .most, f .most, t .most, u .most, b .pre .1 .0, n .0), (b .pre .1 .1 .0, (n .0, n .1, n .2, n .3, b .pre .1 .1 .1 .1))),
+      (
+        omega (arith, r .ec-enc-icdf-run .ensures .most, f .counts-tell-run .ensures .most, s .splits .ensures .most, u .most, b .pre .1 .0, n .0),
+        (p .0, ((n .0, n .1, n .2, n .3), p .1 .1)),
+      ),
     )
 
 same-length : tie.Need-same-length
 same-length c =
-    c .before .before .signs .kept .0
-    ∙ c .before .before .before .before .before .before .lows .kept .0
-    ∙ c .before .before .before .before .before .before .before .before .before .before .splits .kept .0
-    ∙ c .before .before .before .before .before .before .before .before .before .before .before .before .before .before .counts-tell-run .kept .0
-    ∙ c .before .before .before .before .before .before .before .before .before .before .before .before .before .before .before .before .before .before .before .before .ec-enc-icdf-run .kept .0
+    let z = c .before .before in
+    let l = lowered z in
+    let s = split l in
+    let f = counted s in
+    z .signs .kept .0 ∙ l .lows .kept .0 ∙ s .splits .kept .0 ∙ f .counts-tell-run .kept .0 ∙ rated f .ec-enc-icdf-run .kept .0
 
 returns : tie.Need-returns
 returns c =
-    let b = c .before .before .before .before .before .before .before .before .before .before .before .before .before .before .before .before .before .before .before .before .before .before .before .before .before in
-    let n = b .pre .1 .1 .1 .0 in
-    let k : b .args .signal / 2 < 2 = omega (arith, n .2) in
-    chain _ _ _ _ _ _ _ (b .args .signal) (b .args .offset) (b .args .rate) (b .args .n) _ _ (b .args .pulses .now) (n .0) (b .pre .1 .1 .1 .1)
-    (rate-in (b .args .rows .now) (b .args .signal / 2) (b .pre .1 .1 .0) k) (c .before .before .before .before .before .before .before .before .before .before .before .before .before .before .before .before .before .before .before .before .ec-enc-icdf-run .ensures) (c .before .before .before .before .before .before .before .before .before .before .before .before .before .before .counts-tell-run .ensures)
-    (c .before .before .before .before .before .before .before .before .before .before .splits .ensures) (c .before .before .before .before .before .before .lows .ensures) (c .before .before .signs .ensures)
+    let z = c .before .before in
+    let l = lowered z in
+    let s = split l in
+    let f = counted s in
+    let r = rated f in
+    let b = start r in
+    let a = b .args in
+    chain _ _ _ _ _ _ _ (a .f .signal) (a .f .offset) (a .rate) (a .f .blocks) _ _ (a .pulses .now) (b .pre .1 .1 .1 .0 .0) (b .pre .1 .1 .1 .1)
+    (rate-is b) (r .ec-enc-icdf-run .ensures) (f .counts-tell-run .ensures) (s .splits .ensures) (l .lows .ensures) (z .signs .ensures)
 
 pub silk-encode-pulses-run-spec : {M : Type 1} → statement M
 silk-encode-pulses-run-spec =
     tie.close
     (tie.spec
-    cast-at
-    mul-at
-    add-end
-    sub-ec-enc-icdf-run
-    part-ec-enc-icdf-run-start
-    part-ec-enc-icdf-run-end
+    (λ c. search needs)
+    (λ c. search needs)
+    (λ c. search needs)
+    (λ c. search needs)
+    (λ c. search needs)
+    (λ c. search needs)
     ec-enc-icdf-run-requires
     counts-tell-run-requires
     splits-requires

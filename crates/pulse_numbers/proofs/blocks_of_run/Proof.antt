@@ -5,9 +5,6 @@ use Rattle.silk.specs.PulseCallLaws.{places-most}
 use Rattle.pulse_numbers.proofs.blocks_of_run.Statement.{statement}
 use Rattle.pulse_numbers.proofs.blocks_of_run.Tie as tie
 
-mul-places : tie.Need-mul-places
-mul-places c = search needs
-
 mul-places-2 : tie.Need-mul-places-2
 mul-places-2 c = omega (arith, places-most (c .args .khz) (c .args .subframes) (c .pre .0) (c .pre .1))
 
@@ -17,8 +14,5 @@ add-result c = omega (arith, places-most (c .args .khz) (c .args .subframes) (c 
 cast-result : tie.Need-cast-result
 cast-result c = omega (arith, places-most (c .args .khz) (c .args .subframes) (c .pre .0) (c .pre .1))
 
-returns : tie.Need-returns
-returns c = search needs
-
 pub blocks-of-run-spec : {M : Type 1} → statement M
-blocks-of-run-spec = tie.close (tie.spec mul-places mul-places-2 add-result cast-result returns)
+blocks-of-run-spec = tie.close (tie.spec (λ c. search needs) mul-places-2 add-result cast-result (λ c. search needs))

@@ -9,9 +9,6 @@ use Rattle.silk.specs.PulseCallLaws.{pulse-numbers, blocks-most}
 use Rattle.pulse_numbers.proofs.pulse_rule.Statement.{statement}
 use Rattle.pulse_numbers.proofs.pulse_rule.Tie as tie
 
-numbers-ok-requires : tie.Need-numbers-ok-requires
-numbers-ok-requires c κs = search needs
-
 blocks-of-run-requires : tie.Need-blocks-of-run-requires
 blocks-of-run-requires c κs =
     let b = c .before .before .args in
@@ -43,4 +40,4 @@ returns-3 c = rw (sym (c .before .numbers-ok .ensures) ∙ c .if1 .left)
 
 pub pulse-rule-spec : {M : Type 1} → statement M
 pulse-rule-spec =
-    tie.close (tie.spec numbers-ok-requires blocks-of-run-requires mul-if2 returns returns-2 returns-3)
+    tie.close (tie.spec (λ c κs. search needs) blocks-of-run-requires mul-if2 returns returns-2 returns-3)

@@ -22,45 +22,6 @@ loop-holds : tie.Need-loop-holds Inv-loop μ-loop
 unfolding rows16
 loop-holds c = (omega arith, refl, refl, planned-start _ _ (at-most-zeros 16 20) (at-most-zeros 10 20))
 
-mul-at : tie.Need-mul-at Inv-loop μ-loop
-mul-at c = search needs
-
-add-end : tie.Need-add-end Inv-loop μ-loop
-add-end c = search needs
-
-mul-shift-of : tie.Need-mul-shift-of Inv-loop μ-loop
-mul-shift-of c = search needs
-
-sub-shift-of : tie.Need-sub-shift-of Inv-loop μ-loop
-sub-shift-of c = search needs
-
-part-shift-of-start : tie.Need-part-shift-of-start Inv-loop μ-loop
-part-shift-of-start c = search needs
-
-part-shift-of-end : tie.Need-part-shift-of-end Inv-loop μ-loop
-part-shift-of-end c = search needs
-
-shift-of-requires : tie.Need-shift-of-requires Inv-loop μ-loop
-shift-of-requires c κs = search needs
-
-cast-counts : tie.Need-cast-counts Inv-loop μ-loop
-cast-counts c = search needs
-
-array-write-counts : tie.Need-array-write-counts Inv-loop μ-loop
-array-write-counts c = search needs
-
-cast-lows : tie.Need-cast-lows Inv-loop μ-loop
-cast-lows c = search needs
-
-array-write-lows : tie.Need-array-write-lows Inv-loop μ-loop
-array-write-lows c = search needs
-
-add-i : tie.Need-add-i Inv-loop μ-loop
-add-i c = search needs
-
-loop-less : tie.Need-loop-less Inv-loop μ-loop
-loop-less c = search needs
-
 loop-again : tie.Need-loop-again Inv-loop μ-loop
 loop-again c =
     let b = c .before .before .before .before .before .before .before in
@@ -75,7 +36,8 @@ loop-again c =
       length-set (l .counts) (l .i) _ ∙ l .inv .1,
       length-set (l .lows) (l .i) _ ∙ l .inv .2,
       rw (add-one, rows-snoc (l .i) v)
-          (planned-next (rows16 (l .i) v) p (l .counts) (l .lows) (l .fits) (l .i) (a .result .count) (a .result .shift) (l .inv .3) h s (rows-counted (l .i) v) (omega arith) (omega arith)),
+          (planned-next (rows16 (l .i) v) p (l .counts) (l .lows) (l .fits) (l .i) (a .result .count) (a .result .shift) (l .inv .3) h s
+          (rows-counted (l .i) v) (omega arith) (omega arith)),
     )
 
 returns : tie.Need-returns Inv-loop μ-loop
@@ -91,18 +53,18 @@ plan-run-spec =
     Inv-loop
     μ-loop
     loop-holds
-    mul-at
-    add-end
-    mul-shift-of
-    sub-shift-of
-    part-shift-of-start
-    part-shift-of-end
-    shift-of-requires
-    cast-counts
-    array-write-counts
-    cast-lows
-    array-write-lows
-    add-i
-    loop-less
+    (λ c. search needs)
+    (λ c. search needs)
+    (λ c. search needs)
+    (λ c. search needs)
+    (λ c. search needs)
+    (λ c. search needs)
+    (λ c κs. search needs)
+    (λ c. search needs)
+    (λ c. search needs)
+    (λ c. search needs)
+    (λ c. search needs)
+    (λ c. search needs)
+    (λ c. search needs)
     loop-again
     returns)

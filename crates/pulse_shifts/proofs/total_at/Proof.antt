@@ -37,36 +37,20 @@ loop-holds : tie.Need-loop-holds Inv-loop μ-loop
 unfolding total
 loop-holds c = (omega arith, refl, omega arith)
 
-mul-magnitude : tie.Need-mul-magnitude Inv-loop μ-loop
-mul-magnitude c = search needs
-
-shared-slice-copy-out-magnitude : tie.Need-shared-slice-copy-out-magnitude Inv-loop μ-loop
-shared-slice-copy-out-magnitude c = search needs
-
-magnitude-requires : tie.Need-magnitude-requires Inv-loop μ-loop
-magnitude-requires c κs = search needs
-
-shr-sum : tie.Need-shr-sum Inv-loop μ-loop
-shr-sum c = search needs
-
 add-sum : tie.Need-add-sum Inv-loop μ-loop
 add-sum c =
     let b = c .before .before .before .before in
     omega (arith, read c .1, div-le-self (c .magnitude .result) (2 ^ b .args .j), c .before .before .before .loop .inv .2)
 
-add-k : tie.Need-add-k Inv-loop μ-loop
-add-k c = search needs
-
-loop-less : tie.Need-loop-less Inv-loop μ-loop
-loop-less c = search needs
-
 loop-again : tie.Need-loop-again Inv-loop μ-loop
 loop-again c =
     let b = c .before .before .before .before in
     let l = c .before .before .before .loop in
-    let m = c .magnitude .result in (
+    let m = c .magnitude .result in
+    let before = total (take (l .k) (shiftedBy (b .args .j) (b .args .part .now))) in (
       omega arith,
-      ap (λ (t : ℕ). t + m / 2 ^ b .args .j) (l .inv .1) ∙ ap (λ (t : ℕ). total (take (l .k) (shiftedBy (b .args .j) (b .args .part .now))) + t / 2 ^ b .args .j) (read c .0)
+      ap (λ (t : ℕ). t + m / 2 ^ b .args .j) (l .inv .1)
+          ∙ ap (λ (t : ℕ). before + t / 2 ^ b .args .j) (read c .0)
           ∙ sym (total-more (b .args .j) (b .args .part .now) (l .k) (omega arith)),
       omega (arith, read c .1, div-le-self m (2 ^ b .args .j), l .inv .2),
     )
@@ -84,12 +68,12 @@ total-at-spec =
     Inv-loop
     μ-loop
     loop-holds
-    mul-magnitude
-    shared-slice-copy-out-magnitude
-    magnitude-requires
-    shr-sum
+    (λ c. search needs)
+    (λ c. search needs)
+    (λ c κs. search needs)
+    (λ c. search needs)
     add-sum
-    add-k
-    loop-less
+    (λ c. search needs)
+    (λ c. search needs)
     loop-again
     returns)

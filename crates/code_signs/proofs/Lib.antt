@@ -1,2 +1,0 @@
-pub mod Bits
-pub mod Signing

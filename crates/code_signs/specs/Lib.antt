@@ -1,3 +1,0 @@
-pub mod Gathered
-pub mod Said
-pub mod SaidLaws
