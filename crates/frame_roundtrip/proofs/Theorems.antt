@@ -24,12 +24,12 @@ use Rattle.entcode.specs.Finish.{finish}
 use Rattle.entcode.specs.Flat.{Out, flat}
 use Rattle.entcode.specs.Writing.{encOpen, encSym, encDone}
 use Rattle.entcode.specs.WritingLaws.{done-accepted}
-use Rattle.roundtrip.specs.Statement.{after, Sends, Written, Right, Reads}
+use Rattle.roundtrip.specs.Statement.{after, Sends, Written, Right, Reads, wroteAll}
 use Rattle.roundtrip.proofs.ReadBack.{Follows, Any, open-core}
 use Rattle.roundtrip.proofs.Round.{open-firm}
 use Rattle.roundtrip.proofs.Accepted.{opens}
 use Rattle.roundtrip.proofs.Calls.{accepts-all}
-use Rattle.roundtrip.proofs.Public.{wroteAll, known, buf-is, opened-is, opened-error}
+use Rattle.roundtrip.proofs.Public.{known, buf-is, opened-is, opened-error}
 use Rattle.roundtrip.proofs.Theorems.{accepts, fits, follows-back}
 use Rattle.silk.specs.declared.Indices.{Indices}
 use Rattle.silk.specs.declared.IndicesRead.{IndicesRead}
@@ -38,7 +38,8 @@ use Rattle.silk.specs.IndexRanges.{Shape}
 use Rattle.silk.specs.FrameCalls.{Pulsed, decodeIndices, decodePulses}
 use Rattle.silk.specs.IndexWriting.{IndicesSent, encodeIndices}
 use Rattle.silk.specs.PulseWriting.{encodePulses}
-use Rattle.frame_roundtrip.specs.Statement.{Step, symbol, sideIndices, pulses, afterIndices, StepsSent, Begun, Finishes, StepsWritten, Tells, RightIndices, RightPulses, StepsRead, fresh, readOn, typedPulses, FrameAccepts, FrameRight}
+use Rattle.frame_roundtrip.specs.Statement.{Step, symbol, sideIndices, pulses, afterIndices, StepsSent, Begun, Finishes, StepsWritten, Tells, RightIndices, RightPulses, StepsRead, fresh, readOn, typedPulses}
+use Rattle.frame_roundtrip.specs.Statement.{StepsFit, StepsBack, StepsBehind, PulsesBack, IndicesBack, FrameBack}
 use Rattle.frame_roundtrip.proofs.Behind.{readAll, Beside, Gave, gave}
 use Rattle.frame_roundtrip.proofs.Sent.{says, saysAll, indices-took, indices-sent, pulses-took, step-gate, done-gate, step-allowed, step-wrote, next-sent, steps-went}
 use Rattle.frame_roundtrip.proofs.Read.{reader-gate, same-account, tells, symbol-read, indices-read, same-type, same-offset, same-lag, pulses-given}
@@ -61,8 +62,7 @@ steps-written b ts q r =
 
 -- ---- calls whose account at the end is at most 8 bits a byte are finished: accepted, and without error
 
-pub steps-fit : (b : List ℕ) (ts : List Step) (q : Out) → Bytes b → length b ≤ 1275 → StepsSent (after (encOpen b)) ts q
-    → account (q .state .total) (q .state .rng) ≤ 8 * length b → StepsWritten b ts q
+pub steps-fit : StepsFit
 steps-fit b ts q y short h l =
     let w = wroteAll b (saysAll ts) in
     let g = steps-went ts (openW b) q (subst (λ (o : Out). StepsSent o ts q) (opens b short) h) in
@@ -143,8 +143,7 @@ unfolding opened settled
 beside-open c b y short =
     record { core = open-core c y short; least = omega arith; level = record { rng = refl; total = refl }; error = opened-error c }
 
-pub steps-back : (b : List ℕ) (ts : List Step) (q : Out) → StepsWritten b ts q
-    → StepsRead (encDone q .buf) (fresh (encDone q .buf)) (after (encOpen b)) ts
+pub steps-back : StepsBack
 steps-back b ts q r =
     let k = known b (saysAll ts) q (steps-written b ts q r) in
     let c = finish (wroteAll b (saysAll ts)) .buf in
@@ -168,9 +167,7 @@ reads-first b (s ∷ ss) ts d o m h r =
     let p = reads-first b ss ts (decSym b d (s .model) .state) (after (encSym o s)) m (h .1) (r .1 .1) in
     ((r .1 .0, p .0), p .1)
 
-pub steps-behind : (b : List ℕ) (ss : List Sym) (ts : List Step) (o q : Out) → Begun b ss o → StepsSent o ts q → Finishes q
-    → Reads (encDone q .buf) (fresh (encDone q .buf)) (after (encOpen b)) ss
-    × StepsRead (encDone q .buf) (readOn (encDone q .buf) (fresh (encDone q .buf)) ss) o ts
+pub steps-behind : StepsBehind
 steps-behind b ss ts o q r h f =
     let s = sends-first ss ts (after (encOpen b)) o q (r .sends) h in
     reads-first (encDone q .buf) ss ts (fresh (encDone q .buf)) (after (encOpen b)) o (r .sends)
@@ -178,37 +175,19 @@ steps-behind b ss ts o q r h f =
 
 -- ---- one call behind symbols, then finishing
 
-pub pulses-back : (b : List ℕ) (ss : List Sym) (o : Out) (p : List ℤ) (khz subframes signal offset rate : ℕ) → Begun b ss o
-    → (let w = encodePulses o p khz subframes signal offset rate in
-    let c = encDone (after w) .buf in
-    w .answer .refusal ≡ 0 → Finishes (after w)
-    → Reads c (fresh c) (after (encOpen b)) ss
-    × ((v : List ℤ) → length v ≡ length p → let a = decodePulses c (readOn c (fresh c) ss) v khz subframes signal offset in
-    RightPulses a p (after w) × Tells c (a .answer .state) (after w)))
+pub pulses-back : PulsesBack
 pulses-back b ss o p khz subframes signal offset rate r z f =
     let k = steps-behind b ss (pulses p khz subframes signal offset rate ∷ []) o _ r (z, refl) f in
     (k .0, k .1 .1)
 
-pub indices-back : (b : List ℕ) (ss : List Sym) (o : Out) (x : Indices) (s : Setting) → Begun b ss o
-    → (let w = encodeIndices o x s in
-    let c = encDone (afterIndices w) .buf in
-    Shape x → w .answer .refusal ≡ 0 → Finishes (afterIndices w)
-    → Reads c (fresh c) (after (encOpen b)) ss
-    × ((z : Indices) → Shape z → let a = decodeIndices c (readOn c (fresh c) ss) z s in
-    RightIndices a s x z w × Tells c (a .state) (afterIndices w)))
+pub indices-back : IndicesBack
 indices-back b ss o x s r h z f =
     let k = steps-behind b ss (sideIndices x s ∷ []) o _ r ((h, z), refl) f in
     (k .0, k .1 .1)
 
 -- ---- a whole frame behind symbols: the reader takes the type of the pulses from the side indices that it read
 
-pub frame-back : (b : List ℕ) (ss : List Sym) (o : Out) (s : Setting) (x : Indices) (p : List ℤ) (rate : ℕ) → Begun b ss o
-    → FrameAccepts o s x p rate
-    → (let q = after (typedPulses o s x p rate) in
-    let c = encDone q .buf in
-    Finishes q
-    → Reads c (fresh c) (after (encOpen b)) ss
-    × ((z : Indices) → Shape z → (v : List ℤ) → length v ≡ length p → FrameRight c (readOn c (fresh c) ss) o s x p rate z v))
+pub frame-back : FrameBack
 frame-back b ss o s x p rate r h f =
     let l = pulses p (s .khz) (s .subframes) (natAbs (x .signal)) (natAbs (x .offset)) rate ∷ [] in
     let k = steps-behind b ss (sideIndices x s ∷ l) o _ r ((h .shape, h .indices), (h .pulses, refl)) f in (

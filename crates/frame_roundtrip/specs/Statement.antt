@@ -1,7 +1,8 @@
 -- What "a written frame reads back" means, said of the public calls as document 01 has them, refusals included: a
 -- list of calls, each of which writes a symbol, a frame's side indices or a frame's pulses, in any order, and the
--- calls that read with the same numbers. The theorems are in `proofs/Theorems`. Assumes nothing.
-use Prim.Native.Nat.{ℕ, suc, _≤_}
+-- calls that read with the same numbers; at the end the theorems, each a type that `proofs/Theorems` proves. Assumes
+-- nothing.
+use Prim.Native.Nat.{ℕ, suc, _*_, _≤_}
 use mathlib.Core.Path.{_≡_}
 use mathlib.Core.Bool.{Bool, cond}
 use mathlib.Core.List.{List, [], _∷_, _++_}
@@ -10,11 +11,12 @@ use lib.IntN.{ℤ, pos, natAbs}
 use lib.ListN.{length, take, drop}
 use Rattle.entcode.specs.declared.Dec.{Dec}
 use Rattle.entcode.specs.Models.{Sym}
+use Rattle.entcode.specs.Cuts.{account}
 use Rattle.entcode.specs.Flat.{Out, out}
 use Rattle.entcode.specs.ReaderLaws.{Bytes}
 use Rattle.entcode.specs.Reading.{decOpen, decSym, decTell}
 use Rattle.entcode.specs.Writing.{Sent, encOpen, encSym, encTell, encDone}
-use Rattle.roundtrip.specs.Statement.{after, Sends, SameAccount, Right}
+use Rattle.roundtrip.specs.Statement.{after, Sends, SameAccount, Right, Reads}
 use Rattle.silk.specs.declared.Indices.{Indices}
 use Rattle.silk.specs.declared.IndicesRead.{IndicesRead}
 use Rattle.silk.specs.Record.{Setting}
@@ -182,3 +184,57 @@ pub record FrameRight (b : List ℕ) (d : Dec) (o : Out) (s : Setting) (x : Indi
   pub between : Tells b (decodeIndices b d z s .state) (afterIndices (encodeIndices o x s))
   pub pulses : RightPulses (pulsesAfter b s (decodeIndices b d z s) v) p (after (typedPulses o s x p rate))
   pub account : Tells b (pulsesAfter b s (decodeIndices b d z s) v .answer .state) (after (typedPulses o s x p rate))
+
+-- ---- the theorems
+
+-- calls whose account at the end is at most 8 bits a byte are finished: accepted, and without error
+abbrev pub StepsFit : Type 0
+StepsFit =
+    (b : List ℕ) (ts : List Step) (q : Out) → Bytes b → length b ≤ 1275 → StepsSent (after (encOpen b)) ts q
+    → account (q .state .total) (q .state .rng) ≤ 8 * length b → StepsWritten b ts q
+
+-- a fresh reader of the finished buffer, called with the same numbers, reads what the calls wrote
+abbrev pub StepsBack : Type 0
+StepsBack =
+    (b : List ℕ) (ts : List Step) (q : Out) → StepsWritten b ts q
+    → StepsRead (encDone q .buf) (fresh (encDone q .buf)) (after (encOpen b)) ts
+
+-- the same behind symbols
+abbrev pub StepsBehind : Type 0
+StepsBehind =
+    (b : List ℕ) (ss : List Sym) (ts : List Step) (o q : Out) → Begun b ss o → StepsSent o ts q → Finishes q
+    → Reads (encDone q .buf) (fresh (encDone q .buf)) (after (encOpen b)) ss
+    × StepsRead (encDone q .buf) (readOn (encDone q .buf) (fresh (encDone q .buf)) ss) o ts
+
+-- pulses behind symbols, then finishing
+abbrev pub PulsesBack : Type 0
+PulsesBack =
+    (b : List ℕ) (ss : List Sym) (o : Out) (p : List ℤ) (khz subframes signal offset rate : ℕ) → Begun b ss o
+    → (let w = encodePulses o p khz subframes signal offset rate in
+    let c = encDone (after w) .buf in
+    w .answer .refusal ≡ 0 → Finishes (after w)
+    → Reads c (fresh c) (after (encOpen b)) ss
+    × ((v : List ℤ) → length v ≡ length p → let a = decodePulses c (readOn c (fresh c) ss) v khz subframes signal offset in
+    RightPulses a p (after w) × Tells c (a .answer .state) (after w)))
+
+-- side indices behind symbols, then finishing
+abbrev pub IndicesBack : Type 0
+IndicesBack =
+    (b : List ℕ) (ss : List Sym) (o : Out) (x : Indices) (s : Setting) → Begun b ss o
+    → (let w = encodeIndices o x s in
+    let c = encDone (afterIndices w) .buf in
+    Shape x → w .answer .refusal ≡ 0 → Finishes (afterIndices w)
+    → Reads c (fresh c) (after (encOpen b)) ss
+    × ((z : Indices) → Shape z → let a = decodeIndices c (readOn c (fresh c) ss) z s in
+    RightIndices a s x z w × Tells c (a .state) (afterIndices w)))
+
+-- a whole frame behind symbols: the reader takes the type of the pulses from the side indices that it read
+abbrev pub FrameBack : Type 0
+FrameBack =
+    (b : List ℕ) (ss : List Sym) (o : Out) (s : Setting) (x : Indices) (p : List ℤ) (rate : ℕ) → Begun b ss o
+    → FrameAccepts o s x p rate
+    → (let q = after (typedPulses o s x p rate) in
+    let c = encDone q .buf in
+    Finishes q
+    → Reads c (fresh c) (after (encOpen b)) ss
+    × ((z : Indices) → Shape z → (v : List ℤ) → length v ≡ length p → FrameRight c (readOn c (fresh c) ss) o s x p rate z v))

@@ -15,7 +15,7 @@ use Rattle.entcode.specs.Writer.{Writer, openW, writeAll}
 use Rattle.entcode.specs.Finish.{finish, finishW}
 use Rattle.entcode.specs.Flat.{Out, flat}
 use Rattle.entcode.specs.Writing.{Sent, takes, encOpen, encDone}
-use Rattle.roundtrip.specs.Statement.{AllAllowed, after, Sends, Written}
+use Rattle.roundtrip.specs.Statement.{AllAllowed, after, Sends, Written, wroteAll}
 use Rattle.roundtrip.proofs.Interval.{runI, openI, rawNumber}
 use Rattle.roundtrip.proofs.Track.{View}
 use Rattle.roundtrip.proofs.Bytes.{bytes-writes}
@@ -24,10 +24,6 @@ use Rattle.roundtrip.proofs.ReadBack.{view-finished, view-bytes}
 use Rattle.roundtrip.proofs.Round.{written-view, open-firm, firm-all}
 use Rattle.roundtrip.proofs.Accepted.{error-none, firm-passes, opens, done-accepted, done-passes}
 use Rattle.roundtrip.proofs.Calls.{Went, went, opens-reader}
-
--- the writer over b after the symbols ss
-abbrev pub wroteAll : List ℕ → List Sym → Writer
-wroteAll b ss = writeAll (openW b) ss
 
 -- ---- before finishing
 

@@ -25,7 +25,9 @@ use Rattle.entcode.specs.Writer.{Writer, openW}
 use Rattle.entcode.specs.Finish.{finish}
 use Rattle.entcode.specs.Flat.{errorOf, Out, flat}
 use Rattle.entcode.specs.Writing.{Sent, encOpen, encDone}
-use Rattle.roundtrip.specs.Statement.{AllAllowed, after, Sends, Written, Reads, Questions, Leads, Answers, InStep, CodedReads}
+use Rattle.roundtrip.specs.Statement.{AllAllowed, after, Sends, Written, Reads, InStep, CodedReads, wroteAll}
+use Rattle.roundtrip.specs.Statement.{Accepts, Fits, FinishedBytes, FinishedLength, FinishedTotal, FinishedOpens, MiddleZero}
+use Rattle.roundtrip.specs.Statement.{ReadsBack, FitsReads, AnswersBack, StaysInStep, FrontDecides}
 use Rattle.roundtrip.proofs.Interval.{runI, openI, rawNumber}
 use Rattle.roundtrip.proofs.Track.{View}
 use Rattle.roundtrip.proofs.Finished.{total-bytes}
@@ -34,13 +36,11 @@ use Rattle.roundtrip.proofs.ReadBack.{Follows, Any, view-finished, view
 use Rattle.roundtrip.proofs.Round.{no-error, written-view, open-firm}
 use Rattle.roundtrip.proofs.Accepted.{opens, done-accepted}
 use Rattle.roundtrip.proofs.Calls.{went, accepts-all, opens-reader, reads-of, coded-of, in-step-of, answers-of}
-use Rattle.roundtrip.proofs.Public.{wroteAll, sent, total-low, done-fits, known, buf-is, offs-is, opened-is, opened-error}
+use Rattle.roundtrip.proofs.Public.{sent, total-low, done-fits, known, buf-is, offs-is, opened-is, opened-error}
 
 -- ---- allowed symbols whose account is at most 8 bits a byte are written: no call is refused
 
-pub accepts : (b : List ℕ) (ss : List Sym) → length b ≤ 1275 → AllAllowed ss
-    → account (wroteAll b ss .total) (wroteAll b ss .front .rng) ≤ 8 * length b
-    → Sends (after (encOpen b)) ss (flat (wroteAll b ss))
+pub accepts : Accepts
 accepts b ss short ok l =
     let w = wroteAll b ss in
     subst⁻¹ (λ (o : Out). Sends o ss (flat w)) (opens b short)
@@ -48,9 +48,7 @@ accepts b ss short ok l =
 
 -- ---- what was written with such an account is finished: accepted, and without error
 
-pub fits : (b : List ℕ) (ss : List Sym) (q : Out) → length b ≤ 1275 → Sends (after (encOpen b)) ss q
-    → account (q .state .total) (q .state .rng) ≤ 8 * length b
-    → (encDone q .answer .refusal ≡ 0) × (encDone q .answer .state .error ≡ pos 0)
+pub fits : Fits
 fits b ss q short h l =
     let g = went ss (openW b) q (sent b ss q short h) in
     let w = wroteAll b ss in
@@ -62,19 +60,19 @@ fits b ss q short h l =
 
 -- ---- the finished buffer holds bytes, has the old length, took no more bits than it has, but for 40, and opens
 
-pub finished-bytes : (b : List ℕ) (ss : List Sym) (q : Out) → Written b ss q → Bytes (encDone q .buf)
+pub finished-bytes : FinishedBytes
 finished-bytes b ss q r = let k = known b ss q r in subst⁻¹ Bytes (buf-is b ss q k) (k .bytes)
 
-pub finished-length : (b : List ℕ) (ss : List Sym) (q : Out) → Written b ss q → length (encDone q .buf) ≡ length b
+pub finished-length : FinishedLength
 finished-length b ss q r = let k = known b ss q r in ap length (buf-is b ss q k) ∙ k .len
 
-pub finished-total : (b : List ℕ) (ss : List Sym) (q : Out) → Written b ss q → q .state .total ≤ 8 * length b + 40
+pub finished-total : FinishedTotal
 finished-total b ss q r =
     let k = known b ss q r in
     let e : q .state .total ≡ wroteAll b ss .total = ap (λ (x : Out). x .state .total) (k .before) in
     omega (arith, total-bytes (wroteAll b ss) (k .view .fine) (k .finished), k .view .len)
 
-pub finished-opens : (b : List ℕ) (ss : List Sym) (q : Out) → Written b ss q → decOpen (encDone q .buf) .refusal ≡ 0
+pub finished-opens : FinishedOpens
 finished-opens b ss q r =
     ap (λ (a : Decoded). a .refusal) (opens-reader (encDone q .buf) (omega (arith, finished-length b ss q r, r .short)))
 
@@ -100,32 +98,27 @@ reads-view c ss q h w n v y z short =
     subst⁻¹ (λ (d : Dec). Reads b d (flat (openW c)) ss) (opened-is b short)
     (reads-of b ss (opened b) (openW c) q h (opened-error b) (view-follows ss (went ss (openW c) q h .allowed) w n v z y short c))
 
-pub reads-back : (b : List ℕ) (ss : List Sym) (q : Out) → Written b ss q
-    → Reads (encDone q .buf) (decOpen (encDone q .buf) .state) (after (encOpen b)) ss
+pub reads-back : ReadsBack
 reads-back b ss q r =
     let k = known b ss q r in
     subst₂ (λ (l : List ℕ) (o : Out). Reads l (decOpen l .state) o ss) (sym (buf-is b ss q k)) (sym (opens b (r .short)))
     (reads-view b ss q (k .sends) (wroteAll b ss) (length b) (k .view) (k .old) (k .error) (omega (arith, k .len, r .short)))
 
 -- an account that fits reads back
-pub fits-reads : (b : List ℕ) (ss : List Sym) (q : Out) → Bytes b → length b ≤ 1275 → Sends (after (encOpen b)) ss q
-    → account (q .state .total) (q .state .rng) ≤ 8 * length b
-    → Reads (encDone q .buf) (decOpen (encDone q .buf) .state) (after (encOpen b)) ss
+pub fits-reads : FitsReads
 fits-reads b ss q y short h l =
     let f = fits b ss q short h l in
     reads-back b ss q (record { bytes = y; short = short; sends = h; accepted = f .0; error = f .1 })
 
 -- ---- also where each next question depends on the values read so far
 
-pub answers-back : (b : List ℕ) (ss : List Sym) (q : Out) → Written b ss q → (t : Questions) → Leads t ss
-    → Answers (encDone q .buf) (decOpen (encDone q .buf) .state) (after (encOpen b)) t ss
+pub answers-back : AnswersBack
 answers-back b ss q r t l =
     answers-of (encDone q .buf) ss t (decOpen (encDone q .buf) .state) (after (encOpen b)) l (reads-back b ss q r)
 
 -- ---- reader and writer have the same range and total after each symbol
 
-pub in-step : (b : List ℕ) (ss : List Sym) (q : Out) → Written b ss q
-    → InStep (encDone q .buf) (decOpen (encDone q .buf) .state) (after (encOpen b)) ss
+pub in-step : StaysInStep
 in-step b ss q r =
     let k = known b ss q r in
     let w = wroteAll b ss in
@@ -137,8 +130,7 @@ in-step b ss q r =
 
 -- ---- the bytes behind the coded ones and before the raw ones are 0; where raw bits are left over, one byte more is raw: (bits % 8 + 7) / 8
 
-pub middle-zero : (b : List ℕ) (ss : List Sym) (q : Out) → Written b ss q → (i : ℕ) → encDone q .answer .state .offs ≤ i
-    → i + encDone q .answer .state .endoffs + (q .state .wbits % 8 + 7) / 8 < length b → getD (encDone q .buf) i 0 ≡ 0
+pub middle-zero : MiddleZero
 middle-zero b ss q r i x y =
     let k = known b ss q r in
     let f = k .finished in
@@ -150,10 +142,7 @@ middle-zero b ss q r i x y =
 
 -- ---- any packet that begins with the coded bytes of the finished buffer gives the same coded symbols
 
-pub front-decides : (b : List ℕ) (ss : List Sym) (q : Out) → Written b ss q → (c : List ℕ) → Bytes c → length c ≤ 1275
-    → encDone q .answer .state .offs ≤ length c
-    → take (encDone q .answer .state .offs) c ≡ take (encDone q .answer .state .offs) (encDone q .buf)
-    → CodedReads c (decOpen c .state) (after (encOpen b)) ss
+pub front-decides : FrontDecides
 front-decides b ss q r c y short l e =
     let k = known b ss q r in
     let w = wroteAll b ss in

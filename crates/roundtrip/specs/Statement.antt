@@ -1,18 +1,19 @@
 -- What "written reads back" means, said of the public calls as document 01 has them, refusals included: `encOpen`,
--- `encSym` and `encDone` of a writer, `decOpen` and `decSym` of a reader. The theorems are in `proofs/Theorems`.
--- Assumes nothing.
-use Prim.Native.Nat.{ℕ, _≤_}
+-- `encSym` and `encDone` of a writer, `decOpen` and `decSym` of a reader; and at the end the theorems, each a type that
+-- `proofs/Theorems` proves. Assumes nothing.
+use Prim.Native.Nat.{ℕ, _+_, _*_, _/_, _%_, _≤_, _<_}
 use mathlib.Core.Path.{_≡_}
 use mathlib.Core.List.{List, [], _∷_}
 use lib.IntN.{pos}
-use lib.ListN.{length}
+use lib.ListN.{length, getD, take}
 use Rattle.entcode.specs.declared.Dec.{Dec}
 use Rattle.entcode.specs.declared.Decoded.{Decoded}
 use Rattle.entcode.specs.Models.{Model, Sym, rawN, Allowed}
 use Rattle.entcode.specs.Cuts.{account}
-use Rattle.entcode.specs.Flat.{Out, out}
+use Rattle.entcode.specs.Flat.{Out, out, flat}
 use Rattle.entcode.specs.ReaderLaws.{Bytes}
-use Rattle.entcode.specs.Reading.{decSym}
+use Rattle.entcode.specs.Reading.{decOpen, decSym}
+use Rattle.entcode.specs.Writer.{Writer, openW, writeAll}
 use Rattle.entcode.specs.Writing.{Sent, encOpen, encSym, encDone}
 
 -- ---- writing
@@ -111,3 +112,81 @@ CodedReads b d o [] = Unit {0}
 CodedReads b d o (s ∷ ss) =
     CodedRight (decSym b d (s .model)) s (after (encSym o s))
     × CodedReads b (decSym b d (s .model) .state) (after (encSym o s)) ss
+
+-- ---- the theorems: writing
+
+-- what the definitions make of the symbols ss, from a fresh writer over b
+abbrev pub wroteAll : List ℕ → List Sym → Writer
+wroteAll b ss = writeAll (openW b) ss
+
+-- the account of a writer is at most 8 x length
+abbrev pub Fitting : Out → List ℕ → Type 0
+Fitting q b = account (q .state .total) (q .state .rng) ≤ 8 * length b
+
+-- allowed symbols whose account is at most that are written: no call is refused
+abbrev pub Accepts : Type 0
+Accepts =
+    (b : List ℕ) (ss : List Sym) → length b ≤ 1275 → AllAllowed ss
+    → account (wroteAll b ss .total) (wroteAll b ss .front .rng) ≤ 8 * length b
+    → Sends (after (encOpen b)) ss (flat (wroteAll b ss))
+
+-- what was written with such an account is finished: accepted, and without error
+abbrev pub Fits : Type 0
+Fits =
+    (b : List ℕ) (ss : List Sym) (q : Out) → length b ≤ 1275 → Sends (after (encOpen b)) ss q → Fitting q b
+    → (encDone q .answer .refusal ≡ 0) × (encDone q .answer .state .error ≡ pos 0)
+
+-- ---- the theorems: the finished buffer
+
+-- it holds bytes, has the old length, took no more bits than it has, but for 40, and opens
+abbrev pub FinishedBytes : Type 0
+FinishedBytes = (b : List ℕ) (ss : List Sym) (q : Out) → Written b ss q → Bytes (encDone q .buf)
+
+abbrev pub FinishedLength : Type 0
+FinishedLength = (b : List ℕ) (ss : List Sym) (q : Out) → Written b ss q → length (encDone q .buf) ≡ length b
+
+abbrev pub FinishedTotal : Type 0
+FinishedTotal = (b : List ℕ) (ss : List Sym) (q : Out) → Written b ss q → q .state .total ≤ 8 * length b + 40
+
+abbrev pub FinishedOpens : Type 0
+FinishedOpens = (b : List ℕ) (ss : List Sym) (q : Out) → Written b ss q → decOpen (encDone q .buf) .refusal ≡ 0
+
+-- the bytes behind the coded ones and before the raw ones are 0; where raw bits are left over, one byte more is raw:
+-- (bits % 8 + 7) / 8
+abbrev pub MiddleZero : Type 0
+MiddleZero =
+    (b : List ℕ) (ss : List Sym) (q : Out) → Written b ss q → (i : ℕ) → encDone q .answer .state .offs ≤ i
+    → i + encDone q .answer .state .endoffs + (q .state .wbits % 8 + 7) / 8 < length b → getD (encDone q .buf) i 0 ≡ 0
+
+-- ---- the theorems: reading
+
+abbrev pub ReadsBack : Type 0
+ReadsBack =
+    (b : List ℕ) (ss : List Sym) (q : Out) → Written b ss q
+    → Reads (encDone q .buf) (decOpen (encDone q .buf) .state) (after (encOpen b)) ss
+
+-- an account that fits reads back
+abbrev pub FitsReads : Type 0
+FitsReads =
+    (b : List ℕ) (ss : List Sym) (q : Out) → Bytes b → length b ≤ 1275 → Sends (after (encOpen b)) ss q → Fitting q b
+    → Reads (encDone q .buf) (decOpen (encDone q .buf) .state) (after (encOpen b)) ss
+
+-- also where each next question depends on the values read so far
+abbrev pub AnswersBack : Type 0
+AnswersBack =
+    (b : List ℕ) (ss : List Sym) (q : Out) → Written b ss q → (t : Questions) → Leads t ss
+    → Answers (encDone q .buf) (decOpen (encDone q .buf) .state) (after (encOpen b)) t ss
+
+-- reader and writer have the same range and total before the first symbol and after each
+abbrev pub StaysInStep : Type 0
+StaysInStep =
+    (b : List ℕ) (ss : List Sym) (q : Out) → Written b ss q
+    → InStep (encDone q .buf) (decOpen (encDone q .buf) .state) (after (encOpen b)) ss
+
+-- any packet that begins with the coded bytes of the finished buffer gives the same coded symbols
+abbrev pub FrontDecides : Type 0
+FrontDecides =
+    (b : List ℕ) (ss : List Sym) (q : Out) → Written b ss q → (c : List ℕ) → Bytes c → length c ≤ 1275
+    → encDone q .answer .state .offs ≤ length c
+    → take (encDone q .answer .state .offs) c ≡ take (encDone q .answer .state .offs) (encDone q .buf)
+    → CodedReads c (decOpen c .state) (after (encOpen b)) ss

@@ -1,29 +1,15 @@
--- The worked cases of document 01, P1 to P13 and "Run", as one list, and one theorem that the definitions of the
--- public calls satisfy it all. Assumes nothing.
+-- The worked cases of document 01, P1 to P13 and "Run", as one list over the definitions of the public
+-- calls. `proofs/Cases` proves that all hold. Assumes nothing.
 use Prim.Native.Nat.{ℕ}
-use mathlib.Core.Path.{_≡_, refl}
+use mathlib.Core.Path.{_≡_}
 use mathlib.Core.List.{List, [], _∷_, map}
-use lib.Count.{leadingZeros}
 use lib.IntN.{ℤ, pos, negsuc}
-use Rattle.ints.specs.Wrap.{wrap16}
-use Rattle.bitlen.specs.Length.{bitLength, lengthIn}
-use Rattle.refusals.specs.First.{firstOf}
 use Rattle.entcode.specs.declared.Dec.{Dec}
 use Rattle.entcode.specs.Models.{Model, bit, raw, num, Sym}
-use Rattle.entcode.specs.Cuts.{account}
 use Rattle.entcode.specs.Flat.{Out, out}
-use Rattle.entcode.specs.Reader.{settled, opened, cutDown, readVal, readNext}
-use Rattle.entcode.specs.Sound.{soundR, gateR, soundW, gateW}
-use Rattle.entcode.specs.Reading as reading
 use Rattle.entcode.specs.Reading.{decSym, decTell, decOpen}
-use Rattle.entcode.specs.Writing as writing
-use Rattle.entcode.specs.Writing.{Sent, written, encSym, finished, encDone, encTell, encOpen}
-use Rattle.spectrum.specs.Calls as spectra
-use Rattle.spectrum.specs.Calls.{Called, called, lengthsOk, stabiliseRefusal, stabiliseCall}
-use Rattle.spectrum.specs.Distances.{diffs, least, firstLeast, keeps, place, lower, upper, centre, newLow, newHigh, move}
-use Rattle.spectrum.specs.Gaps.{goodGaps}
-use Rattle.spectrum.specs.Stabilising.{run, stabilise}
-use Rattle.spectrum.specs.Values.{maxZ, minZ, held, total}
+use Rattle.entcode.specs.Writing.{Sent, encSym, encDone, encTell, encOpen}
+use Rattle.spectrum.specs.Calls.{Called, called, stabiliseCall}
 use Rattle.silk.specs.IndexSyntax.{lagAfter}
 
 -- what a call shows: its refusal and its value, and the account that the account call answers after it
@@ -140,9 +126,7 @@ cases =
     gives (writes (7 ∷ 7 ∷ 7 ∷ 7 ∷ []) (bitOf 0 15 ∷ record { model = num 256; value = 1 } ∷ bitOf 1 9 ∷ [])) (holds (pos 255) 0) ∷
     []
 
-pub cases-hold : map (λ w. computed (w .case)) cases ≡ map (λ w. w .outcome) cases
-unfolding cases decSym decTell decOpen reading.answered firstOf gateR soundR settled opened cutDown readVal readNext
-    account bitLength lengthIn leadingZeros soundW gateW writing.answered written encSym finished encDone encTell encOpen
-    stabiliseCall spectra.answered stabiliseRefusal lengthsOk goodGaps stabilise run move newHigh newLow centre upper lower
-    place keeps firstLeast least diffs total held minZ maxZ wrap16
-cases-hold = refl
+-- ---- the theorem: each case computes to its outcome
+
+abbrev pub CasesHold : Type 0
+CasesHold = map (λ w. computed (w .case)) cases ≡ map (λ w. w .outcome) cases
