@@ -120,8 +120,8 @@ abbrev pub wroteAll : List ℕ → List Sym → Writer
 wroteAll b ss = writeAll (openW b) ss
 
 -- the account of a writer is at most 8 x length
-abbrev pub Fitting : Out → List ℕ → Type 0
-Fitting q b = account (q .state .total) (q .state .rng) ≤ 8 * length b
+abbrev pub AccountFits : Out → List ℕ → Type 0
+AccountFits q b = account (q .state .total) (q .state .rng) ≤ 8 * length b
 
 -- allowed symbols whose account is at most that are written: no call is refused
 abbrev pub Accepts : Type 0
@@ -133,7 +133,7 @@ Accepts =
 -- what was written with such an account is finished: accepted, and without error
 abbrev pub Fits : Type 0
 Fits =
-    (b : List ℕ) (ss : List Sym) (q : Out) → length b ≤ 1275 → Sends (after (encOpen b)) ss q → Fitting q b
+    (b : List ℕ) (ss : List Sym) (q : Out) → length b ≤ 1275 → Sends (after (encOpen b)) ss q → AccountFits q b
     → (encDone q .answer .refusal ≡ 0) × (encDone q .answer .state .error ≡ pos 0)
 
 -- ---- the theorems: the finished buffer
@@ -168,7 +168,7 @@ ReadsBack =
 -- an account that fits reads back
 abbrev pub FitsReads : Type 0
 FitsReads =
-    (b : List ℕ) (ss : List Sym) (q : Out) → Bytes b → length b ≤ 1275 → Sends (after (encOpen b)) ss q → Fitting q b
+    (b : List ℕ) (ss : List Sym) (q : Out) → Bytes b → length b ≤ 1275 → Sends (after (encOpen b)) ss q → AccountFits q b
     → Reads (encDone q .buf) (decOpen (encDone q .buf) .state) (after (encOpen b)) ss
 
 -- also where each next question depends on the values read so far
