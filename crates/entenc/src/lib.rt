@@ -28,17 +28,30 @@ fn answer(n: u32, w: Enc) -> Encoded
     }
 }
 
-// A fresh writer; a refused opening hands back the all-zero state.
+// A fresh writer; a refused opening hands back the all-zero state. The fresh one is spelled out, so that LLVM takes most of it from a
+// constant.
 pub fn ec_enc_init(buf: &[u8]) -> Encoded
     ensures { λ a. ⌜ sent (now (buf .entry)) a ≡ encOpen (now (buf .entry)) ⌝ }
 {
     if buf.len() <= LONGEST {
-        let mut w = nought_writer();
-        w.storage = buf.len() as u32;
-        w.total = 33;
-        w.rng = 0x8000_0000;
-        w.rem = -1;
-        answer(0, w)
+        let n = buf.len() as u32;
+        Encoded {
+            refusal: 0,
+            value: 0,
+            state: Enc {
+                storage: n,
+                endoffs: 0,
+                window: 0,
+                wbits: 0,
+                total: 33,
+                offs: 0,
+                rng: 0x8000_0000,
+                val: 0,
+                ext: 0,
+                rem: -1,
+                error: 0,
+            },
+        }
     } else {
         answer(1, nought_writer())
     }

@@ -7,14 +7,11 @@ use Rattle.entenc.proofs.ec_enc_init.Tie as tie
 
 returns : tie.Need-returns
 unfolding encOpen
-returns c = rw (c .answer .ensures, c .before .nought-writer .ensures, le-leb _ _ (c .before .before .if1 .taken))
+returns c = rw (le-leb _ _ (c .if1 .taken))
 
 returns-2 : tie.Need-returns-2
 unfolding encOpen
-returns-2 c = rw (c .answer2 .ensures, c .before .nought-writer2 .ensures, lt-leb _ _ (c .before .before .if1 .left))
+returns-2 c = rw (c .answer .ensures, c .before .nought-writer .ensures, lt-leb _ _ (c .before .before .if1 .left))
 
 pub ec-enc-init-spec : {M : Type 1} → statement M
-ec-enc-init-spec =
-    tie.close
-    (tie.spec
-    (λ c κs. search needs) (λ c. search needs) (λ c κs. search needs) (λ c κs. search needs) (λ c κs. search needs) returns returns-2)
+ec-enc-init-spec = tie.close (tie.spec (λ c. search needs) (λ c κs. search needs) (λ c κs. search needs) returns returns-2)
