@@ -4,7 +4,6 @@ ghost use mathlib.Core.Path.{_≡_};
 ghost use Prim.Native.Nat.{_^_, _<_};
 ghost use Rattle.tree.specs.Asks.{got};
 ghost use Rattle.tree.specs.Ran.{Ran};
-ghost use Rattle.silk.specs.Record.{settingOf};
 ghost use Rattle.silk.specs.IndexRows.{Reading, Rate, Subframes};
 ghost use Rattle.silk.specs.IndexSyntax.{voicing, indices};
 ghost use Rattle.silk.specs.IndexParts.{Upto};
@@ -22,6 +21,7 @@ use index_spectrum_read::spectrum_run;
 use silk::Indices;
 use silk::IndicesPart;
 use silk::IndicesRead;
+use silk::Setting;
 use tables::rows::index_rows;
 
 // ---- reading
@@ -33,18 +33,14 @@ fn voicing_index(
     rows: &[u8],
     x: Indices,
     signal: u32,
-    relative: bool,
-    khz: u32,
-    subframes: u32,
-    mode: u32,
-    before: i16,
+    s: Setting,
 ) -> IndicesPart
     requires { ⌜ Reading (now packet) d (now rows) (2 ^ 27) ⌝ }
-    requires { ⌜ Rate khz × Subframes subframes ⌝ }
-    ensures { λ a. ⌜ Ran (now (packet .entry)) d (voicing signal relative khz subframes mode before x) 160 (a .indices) (a .state) ⌝ }
+    requires { ⌜ Rate (s .khz) × Subframes (s .subframes) ⌝ }
+    ensures { λ a. ⌜ Ran (now (packet .entry)) d (voicing signal s x) 160 (a .indices) (a .state) ⌝ }
 {
     if signal == 2 {
-        return pitch_run(packet, d, rows, x, relative, khz, subframes, mode, before);
+        return pitch_run(packet, d, rows, x, s);
     }
     IndicesPart {
         indices: x,
@@ -53,43 +49,20 @@ fn voicing_index(
 }
 
 // All of them, in order.
-fn all_indices(
-    packet: &[u8],
-    d: Dec,
-    rows: &[u8],
-    x: Indices,
-    khz: u32,
-    subframes: u32,
-    active: u32,
-    mode: u32,
-    prevtype: u32,
-    prevlag: i16,
-) -> IndicesPart
+fn all_indices(packet: &[u8], d: Dec, rows: &[u8], x: Indices, s: Setting) -> IndicesPart
     requires { ⌜ Reading (now packet) d (now rows) (2 ^ 26) ⌝ }
-    requires { ⌜ Rate khz × Subframes subframes × (active < 2) ⌝ }
-    ensures { λ a. ⌜ Ran (now (packet .entry)) d (indices (settingOf khz subframes active mode prevtype prevlag) x) 816 (a .indices) (a .state) ⌝ }
+    requires { ⌜ Rate (s .khz) × Subframes (s .subframes) × (s .active < 2) ⌝ }
+    ensures { λ a. ⌜ Ran (now (packet .entry)) d (indices s x) 816 (a .indices) (a .state) ⌝ }
 {
-    let k = kind_run(packet, d, rows, active);
+    let k = kind_run(packet, d, rows, s.active);
     let signal = k.value / 2;
     let mut out = x;
     out.signal = signal as i8;
     out.offset = (k.value % 2) as i8;
-    let g = gains_run(packet, k.state, rows, out, mode, subframes, signal);
-    let q = spectrum_run(packet, g.state, rows, g.indices, khz, signal);
-    let i = interpolation_run(packet, q.state, rows, q.indices, subframes);
-    let relative = (mode == 2) & (prevtype == 2);
-    let v = voicing_index(
-        packet,
-        i.state,
-        rows,
-        i.indices,
-        signal,
-        relative,
-        khz,
-        subframes,
-        mode,
-        prevlag,
-    );
+    let g = gains_run(packet, k.state, rows, out, s.mode, s.subframes, signal);
+    let q = spectrum_run(packet, g.state, rows, g.indices, s.khz, signal);
+    let i = interpolation_run(packet, q.state, rows, q.indices, s.subframes);
+    let v = voicing_index(packet, i.state, rows, i.indices, signal, s);
     seed_run(packet, v.state, rows, v.indices)
 }
 
@@ -111,43 +84,22 @@ fn accepted(state: Dec, x: Indices, before: i16) -> IndicesRead
     }
 }
 
-pub fn silk_decode_indices(
-    packet: &[u8],
-    d: Dec,
-    record: Indices,
-    khz: u32,
-    subframes: u32,
-    active: u32,
-    mode: u32,
-    prevtype: u32,
-    prevlag: i16,
-) -> IndicesRead
-    ensures { λ a. ⌜ a ≡ decodeIndices (now (packet .entry)) d «record» (settingOf khz subframes active mode prevtype prevlag) ⌝ }
+pub fn silk_decode_indices(packet: &[u8], d: Dec, record: Indices, s: Setting) -> IndicesRead
+    ensures { λ a. ⌜ a ≡ decodeIndices (now (packet .entry)) d «record» s ⌝ }
 {
-    let rule = numbers_rule(khz, subframes, active, mode, prevtype);
+    let rule = numbers_rule(s);
     let n = refusals::first_refusal(entdec::gate(packet, d), rule);
     if n == 0 {
         let rows = index_rows();
-        let a = all_indices(
-            packet,
-            d,
-            &rows,
-            record,
-            khz,
-            subframes,
-            active,
-            mode,
-            prevtype,
-            prevlag,
-        );
-        accepted(a.state, a.indices, prevlag)
+        let a = all_indices(packet, d, &rows, record, s);
+        accepted(a.state, a.indices, s.prevlag)
     } else {
         IndicesRead {
             refusal: n,
             state: d,
             indices: record,
-            prevtype,
-            prevlag,
+            prevtype: s.prevtype,
+            prevlag: s.prevlag,
         }
     }
 }

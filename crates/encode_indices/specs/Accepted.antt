@@ -15,11 +15,11 @@ use Rattle.tree.specs.Asks.{Asks, done, then, symbols, meant}
 use Rattle.tree.specs.AsksLaws.{meant-then, symbols-then}
 use Rattle.tree.specs.Telling.{allSaid, said-front, said-back, said-both}
 use Rattle.silk.specs.declared.Indices.{Indices}
-use Rattle.silk.specs.Record.{Setting, settingOf}
-use Rattle.silk.specs.IndexSyntax.{absoluteLag, lag, pitch, voicing, indices, relativeIn}
+use Rattle.silk.specs.declared.Setting.{Setting}
+use Rattle.silk.specs.IndexSyntax.{absoluteLag, lag, pitch, voicing, indices, relativeIn, relativeLag}
 use Rattle.silk.specs.IndexRanges.{Shape}
 use Rattle.silk.specs.IndexCalls.{Chosen}
-use Rattle.silk.specs.IndexFields.{WritesIn, range-writes}
+use Rattle.silk.specs.IndexFields.{Writes, range-writes}
 use Rattle.silk.specs.IndexWriting.{sayable, meant-is, same-sure, sayable-in-range}
 
 -- what y says along t it says along t', and means the same
@@ -48,19 +48,10 @@ unfolding lag symbols meant allSaid
 lag-follows true khz before y x = record { means = refl; said = λ e. and-both (eqb (sayRule (tab 8 deltaLagRow) 0) 0) (allSaid (symbols y (absoluteLag khz x))) e .1 }
 lag-follows false khz before y x = follows-itself
 
-voicing-follows : (signal : ℕ) (r : Bool) (khz n mode : ℕ) (before : ℤ) (y x : Indices)
-    → Follows y (voicing signal r khz n mode before x) (voicing signal false khz n mode before x)
-unfolding voicing pitch
-voicing-follows signal r khz n mode before y x = go (eqb signal 2)
-  where
-    go : (t : Bool) → Follows y (cond t (pitch r khz n mode before x) (done x)) (cond t (pitch false khz n mode before x) (done x))
-    go true = follows-then y _ _ _ _ (lag-follows r khz before y x) (λ a. follows-itself)
-    go false = follows-itself
-
--- ---- the same frame after one that was not voiced
-
+-- the same frame after one that was not voiced
 abbrev unvoicedBefore : Setting → Setting
-unvoicedBefore s = settingOf (s .khz) (s .subframes) (s .active) (s .mode) 0 (s .prevlag)
+unvoicedBefore s =
+    record { khz = s .khz; subframes = s .subframes; active = s .active; mode = s .mode; prevtype = 0; prevlag = s .prevlag }
 
 not-relative : (mode : ℕ) → relativeIn mode 0 ≡ false
 not-relative mode = go (eqb mode 2)
@@ -69,6 +60,22 @@ not-relative mode = go (eqb mode 2)
     go true = refl
     go false = refl
 
+pitch-follows : (s : Setting) (y x : Indices) → Follows y (pitch s x) (pitch (unvoicedBefore s) x)
+unfolding pitch
+pitch-follows s y x =
+    follows-then y _ _ _ _
+    (subst (λ (r : Bool). Follows y (lag (relativeLag s) (s .khz) (s .prevlag) x) (lag r (s .khz) (s .prevlag) x))
+    (sym (not-relative (s .mode))) (lag-follows (relativeLag s) (s .khz) (s .prevlag) y x))
+    (λ a. follows-itself)
+
+voicing-follows : (signal : ℕ) (s : Setting) (y x : Indices) → Follows y (voicing signal s x) (voicing signal (unvoicedBefore s) x)
+unfolding voicing
+voicing-follows signal s y x = go (eqb signal 2)
+  where
+    go : (t : Bool) → Follows y (cond t (pitch s x) (done x)) (cond t (pitch (unvoicedBefore s) x) (done x))
+    go true = pitch-follows s y x
+    go false = follows-itself
+
 indices-follows : (s : Setting) (x : Indices) → Follows x (indices s x) (indices (unvoicedBefore s) x)
 unfolding indices
 indices-follows s x =
@@ -76,15 +83,11 @@ indices-follows s x =
     follows-then x _ _ _ _ follows-itself (λ g.
     follows-then x _ _ _ _ follows-itself (λ q.
     follows-then x _ _ _ _ follows-itself (λ i.
-    follows-then x _ _ _ _
-    (subst (λ (r : Bool). Follows x (voicing (k / 2) (relativeIn (s .mode) (s .prevtype)) (s .khz) (s .subframes) (s .mode) (s .prevlag) i) (voicing (k / 2) r (s .khz) (s .subframes) (s .mode) (s .prevlag) i))
-    (sym (not-relative (s .mode)))
-    (voicing-follows (k / 2) (relativeIn (s .mode) (s .prevtype)) (s .khz) (s .subframes) (s .mode) (s .prevlag) x i))
-    (λ v. follows-itself)))))
+    follows-then x _ _ _ _ (voicing-follows (k / 2) s x i) (λ v. follows-itself)))))
 
 -- ---- what an accepted record is
 
-pub sayable-writes : (s : Setting) (x : Indices) → Chosen s → Shape x → sayable s x ≡ true → WritesIn s x
+pub sayable-writes : (s : Setting) (x : Indices) → Chosen s → Shape x → sayable s x ≡ true → Writes s x
 unfolding sayable
 sayable-writes s x c h e =
     let f = indices-follows s x in

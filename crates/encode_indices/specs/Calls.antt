@@ -21,19 +21,19 @@ use Rattle.tree.specs.Asks.{symbols}
 use Rattle.tree.specs.Telling.{writtenAll}
 use Rattle.tree.specs.SoundTelling.{total-told, sound-told}
 use Rattle.silk.specs.declared.Indices.{Indices}
-use Rattle.silk.specs.Record.{Setting}
-use Rattle.silk.specs.IndexSyntax.{relativeIn, indices}
+use Rattle.silk.specs.declared.Setting.{Setting}
+use Rattle.silk.specs.IndexSyntax.{relativeLag, indices}
 use Rattle.silk.specs.IndexParts.{Upto}
 use Rattle.silk.specs.IndexRanges.{Shape, indices-end}
 use Rattle.silk.specs.FrameCalls.{settingOk, decodeIndices}
 use Rattle.silk.specs.IndexCalls.{Chosen, setting-chosen, chosen-setting, four-none, indices-accepted}
-use Rattle.silk.specs.IndexFields.{WritesIn, range-writes}
+use Rattle.silk.specs.IndexFields.{Writes, range-writes}
 use Rattle.silk.specs.IndexWriting.{sayable, all-said, tellRule, IndicesSent, indicesTold, encodeIndices, indices-told, told-sayable}
 use Rattle.encode_indices.specs.Fields.{fields-sayable}
 use Rattle.encode_indices.specs.Accepted.{sayable-writes}
 
 -- refusal 8 is exactly a field outside its range
-pub fields-decide : (s : Setting) (x : Indices) → Chosen s → Shape x → Decides (sayable s x) (WritesIn s x)
+pub fields-decide : (s : Setting) (x : Indices) → Chosen s → Shape x → Decides (sayable s x) (Writes s x)
 fields-decide s x c h = record { sure = sayable-writes s x c h; seen = fields-sayable s x c h }
 
 -- ---- the order of refusals: n is the first of gate and numbers, and where it is 0 the fields decide
@@ -55,7 +55,7 @@ module _ (o : Out) (x : Indices) (s : Setting) (n : ℕ) (e : n ≡ firstOf (gat
   unfolding firstOf
   rule-late z = subst (λ (t : Bool). cond t (cond (sayable s x) 0 8) n ≡ tellRule o s x) (eq-eqb n 0 z) rule-is
 
-  pub rule-fields : n ≡ 0 → Shape x → (t : Bool) → Decides t (WritesIn s x) → cond t 0 8 ≡ tellRule o s x
+  pub rule-fields : n ≡ 0 → Shape x → (t : Bool) → Decides t (Writes s x) → cond t 0 8 ≡ tellRule o s x
   rule-fields z h t d = ap (λ (u : Bool). cond u 0 8) (decides-alike d (fields-decide s x (rule-chosen z) h)) ∙ rule-late z
 
 -- ---- an accepted call
@@ -71,7 +71,7 @@ module _ (o : Out) (x : Indices) (s : Setting) where
   pub record Takes : Type 0 where
     pub passed : Open o
     pub numbers : Chosen s
-    pub fields : WritesIn s x
+    pub fields : Writes s x
 
   pub rule-takes : Shape x → tellRule o s x ≡ 0 → Takes
   rule-takes h e =
@@ -129,7 +129,7 @@ module _ (b : List ℕ) (d : Dec) (x : Indices) (s : Setting) (y : Bytes b) (h :
     read-taken l = answers ∙ ap (λ (t : Bool). cond t 0 8) (read-decides .seen l)
 
     -- and so always where the lag is not against the frame before
-    pub read-absolute : relativeIn (s .mode) (s .prevtype) ≡ false → encodeIndices o read s .answer .refusal ≡ 0
+    pub read-absolute : relativeLag s ≡ false → encodeIndices o read s .answer .refusal ≡ 0
     read-absolute e = read-taken (λ v. indices-accepted b d x s y h z .read .range .voiced v .absolute e)
 
     pub read-refused : (LagWrites → ⊥) → encodeIndices o read s .answer .refusal ≡ 8

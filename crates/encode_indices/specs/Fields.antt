@@ -11,30 +11,30 @@ use Rattle.tests.specs.Choice.{chosen}
 use Rattle.tree.specs.Asks.{Asks}
 use Rattle.tree.specs.Says.{Says, means, says-then, says-all, says-means}
 use Rattle.silk.specs.declared.Indices.{Indices}
-use Rattle.silk.specs.Record.{Setting}
+use Rattle.silk.specs.declared.Setting.{Setting}
 use Rattle.silk.specs.IndexRows.{Rate, Subframes}
-use Rattle.silk.specs.IndexSyntax.{kindOf, gains, relativeIn, voicing, indices}
+use Rattle.silk.specs.IndexSyntax.{kindOf, gains, voicing, indices}
 use Rattle.silk.specs.IndexRanges.{Shape}
 use Rattle.silk.specs.IndexWriting.{sayable, same-sure}
-use Rattle.silk.specs.IndexFields.{WritesIn}
+use Rattle.silk.specs.IndexFields.{Writes}
 use Rattle.silk.specs.IndexCalls.{Chosen}
 use Rattle.silk.specs.IndexSays.{kind-same, kind-says, gains-says, spectrum-says, interpolation-says, pitch-says, seed-says}
 
-module _ (s : Setting) (x : Indices) (w : WritesIn s x) where
+module _ (s : Setting) (x : Indices) (w : Writes s x) where
   -- signal type and offset type, taken apart again
   pub signal-is : kindOf x / 2 ≡ natAbs (x .signal)
   signal-is = omega (arith, w .kind .offset .most)
 
   pub voicing-says : (n : ℕ) → Rate (s .khz) → Subframes (s .subframes) → Shape x → n ≡ natAbs (x .signal)
-      → Says x x (voicing n (relativeIn (s .mode) (s .prevtype)) (s .khz) (s .subframes) (s .mode) (s .prevlag) x)
+      → Says x x (voicing n s x)
   unfolding voicing
   voicing-says n r f h e =
       chosen (λ (q : Asks Indices Indices). Says x x q) (eqb n 2)
       (λ t. let v : x .signal ≡ pos 2 = w .kind .signal .least ∙ ap pos (sym e ∙ eqb-true n 2 t) in
-      pitch-says _ _ _ x r f h (w .pitch v) _ _)
+      pitch-says s x r f h (w .pitch v))
       (λ t. means)
 
-module _ (s : Setting) (x : Indices) (c : Chosen s) (h : Shape x) (w : WritesIn s x) where
+module _ (s : Setting) (x : Indices) (c : Chosen s) (h : Shape x) (w : Writes s x) where
   indices-says : Says x x (indices s x)
   unfolding indices
   indices-says =

@@ -8,30 +8,27 @@ use Rattle.tree.specs.Asks.{Asks, then}
 use Rattle.tree.specs.Says.{says-means}
 use Rattle.tree.specs.Told.{Told, told-then}
 use Rattle.silk.specs.declared.Indices.{Indices}
-use Rattle.silk.specs.Record.{Setting}
+use Rattle.silk.specs.declared.Setting.{Setting}
 use Rattle.silk.specs.IndexRows.{Rate, Subframes}
-use Rattle.silk.specs.IndexSyntax.{kindOf, kind, gains, spectrum, interpolation, relativeIn, voicing, seed, indices}
+use Rattle.silk.specs.IndexSyntax.{kindOf, kind, gains, spectrum, interpolation, voicing, seed, indices}
 use Rattle.silk.specs.IndexRanges.{Shape}
-use Rattle.silk.specs.IndexFields.{WritesIn}
+use Rattle.silk.specs.IndexFields.{Writes}
 use Rattle.silk.specs.IndexSays.{kind-same, kind-says, gains-says, spectrum-says, interpolation-says}
 use Rattle.encode_indices.specs.Fields.{signal-is, voicing-says}
 
 module _
-    (s : Setting) (x : Indices) (rate : Rate (s .khz)) (sub : Subframes (s .subframes)) (active : s .active < 2) (h : Shape x) (w : WritesIn s x) where
-  abbrev voicingOf : ℕ → Indices → Asks Indices Indices
-  voicingOf n = voicing n (relativeIn (s .mode) (s .prevtype)) (s .khz) (s .subframes) (s .mode) (s .prevlag)
-
+    (s : Setting) (x : Indices) (rate : Rate (s .khz)) (sub : Subframes (s .subframes)) (active : s .active < 2) (h : Shape x) (w : Writes s x) where
   -- what follows the type
   abbrev behind : ℕ → Indices → Asks Indices Indices
   behind n y =
       then (gains (s .mode) (s .subframes) n y) (λ g.
       then (spectrum (s .khz) n g) (λ q.
       then (interpolation (s .subframes) q) (λ i.
-      then (voicingOf n i) seed)))
+      then (voicing n s i) seed)))
 
   module _ {o k g q i v r : Out} (n : ℕ) (e : n ≡ natAbs (x .signal)) where
     pub parts-told : Told o x (kind (s .active)) 16 k → Told k x (gains (s .mode) (s .subframes) n x) 80 g → Told g x (spectrum (s .khz) n x) 528 q
-        → Told q x (interpolation (s .subframes) x) 16 i → Told i x (voicingOf n x) 160 v → Told v x (seed x) 16 r → Told o x (indices s x) 816 r
+        → Told q x (interpolation (s .subframes) x) 16 i → Told i x (voicing n s x) 160 v → Told v x (seed x) 16 r → Told o x (indices s x) 816 r
     unfolding indices
     parts-told a b d f u z =
         let p : n < 3 = omega (arith, w .kind .signal .most) in

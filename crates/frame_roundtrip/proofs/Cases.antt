@@ -19,10 +19,11 @@ use Rattle.roundtrip.specs.Statement.{after}
 use Rattle.tree.specs.Asks.{then, of, symbols, meant}
 use Rattle.tree.specs.Telling.{writtenAll, allSaid}
 use Rattle.silk.specs.declared.Indices.{Indices}
-use Rattle.silk.specs.Record.{Setting, settingOf}
+use Rattle.silk.specs.declared.Setting.{Setting}
+use Rattle.silk.specs.Record.{made}
 use Rattle.silk.specs.IndexSyntax.{kind, firstGain, moreGains, gains, residual, residuals, spectrum, interpolation, absoluteLag, lag, contour, filters, period, scale, pitch, voicing, seed, indices}
-use Rattle.silk.specs.FrameCalls.{numbersOk, nextLag, pulseNumbersOk}
-use Rattle.silk.specs.IndexWriting.{made, sameIndices, sayable, encodeIndices}
+use Rattle.silk.specs.FrameCalls.{settingOk, nextLag, pulseNumbersOk}
+use Rattle.silk.specs.IndexWriting.{sameIndices, sayable, encodeIndices}
 use Rattle.silk.specs.PulseSyntax.{each, lowCounts, count, counts, total, split, shell, lowBits, blockLows, sign, blockSigns, shifted, excitation}
 use Rattle.silk.specs.PulseBlocks.{rows16}
 use Rattle.silk.specs.PulseWriting.{blockSays, shiftOk, firstFrom, blocksBy, writeRule, writeNumbers, encodePulses}
@@ -30,7 +31,7 @@ use Rattle.frame_roundtrip.specs.Statement.{Finishes, typedPulses, Frame
 
 -- 8 kHz, 2 subframes, active, independent, after an unvoiced frame
 abbrev pub setting : Setting
-setting = settingOf 8 2 1 0 0 (pos 0)
+setting = record { khz = 8; subframes = 2; active = 1; mode = 0; prevtype = 0; prevlag = pos 0 }
 
 -- voiced, with residuals at both ends of their range
 abbrev pub voicedRecord : Indices
@@ -48,7 +49,7 @@ abbrev pub begun : Out
 begun = after (encSym (after (encOpen (replicate 60 7))) (record { model = bit 1; value = 1 }))
 
 pub frame-accepted : FrameAccepts begun setting voicedRecord somePulses 3 × Finishes (after (typedPulses begun setting voicedRecord somePulses 3))
-unfolding leadingZeros lengthIn bitLength icdfOk symbolOk icdfRule symbolRule firstOf flagRows typeRows gainRows deltaGainRows narrowFirstRows wideFirstRows narrowResidualRows wideResidualRows extensionRows interpolationRows lagRows contourRows periodRows filterRows scaleRows evenRows rateRows countRows lastCountRows shellRows0 shellRows1 shellRows2 shellRows3 lowBitRows signRows headerRows indexRows pulseRows sheet rowOf narrowBook account soundW gateW answered written encSym encOpen then of symbols meant writtenAll allSaid kind firstGain moreGains gains residual residuals spectrum interpolation absoluteLag lag contour filters period scale pitch voicing seed indices numbersOk nextLag sameIndices sayable encodeIndices pulseNumbersOk each lowCounts count counts total split shell lowBits blockLows sign blockSigns shifted excitation rows16 blockSays shiftOk firstFrom blocksBy writeRule writeNumbers encodePulses finished encDone
+unfolding leadingZeros lengthIn bitLength icdfOk symbolOk icdfRule symbolRule firstOf flagRows typeRows gainRows deltaGainRows narrowFirstRows wideFirstRows narrowResidualRows wideResidualRows extensionRows interpolationRows lagRows contourRows periodRows filterRows scaleRows evenRows rateRows countRows lastCountRows shellRows0 shellRows1 shellRows2 shellRows3 lowBitRows signRows headerRows indexRows pulseRows sheet rowOf narrowBook account soundW gateW answered written encSym encOpen then of symbols meant writtenAll allSaid kind firstGain moreGains gains residual residuals spectrum interpolation absoluteLag lag contour filters period scale pitch voicing seed indices settingOk nextLag sameIndices sayable encodeIndices pulseNumbersOk each lowCounts count counts total split shell lowBits blockLows sign blockSigns shifted excitation rows16 blockSays shiftOk firstFrom blocksBy writeRule writeNumbers encodePulses finished encDone
 frame-accepted = (
   record { shape = record { gains = refl; ltp = refl; nlsf = refl }; indices = refl; pulses = refl },
   record { accepted = refl; error = refl },

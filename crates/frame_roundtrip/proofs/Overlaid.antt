@@ -12,9 +12,10 @@ use lib.ListN.{length, set, length-set, take-append-drop}
 use Rattle.tree.specs.Asks.{Asks, then, symbols, meant}
 use Rattle.tree.specs.Telling.{allSaid, ends-meant}
 use Rattle.silk.specs.declared.Indices.{Indices}
-use Rattle.silk.specs.Record.{Setting, withKind, withGain, withGains, withNlsfs, withFilters, withInterp, withLag, withContour, withPeriod, withScale, withSeed}
+use Rattle.silk.specs.declared.Setting.{Setting}
+use Rattle.silk.specs.Record.{withKind, withGain, withGains, withNlsfs, withFilters, withInterp, withLag, withContour, withPeriod, withScale, withSeed}
 use Rattle.silk.specs.IndexRows.{Subframes, subframes-least, subframes-most}
-use Rattle.silk.specs.IndexSyntax.{said, saidAt, kind, firstGain, moreGains, gains, bookOf, selectorsOf, residuals, spectrum, interpolation, absoluteLag, lag, contour, filters, period, scale, pitch, relativeIn, voicing, seed, indices}
+use Rattle.silk.specs.IndexSyntax.{said, saidAt, kind, firstGain, moreGains, gains, bookOf, selectorsOf, residuals, spectrum, interpolation, absoluteLag, lag, contour, filters, period, scale, pitch, relativeLag, voicing, seed, indices}
 use Rattle.silk.specs.IndexCalls.{Chosen}
 use Rattle.silk.specs.IndexParts.{order-most}
 use Rattle.silk.specs.IndexRanges.{Shape, ReadOver, indices-end}
@@ -163,24 +164,34 @@ module _ (y : Indices) where
       let p = said (y .period) in
       asked (filters-alike p n 0 n (withPeriod x p) (withPeriod z p) (x .ltp) (omega arith) refl h i)
 
-  module _ (relative : Bool) (khz n mode : ℕ) (before : ℤ) (x z : Indices) (h : n ≤ length (x .ltp)) (i : n ≤ length (z .ltp)) where
-    pitch-alike : Alike y (Pitched n x z) (pitch relative khz n mode before x) (pitch relative khz n mode before z)
+  module _ (s : Setting) (x z : Indices) (h : s .subframes ≤ length (x .ltp)) (i : s .subframes ≤ length (z .ltp)) where
+    abbrev Alike-pitch : Asks Indices Indices → Asks Indices Indices → Type 0
+    Alike-pitch = Alike y (Pitched (s .subframes) x z)
+
+    -- the syntax from the contour and from the filters on
+    abbrev fromFilters : Indices → Asks Indices Indices
+    fromFilters a = then (period (s .subframes) a) (scale (s .mode))
+
+    abbrev fromContour : Indices → Asks Indices Indices
+    fromContour a = then (contour (s .khz) (s .subframes) a) fromFilters
+
+    pitch-alike : Alike-pitch (pitch s x) (pitch s z)
     unfolding pitch scale
-    pitch-alike = alike-then _ _ (lag-alike relative khz before x z) after-lag
+    pitch-alike = alike-then _ _ (lag-alike (relativeLag s) (s .khz) (s .prevlag) x z) after-lag
       where
-        after-period : (g : ℤ) (c p : ℕ) (a b : Indices) → Filtered n (withPeriod (withContour (withLag x g) c) p) (withPeriod (withContour (withLag z g) c) p) a b
-            → Alike y (Pitched n x z) (scale mode a) (scale mode b)
-        after-period g c p a b (fronts l e) = by-test (eqb mode 0) (λ t. asked (ended (pitched g c p l _))) (λ t. ended (pitched g c p l 0))
+        after-period : (g : ℤ) (c p : ℕ) (a b : Indices)
+            → Filtered (s .subframes) (withPeriod (withContour (withLag x g) c) p) (withPeriod (withContour (withLag z g) c) p) a b
+            → Alike-pitch (scale (s .mode) a) (scale (s .mode) b)
+        after-period g c p a b (fronts l e) = by-test (eqb (s .mode) 0) (λ t. asked (ended (pitched g c p l _))) (λ t. ended (pitched g c p l 0))
 
-        after-contour : (g : ℤ) (a b : Indices) → Both withContour (withLag x g) (withLag z g) a b
-            → Alike y (Pitched n x z) (then (period n a) (scale mode)) (then (period n b) (scale mode))
-        after-contour g a b (both c) = alike-then _ _ (period-alike n (withContour (withLag x g) c) (withContour (withLag z g) c) h i) (after-period g c _)
+        after-contour : (g : ℤ) (a b : Indices) → Both withContour (withLag x g) (withLag z g) a b → Alike-pitch (fromFilters a) (fromFilters b)
+        after-contour g a b (both c) =
+            alike-then _ _ (period-alike (s .subframes) (withContour (withLag x g) c) (withContour (withLag z g) c) h i) (after-period g c _)
 
-        after-lag : (a b : Indices) → Both withLag x z a b
-            → Alike y (Pitched n x z) (then (contour khz n a) (λ c. then (period n c) (scale mode))) (then (contour khz n b) (λ c. then (period n c) (scale mode)))
-        after-lag a b (both g) = alike-then _ _ (contour-alike khz n (withLag x g) (withLag z g)) (after-contour g)
+        after-lag : (a b : Indices) → Both withLag x z a b → Alike-pitch (fromContour a) (fromContour b)
+        after-lag a b (both g) = alike-then _ _ (contour-alike (s .khz) (s .subframes) (withLag x g) (withLag z g)) (after-contour g)
 
-    voicing-alike : (signal : ℕ) → Alike y (Voiced signal n x z) (voicing signal relative khz n mode before x) (voicing signal relative khz n mode before z)
+    voicing-alike : (signal : ℕ) → Alike y (Voiced signal (s .subframes) x z) (voicing signal s x) (voicing signal s z)
     unfolding voicing
     voicing-alike signal =
         by-test (eqb signal 2) (λ e. alike-in (λ a b p. voiced e p) pitch-alike) (λ e. ended (unvoiced e))
@@ -219,7 +230,7 @@ module _ (s : Setting) (y x z : Indices) (f : Subframes (s .subframes)) (h : Sha
 
   -- the syntax from voicing, interpolation and spectrum on
   abbrev fromVoicing : ℕ → Indices → Asks Indices Indices
-  fromVoicing k a = then (voicing (k / 2) (relativeIn (s .mode) (s .prevtype)) (s .khz) n (s .mode) (s .prevlag) a) seed
+  fromVoicing k a = then (voicing (k / 2) s a) seed
 
   abbrev fromInterpolation : ℕ → Indices → Asks Indices Indices
   fromInterpolation k a = then (interpolation n a) (fromVoicing k)
@@ -235,8 +246,7 @@ module _ (s : Setting) (y x z : Indices) (f : Subframes (s .subframes)) (h : Sha
   unfolding seed
   after-interpolation k g m a b (both v) =
       alike-then _ _
-      (voicing-alike y (relativeIn (s .mode) (s .prevtype)) (s .khz) n (s .mode) (s .prevlag) (withInterp (spectrumX k g m) v)
-      (withInterp (spectrumZ k g m) v) (omega (arith, few, h .ltp)) (omega (arith, few, i .ltp)) (k / 2))
+      (voicing-alike y s (withInterp (spectrumX k g m) v) (withInterp (spectrumZ k g m) v) (omega (arith, few, h .ltp)) (omega (arith, few, i .ltp)) (k / 2))
       (λ c d p. asked (ended (read-over k g m v c d p _)))
 
   after-spectrum : (k : ℕ) (g : List ℤ) (a b : Indices) → Nlsfed places (gainsX k g) (gainsZ k g) a b

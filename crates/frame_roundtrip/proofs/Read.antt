@@ -25,7 +25,7 @@ use Rattle.roundtrip.proofs.Accepted.{ask-pass}
 use Rattle.tree.specs.Asks.{Got, got, run, symbols, Gives}
 use Rattle.tree.specs.AsksLaws.{written-reads-back}
 use Rattle.silk.specs.declared.Indices.{Indices}
-use Rattle.silk.specs.Record.{Setting}
+use Rattle.silk.specs.declared.Setting.{Setting}
 use Rattle.silk.specs.IndexSyntax.{indices}
 use Rattle.silk.specs.IndexRanges.{Shape}
 use Rattle.silk.specs.FrameCalls.{settingOk, blocksOf, nextLag, indicesGot, decodeIndices, pulseRule, pulsed, decodePulses}

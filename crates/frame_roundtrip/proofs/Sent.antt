@@ -26,7 +26,7 @@ use Rattle.tree.specs.Asks.{symbols}
 use Rattle.tree.specs.Says.{says-all}
 use Rattle.tree.specs.Telling.{writtenAll}
 use Rattle.silk.specs.declared.Indices.{Indices}
-use Rattle.silk.specs.Record.{Setting}
+use Rattle.silk.specs.declared.Setting.{Setting}
 use Rattle.silk.specs.IndexSyntax.{indices}
 use Rattle.silk.specs.FrameCalls.{settingOk, pulseNumbersOk, blocksOf}
 use Rattle.silk.specs.IndexCalls.{four-none}

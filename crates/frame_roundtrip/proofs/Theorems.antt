@@ -33,7 +33,7 @@ use Rattle.roundtrip.proofs.Public.{known, buf-is, opened-is, opened-error}
 use Rattle.roundtrip.proofs.Theorems.{accepts, fits, follows-back}
 use Rattle.silk.specs.declared.Indices.{Indices}
 use Rattle.silk.specs.declared.IndicesRead.{IndicesRead}
-use Rattle.silk.specs.Record.{Setting}
+use Rattle.silk.specs.declared.Setting.{Setting}
 use Rattle.silk.specs.IndexRanges.{Shape}
 use Rattle.silk.specs.FrameCalls.{Pulsed, decodeIndices, decodePulses}
 use Rattle.silk.specs.IndexWriting.{IndicesSent, encodeIndices}

@@ -19,7 +19,7 @@ use Rattle.entcode.specs.Writing.{Sent, encOpen, encSym, encTell, encDone}
 use Rattle.roundtrip.specs.Statement.{after, Sends, SameAccount, Right, Reads}
 use Rattle.silk.specs.declared.Indices.{Indices}
 use Rattle.silk.specs.declared.IndicesRead.{IndicesRead}
-use Rattle.silk.specs.Record.{Setting}
+use Rattle.silk.specs.declared.Setting.{Setting}
 use Rattle.silk.specs.IndexSyntax.{bookOf}
 use Rattle.silk.specs.IndexRanges.{Shape}
 use Rattle.silk.specs.FrameCalls.{Pulsed, decodeIndices, decodePulses}

@@ -12,9 +12,10 @@ use Rattle.tree.specs.AsksLaws.{run-then}
 use Rattle.tree.specs.Outcomes.{Ends, ends, ends-then, ends-run}
 use Rattle.silk.specs.declared.Indices.{Indices}
 use Rattle.silk.specs.declared.IndicesRead.{IndicesRead}
-use Rattle.silk.specs.Record.{Setting, withKind, withInterp, withSeed, withGains, withNlsfs}
+use Rattle.silk.specs.declared.Setting.{Setting}
+use Rattle.silk.specs.Record.{withKind, withInterp, withSeed, withGains, withNlsfs}
 use Rattle.silk.specs.IndexRows.{Rate, Subframes}
-use Rattle.silk.specs.IndexSyntax.{bookOf, relativeIn, kind, gains, spectrum, interpolation, voicing, seed, indices}
+use Rattle.silk.specs.IndexSyntax.{bookOf, kind, gains, spectrum, interpolation, voicing, seed, indices}
 use Rattle.silk.specs.IndexParts.{row-asks, kind-ends, Gained, gained, GainsRead, gains-end, Nlsfed, nlsfed, NlsfRead, spectrum-end, Interped, interped, interpolation-end, Voiced, voiced, unvoiced, voicing-end}
 use Rattle.silk.specs.IndexRanges.{Shape}
 use Rattle.silk.specs.FrameCalls.{indicesRule, decodeIndices}
@@ -30,35 +31,31 @@ pub record Typed (k : ℕ) (y : Indices) : Type 0 where
 -- ---- what follows the types leaves them
 
 module _ (s : Setting) (x : Indices) (r : Rate (s .khz)) (f : Subframes (s .subframes)) (h : Shape x) (k : ℕ) (small : k < 6) where
-  abbrev voicingOf : Indices → Asks Indices Indices
-  voicingOf = voicing (k / 2) (relativeIn (s .mode) (s .prevtype)) (s .khz) (s .subframes) (s .mode) (s .prevlag)
-
   abbrev afterKind : Asks Indices Indices
   afterKind =
       then (gains (s .mode) (s .subframes) (k / 2) (withKind x k)) (λ g.
-      then (spectrum (s .khz) (k / 2) g) (λ q. then (interpolation (s .subframes) q) (λ i. then (voicingOf i) seed)))
+      then (spectrum (s .khz) (k / 2) g) (λ q. then (interpolation (s .subframes) q) (λ i. then (voicing (k / 2) s i) seed)))
 
   module _ (l m : List ℤ) where
     abbrev so-far : ℕ → Indices
     so-far i = withInterp (withNlsfs (withGains (withKind x k) l) m) i
 
-    typed : (i : ℕ) (y : Indices)
-        → Voiced (k / 2) (relativeIn (s .mode) (s .prevtype)) (s .khz) (s .subframes) (s .mode) (so-far i) y → (w : ℕ) → Typed k (withSeed y w)
+    typed : (i : ℕ) (y : Indices) → Voiced (k / 2) s (so-far i) y → (w : ℕ) → Typed k (withSeed y w)
     typed i y (voiced e z c q v o t) w = record { signal = refl; offset = refl }
     typed i y (unvoiced e) w = record { signal = refl; offset = refl }
 
-    after-interpolation : (z : Indices) → Interped (s .subframes) (withNlsfs (withGains (withKind x k) l) m) z → Ends (Typed k) 11 (then (voicingOf z) seed)
+    after-interpolation : (z : Indices) → Interped (s .subframes) (withNlsfs (withGains (withKind x k) l) m) z → Ends (Typed k) 11 (then (voicing (k / 2) s z) seed)
     unfolding seed
     after-interpolation z (interped i p) =
-        ends-then {n = 10} {m = 1} _ (voicing-end (k / 2) (relativeIn (s .mode) (s .prevtype)) (s .khz) (s .subframes) (s .mode) (s .prevlag) _ r f (h .ltp))
+        ends-then {n = 10} {m = 1} _ (voicing-end (k / 2) s _ r f (h .ltp))
         (λ y q. row-asks 42 (omega arith) (λ w b. ends (typed i y q w)))
 
   after-gains : (y : Indices) → Gained (GainsRead (s .mode) (s .subframes)) (withKind x k) y
-      → Ends (Typed k) 45 (then (spectrum (s .khz) (k / 2) y) (λ q. then (interpolation (s .subframes) q) (λ i. then (voicingOf i) seed)))
+      → Ends (Typed k) 45 (then (spectrum (s .khz) (k / 2) y) (λ q. then (interpolation (s .subframes) q) (λ i. then (voicing (k / 2) s i) seed)))
   after-gains y (gained l g) = ends-then {n = 33} {m = 12} _ (spectrum-end (s .khz) (k / 2) _ r (omega arith) (h .nlsf)) after
     where
       after : (z : Indices) → Nlsfed (NlsfRead (bookOf (s .khz) .order)) (withGains (withKind x k) l) z
-          → Ends (Typed k) 12 (then (interpolation (s .subframes) z) (λ i. then (voicingOf i) seed))
+          → Ends (Typed k) 12 (then (interpolation (s .subframes) z) (λ i. then (voicing (k / 2) s i) seed))
       after z (nlsfed m n) = ends-then {n = 1} {m = 11} _ (interpolation-end (s .subframes) _) (after-interpolation l m)
 
   types-stay : Ends (Typed k) 50 afterKind

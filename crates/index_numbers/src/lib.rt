@@ -3,28 +3,25 @@ ghost use mathlib.Core.Path.{_≡_};
 ghost use mathlib.Core.Bool.{cond};
 ghost use lib.IntN.{natAbs};
 ghost use Rattle.silk.specs.IndexParts.{Upto};
-ghost use Rattle.silk.specs.FrameCalls.{numbersOk, nextLag};
+ghost use Rattle.silk.specs.FrameCalls.{settingOk, nextLag};
 use silk::Indices;
+use silk::Setting;
 
 // ---- what a call takes
 
 // kHz 8, 12 or 16; 2 or 4 subframes; active 0 or 1; mode and previous type 0 to 2.
-fn numbers_ok(khz: u32, subframes: u32, active: u32, mode: u32, prevtype: u32) -> bool
-    ensures { λ b. ⌜ b ≡ numbersOk khz subframes active mode prevtype ⌝ }
+fn numbers_ok(s: Setting) -> bool
+    ensures { λ b. ⌜ b ≡ settingOk s ⌝ }
 {
-    ((khz == 8) | ((khz == 12) | (khz == 16)))
-        & (((subframes == 2) | (subframes == 4))
-            & ((active <= 1) & ((mode <= 2) & (prevtype <= 2))))
+    ((s.khz == 8) | ((s.khz == 12) | (s.khz == 16)))
+        & (((s.subframes == 2) | (s.subframes == 4))
+            & ((s.active <= 1) & ((s.mode <= 2) & (s.prevtype <= 2))))
 }
 
-pub fn numbers_rule(khz: u32, subframes: u32, active: u32, mode: u32, prevtype: u32) -> u32
-    ensures { λ n. ⌜ n ≡ cond (numbersOk khz subframes active mode prevtype) 0 4 ⌝ }
+pub fn numbers_rule(s: Setting) -> u32
+    ensures { λ n. ⌜ n ≡ cond (settingOk s) 0 4 ⌝ }
 {
-    if numbers_ok(khz, subframes, active, mode, prevtype) {
-        0
-    } else {
-        4
-    }
+    if numbers_ok(s) { 0 } else { 4 }
 }
 
 // ---- what the next frame is told

@@ -12,6 +12,7 @@ use index_layout::contour_start;
 use index_layout::lag_low_start;
 use silk::Indices;
 use silk::IndicesPart;
+use silk::Setting;
 
 // ---- lag
 
@@ -161,23 +162,14 @@ fn scale_index(packet: &[u8], d: Dec, rows: &[u8], x: Indices, mode: u32) -> Ind
 
 // ---- all of it
 
-pub fn pitch_run(
-    packet: &[u8],
-    d: Dec,
-    rows: &[u8],
-    x: Indices,
-    relative: bool,
-    khz: u32,
-    subframes: u32,
-    mode: u32,
-    before: i16,
-) -> IndicesPart
+pub fn pitch_run(packet: &[u8], d: Dec, rows: &[u8], x: Indices, s: Setting) -> IndicesPart
     requires { ⌜ Reading (now packet) d (now rows) (2 ^ 27) ⌝ }
-    requires { ⌜ Rate khz × Subframes subframes ⌝ }
-    ensures { λ a. ⌜ Ran (now (packet .entry)) d (pitch relative khz subframes mode before x) 160 (a .indices) (a .state) ⌝ }
+    requires { ⌜ Rate (s .khz) × Subframes (s .subframes) ⌝ }
+    ensures { λ a. ⌜ Ran (now (packet .entry)) d (pitch s x) 160 (a .indices) (a .state) ⌝ }
 {
-    let l = lag_index(packet, d, rows, x, relative, khz, before);
-    let c = contour_index(packet, l.state, rows, l.indices, khz, subframes);
-    let p = period_index(packet, c.state, rows, c.indices, subframes);
-    scale_index(packet, p.state, rows, p.indices, mode)
+    let relative = (s.mode == 2) & (s.prevtype == 2);
+    let l = lag_index(packet, d, rows, x, relative, s.khz, s.prevlag);
+    let c = contour_index(packet, l.state, rows, l.indices, s.khz, s.subframes);
+    let p = period_index(packet, c.state, rows, c.indices, s.subframes);
+    scale_index(packet, p.state, rows, p.indices, s.mode)
 }

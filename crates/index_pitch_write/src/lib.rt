@@ -15,6 +15,7 @@ use index_layout::contour_size;
 use index_layout::contour_start;
 use index_layout::lag_low_start;
 use silk::Indices;
+use silk::Setting;
 
 // ---- lag
 
@@ -112,22 +113,14 @@ fn scale_tell(buf: &mut [u8], w: Enc, rows: &[u8], x: Indices, mode: u32) -> Enc
 // ---- all of it
 
 // The lag of the frame before does not matter to an absolute lag.
-pub fn pitch_tell_run(
-    buf: &mut [u8],
-    w: Enc,
-    rows: &[u8],
-    x: Indices,
-    relative: bool,
-    khz: u32,
-    subframes: u32,
-    mode: u32,
-) -> Enc
+pub fn pitch_tell_run(buf: &mut [u8], w: Enc, rows: &[u8], x: Indices, s: Setting) -> Enc
     requires { ⌜ Writing (out (now buf) w) (now rows) (2 ^ 27) ⌝ }
-    requires { ⌜ Rate khz × Subframes subframes × WritesPitch khz subframes mode x ⌝ }
-    ensures { λ r. ⌜ ((before : ℤ) → Told (out (now (buf .entry)) w) x (pitch relative khz subframes mode before x) 160 (out (now (buf .exit)) r)) ⌝ }
+    requires { ⌜ Rate (s .khz) × Subframes (s .subframes) × WritesPitch s x ⌝ }
+    ensures { λ r. ⌜ Told (out (now (buf .entry)) w) x (pitch s x) 160 (out (now (buf .exit)) r) ⌝ }
 {
-    let l = lag_tell(buf, w, rows, x, relative, khz);
-    let c = contour_tell(buf, l, rows, x, khz, subframes);
-    let p = period_tell(buf, c, rows, x, subframes);
-    scale_tell(buf, p, rows, x, mode)
+    let relative = (s.mode == 2) & (s.prevtype == 2);
+    let l = lag_tell(buf, w, rows, x, relative, s.khz);
+    let c = contour_tell(buf, l, rows, x, s.khz, s.subframes);
+    let p = period_tell(buf, c, rows, x, s.subframes);
+    scale_tell(buf, p, rows, x, s.mode)
 }

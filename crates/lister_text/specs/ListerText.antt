@@ -12,14 +12,22 @@ use Rattle.entcode.specs.declared.Dec.{Dec}
 use Rattle.entcode.specs.Reading.{decOpen}
 use Rattle.silk.specs.declared.Indices.{Indices}
 use Rattle.silk.specs.declared.IndicesRead.{IndicesRead}
-use Rattle.silk.specs.Record.{Setting, settingOf}
+use Rattle.silk.specs.declared.Setting.{Setting}
 use Rattle.silk.specs.FrameCalls.{blocksOf, decodeIndices, decodePulses}
 use Rattle.frame_text.specs.FrameText.{indicesText, pulsesText}
 
 -- ---- the input
 
 abbrev pub settingAt : List ℕ → Setting
-settingAt s = settingOf (byteAt s 1) (byteAt s 2) (byteAt s 3) (byteAt s 4) (byteAt s 5) (valueAt s 6)
+settingAt s =
+    record {
+      khz = byteAt s 1;
+      subframes = byteAt s 2;
+      active = byteAt s 3;
+      mode = byteAt s 4;
+      prevtype = byteAt s 5;
+      prevlag = valueAt s 6;
+    }
 
 abbrev pub packetOf : List ℕ → List ℕ
 packetOf s = drop 10 s

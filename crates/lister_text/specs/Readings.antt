@@ -15,7 +15,7 @@ use Rattle.entcode.specs.ReaderLaws.{Bytes}
 use Rattle.entcode.specs.Reading.{decOpen}
 use Rattle.silk.specs.declared.Indices.{Indices}
 use Rattle.silk.specs.declared.IndicesRead.{IndicesRead}
-use Rattle.silk.specs.Record.{Setting}
+use Rattle.silk.specs.declared.Setting.{Setting}
 use Rattle.silk.specs.IndexRows.{Rate, Subframes}
 use Rattle.silk.specs.IndexParts.{Upto}
 use Rattle.silk.specs.IndexCalls.{indices-accepted}

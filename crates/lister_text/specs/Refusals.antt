@@ -22,7 +22,7 @@ use Rattle.listing.specs.Lines.{refusedText}
 use Rattle.sections.specs.Values.{byteAt, pairAt}
 use Rattle.silk.specs.declared.Indices.{Indices}
 use Rattle.silk.specs.declared.IndicesRead.{IndicesRead}
-use Rattle.silk.specs.Record.{Setting}
+use Rattle.silk.specs.declared.Setting.{Setting}
 use Rattle.silk.specs.IndexRows.{Rate, eight, twelve, sixteen, Subframes, two, four}
 use Rattle.silk.specs.IndexCalls.{indices-accepted}
 use Rattle.silk.specs.FrameCalls.{khzOk, subframesOk, settingOk, blocksOf, indicesRule, decodeIndices, pulseNumbersOk, pulseRule, pulsesRule, decodePulses}

@@ -6,7 +6,6 @@ ghost use lib.ListN.{length, replicate};
 ghost use Rattle.numerals.specs.Put.{Put};
 ghost use Rattle.listing.specs.Printed.{printed};
 ghost use Rattle.sections.specs.Values.{byteAt};
-ghost use Rattle.silk.specs.Record.{settingOf};
 ghost use Rattle.silk.specs.IndexRows.{Rate, Subframes};
 ghost use Rattle.silk.specs.IndexParts.{Upto};
 ghost use Rattle.silk.specs.FrameCalls.{blocksOf};
@@ -21,6 +20,7 @@ use sections::byte_at;
 use sections::value_at_run;
 use silk::Indices;
 use silk::IndicesRead;
+use silk::Setting;
 
 // ---- the frame
 
@@ -94,33 +94,14 @@ fn put_frame(out: &mut [u8], packet: &[u8], a: IndicesRead, khz: u32, subframes:
 }
 
 // The frame that starts the packet, or the refusal.
-fn put_read(
-    out: &mut [u8],
-    packet: &[u8],
-    khz: u32,
-    subframes: u32,
-    active: u32,
-    mode: u32,
-    prevtype: u32,
-    prevlag: i16,
-) -> usize
+fn put_read(out: &mut [u8], packet: &[u8], s: Setting) -> usize
     requires { ⌜ 2564 ≤ length (now out) ⌝ }
-    ensures { λ n. ⌜ Put 2564 (now (out .entry)) 0 (frameText (now (packet .entry)) (settingOf khz subframes active mode prevtype prevlag)) (now (out .exit)) n ⌝ }
+    ensures { λ n. ⌜ Put 2564 (now (out .entry)) 0 (frameText (now (packet .entry)) s) (now (out .exit)) n ⌝ }
 {
     let d = entdec::ec_dec_init(packet).state;
-    let a = decode_indices::silk_decode_indices(
-        packet,
-        d,
-        blank(),
-        khz,
-        subframes,
-        active,
-        mode,
-        prevtype,
-        prevlag,
-    );
+    let a = decode_indices::silk_decode_indices(packet, d, blank(), s);
     if a.refusal == 0 {
-        return put_frame(out, packet, a, khz, subframes);
+        return put_frame(out, packet, a, s.khz, s.subframes);
     }
     put_refused_run(out, 0, a.refusal)
 }
@@ -152,16 +133,15 @@ pub fn lister_text(input: &[u8], out: &mut [u8; 4096]) -> usize
         let mode = number_at(input, 4);
         let prevtype = number_at(input, 5);
         let prevlag = value_at_run(input, 6);
-        return put_read(
-            out,
-            &input[10..],
+        let setting = Setting {
             khz,
             subframes,
             active,
             mode,
             prevtype,
             prevlag,
-        );
+        };
+        return put_read(out, &input[10..], setting);
     }
     put_refused_run(out, 0, 9)
 }

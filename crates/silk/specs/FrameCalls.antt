@@ -14,7 +14,7 @@ use Rattle.entcode.specs.Reading.{gives, refuses}
 use Rattle.tree.specs.Asks.{Got, run}
 use Rattle.silk.specs.declared.Indices.{Indices}
 use Rattle.silk.specs.declared.IndicesRead.{IndicesRead}
-use Rattle.silk.specs.Record.{Setting}
+use Rattle.silk.specs.declared.Setting.{Setting}
 use Rattle.silk.specs.IndexSyntax.{indices}
 use Rattle.silk.specs.PulseSyntax.{Excitation, excitation}
 
@@ -26,12 +26,9 @@ khzOk khz = eqb khz 8 || (eqb khz 12 || eqb khz 16)
 abbrev pub subframesOk : ℕ → Bool
 subframesOk subframes = eqb subframes 2 || eqb subframes 4
 
-unfoldable pub numbersOk : ℕ → ℕ → ℕ → ℕ → ℕ → Bool
-numbersOk khz subframes active mode prevtype =
-    khzOk khz && (subframesOk subframes && (leb active 1 && (leb mode 2 && leb prevtype 2)))
-
-abbrev pub settingOk : Setting → Bool
-settingOk s = numbersOk (s .khz) (s .subframes) (s .active) (s .mode) (s .prevtype)
+unfoldable pub settingOk : Setting → Bool
+settingOk s =
+    khzOk (s .khz) && (subframesOk (s .subframes) && (leb (s .active) 1 && (leb (s .mode) 2 && leb (s .prevtype) 2)))
 
 -- blocks of 16 in a frame of 5 x kHz x subframes places: 5, 8, 10, 15, 20
 abbrev pub blocksOf : ℕ → ℕ → ℕ

@@ -18,11 +18,11 @@ use Rattle.tree.specs.Asks.{run}
 use Rattle.tree.specs.Outcomes.{Ended, ends-run}
 use Rattle.silk.specs.declared.Indices.{Indices}
 use Rattle.silk.specs.declared.IndicesRead.{IndicesRead}
-use Rattle.silk.specs.Record.{Setting}
+use Rattle.silk.specs.declared.Setting.{Setting}
 use Rattle.silk.specs.IndexRows.{Rate, eight, twelve, sixteen, Subframes, two, four}
 use Rattle.silk.specs.IndexSyntax.{indices}
 use Rattle.silk.specs.IndexRanges.{Shape, ReadOver, indices-end}
-use Rattle.silk.specs.FrameCalls.{khzOk, subframesOk, numbersOk, settingOk, indicesGot, indicesKept, indicesRule, decodeIndices}
+use Rattle.silk.specs.FrameCalls.{khzOk, subframesOk, settingOk, indicesGot, indicesKept, indicesRule, decodeIndices}
 
 -- ---- the numbers of a frame that is accepted
 
@@ -49,7 +49,7 @@ subframes-of n = go (eqb n 2) (eqb n 4) refl refl
     go false b p q e = subst Subframes (sym (eqb-true n 4 (q ∙ e))) four
 
 pub setting-chosen : (s : Setting) → settingOk s ≡ true → Chosen s
-unfolding numbersOk
+unfolding settingOk
 setting-chosen s e =
     let p = and-both (khzOk (s .khz)) _ e in
     let q = and-both (subframesOk (s .subframes)) _ (p .1) in
@@ -74,7 +74,7 @@ subframes-ok two = refl
 subframes-ok four = refl
 
 pub chosen-setting : (s : Setting) → Chosen s → settingOk s ≡ true
-unfolding numbersOk
+unfolding settingOk
 chosen-setting s c =
     both-and (khzOk (s .khz)) _ (khz-ok (c .rate))
     (both-and (subframesOk (s .subframes)) _ (subframes-ok (c .subframes))

@@ -27,9 +27,10 @@ use Rattle.entcode.specs.Models.{tab}
 use Rattle.tree.specs.Asks.{Asks, ask, then}
 use Rattle.tree.specs.Outcomes.{Ends, ends, asks, ends-more, ends-in, ends-then, ends-of}
 use Rattle.silk.specs.declared.Indices.{Indices}
+use Rattle.silk.specs.declared.Setting.{Setting}
 use Rattle.silk.specs.Record.{withGain, withNlsf, withInterp, withLag, withContour, withPeriod, withFilter, withScale, withGains, withNlsfs, withFilters}
 use Rattle.silk.specs.IndexRows.{Rate, eight, twelve, sixteen, Subframes, subframes-least, subframes-most, rate-most, lagLowStart, contourStart, contourSize, IndexRows, index-rows, lag-low-row, contour-row}
-use Rattle.silk.specs.IndexSyntax.{kind, firstGain, moreGains, gains, residualPick, residual, residuals, spectrum, bookOf, selectorsOf, interpolation, absoluteLag, lagAfter, lag, contour, filters, period, scale, pitch, voicing}
+use Rattle.silk.specs.IndexSyntax.{kind, firstGain, moreGains, gains, residualPick, residual, residuals, spectrum, bookOf, selectorsOf, interpolation, absoluteLag, lagAfter, lag, contour, filters, period, scale, relativeLag, pitch, voicing}
 
 -- ---- numbers and lists
 
@@ -347,41 +348,46 @@ scale-end mode x =
     (λ e. row-asks 40 (omega arith) (λ v i. ends (scaled v (record { most = omega (arith, row-size 40); fixed = λ q. absurd (q (eqb-true mode 0 e)) }))))
     (λ e. ends (scaled 0 (record { most = omega arith; fixed = λ q. refl })))
 
+-- the lag of a setting
+abbrev LagIn : Setting → ℤ → Type 0
+LagIn s = LagRead (relativeLag s) (s .khz)
+
 -- what a voiced frame reads
-pub record PitchRead (relative : Bool) (khz subframes mode : ℕ) (z : ℤ) (c p v : ℕ) (l m : List ℤ) : Type 0 where
-  pub lag : LagRead relative khz z
-  pub contour : c < contourSize khz subframes
+pub record PitchRead (s : Setting) (z : ℤ) (c p v : ℕ) (l m : List ℤ) : Type 0 where
+  pub lag : LagIn s z
+  pub contour : c < contourSize (s .khz) (s .subframes)
   pub period : p ≤ 2
-  pub filters : Filled (Upto (8 * 2 ^ p - 1)) 0 subframes l m
-  pub scale : ScaleRead mode v
+  pub filters : Filled (Upto (8 * 2 ^ p - 1)) 0 (s .subframes) l m
+  pub scale : ScaleRead (s .mode) v
 
-pub data Voiced (signal : ℕ) (relative : Bool) (khz subframes mode : ℕ) (x : Indices) : Indices → Type 0 where
-  voiced : signal ≡ 2 → (z : ℤ) (c p v : ℕ) (m : List ℤ) → PitchRead relative khz subframes mode z c p v (x .ltp) m
-      → Voiced signal relative khz subframes mode x (withScale (withFilters (withPeriod (withContour (withLag x z) c) p) m) v)
-  unvoiced : (signal ≡ 2 → ⊥) → Voiced signal relative khz subframes mode x x
+pub data Voiced (signal : ℕ) (s : Setting) (x : Indices) : Indices → Type 0 where
+  voiced : signal ≡ 2 → (z : ℤ) (c p v : ℕ) (m : List ℤ) → PitchRead s z c p v (x .ltp) m
+      → Voiced signal s x (withScale (withFilters (withPeriod (withContour (withLag x z) c) p) m) v)
+  unvoiced : (signal ≡ 2 → ⊥) → Voiced signal s x x
 
-pub voicing-end : (signal : ℕ) (relative : Bool) (khz n mode : ℕ) (before : ℤ) (x : Indices) → Rate khz → Subframes n → length (x .ltp) ≡ 4
-    → Ends (Voiced signal relative khz n mode x) 10 (voicing signal relative khz n mode before x)
+pub voicing-end : (signal : ℕ) (s : Setting) (x : Indices) → Rate (s .khz) → Subframes (s .subframes) → length (x .ltp) ≡ 4
+    → Ends (Voiced signal s x) 10 (voicing signal s x)
 unfolding voicing pitch
-voicing-end signal relative khz n mode before x r f h =
-    chosen (λ (t : Asks Indices Indices). Ends (Voiced signal relative khz n mode x) 10 t) (eqb signal 2)
-    (λ e. ends-then {n = 3} {m = 7} _ (lag-end relative khz before x r) (λ y q. after-lag (eqb-true signal 2 e) y q))
+voicing-end signal s x r f h =
+    chosen (λ (t : Asks Indices Indices). Ends (Voiced signal s x) 10 t) (eqb signal 2)
+    (λ e. ends-then {n = 3} {m = 7} _ (lag-end (relativeLag s) (s .khz) (s .prevlag) x r) (λ y q. after-lag (eqb-true signal 2 e) y q))
     (λ e. ends (unvoiced (eqb-false signal 2 e)))
   where
-    after-scale : signal ≡ 2 → (z : ℤ) → LagRead relative khz z → (c : ℕ) → c < contourSize khz n → (p : ℕ) (m : List ℤ) → p ≤ 2
-        → Filled (Upto (8 * 2 ^ p - 1)) 0 n (x .ltp) m → (y : Indices)
-        → Scaled mode (withFilters (withPeriod (withContour (withLag x z) c) p) m) y → Voiced signal relative khz n mode x y
-    after-scale e z lz c lc p m lp fm y (scaled v s) =
-        voiced e z c p v m (record { lag = lz; contour = lc; period = lp; filters = fm; scale = s })
+    after-scale : signal ≡ 2 → (z : ℤ) → LagIn s z → (c : ℕ) → c < contourSize (s .khz) (s .subframes) → (p : ℕ) (m : List ℤ) → p ≤ 2
+        → Filled (Upto (8 * 2 ^ p - 1)) 0 (s .subframes) (x .ltp) m → (y : Indices)
+        → Scaled (s .mode) (withFilters (withPeriod (withContour (withLag x z) c) p) m) y → Voiced signal s x y
+    after-scale e z lz c lc p m lp fm y (scaled v w) =
+        voiced e z c p v m (record { lag = lz; contour = lc; period = lp; filters = fm; scale = w })
 
-    after-period : signal ≡ 2 → (z : ℤ) → LagRead relative khz z → (c : ℕ) → c < contourSize khz n → (y : Indices)
-        → Perioded n (withContour (withLag x z) c) y → Ends (Voiced signal relative khz n mode x) 1 (scale mode y)
-    after-period e z lz c lc y (perioded p m lp fm) = ends-in (λ w q. after-scale e z lz c lc p m lp fm w q) (scale-end mode _)
+    after-period : signal ≡ 2 → (z : ℤ) → LagIn s z → (c : ℕ) → c < contourSize (s .khz) (s .subframes) → (y : Indices)
+        → Perioded (s .subframes) (withContour (withLag x z) c) y → Ends (Voiced signal s x) 1 (scale (s .mode) y)
+    after-period e z lz c lc y (perioded p m lp fm) = ends-in (λ w q. after-scale e z lz c lc p m lp fm w q) (scale-end (s .mode) _)
 
-    after-contour : signal ≡ 2 → (z : ℤ) → LagRead relative khz z → (y : Indices) → Contoured khz n (withLag x z) y
-        → Ends (Voiced signal relative khz n mode x) 6 (then (period n y) (scale mode))
+    after-contour : signal ≡ 2 → (z : ℤ) → LagIn s z → (y : Indices) → Contoured (s .khz) (s .subframes) (withLag x z) y
+        → Ends (Voiced signal s x) 6 (then (period (s .subframes) y) (scale (s .mode)))
     after-contour e z lz y (contoured c lc) =
-        ends-then {n = 5} {m = 1} _ (period-end n (withContour (withLag x z) c) (subframes-most f) h) (λ w q. after-period e z lz c lc w q)
+        ends-then {n = 5} {m = 1} _ (period-end (s .subframes) (withContour (withLag x z) c) (subframes-most f) h) (λ w q. after-period e z lz c lc w q)
 
-    after-lag : signal ≡ 2 → (y : Indices) → Lagged relative khz x y → Ends (Voiced signal relative khz n mode x) 7 (then (contour khz n y) (λ c. then (period n c) (scale mode)))
-    after-lag e y (lagged z lz) = ends-then {n = 1} {m = 6} _ (contour-end khz n (withLag x z) r f) (λ w q. after-contour e z lz w q)
+    after-lag : signal ≡ 2 → (y : Indices) → Lagged (relativeLag s) (s .khz) x y
+        → Ends (Voiced signal s x) 7 (then (contour (s .khz) (s .subframes) y) (λ c. then (period (s .subframes) c) (scale (s .mode))))
+    after-lag e y (lagged z lz) = ends-then {n = 1} {m = 6} _ (contour-end (s .khz) (s .subframes) (withLag x z) r f) (λ w q. after-contour e z lz w q)

@@ -7,13 +7,14 @@ use mathlib.Core.List.{List}
 use native.Mathlib.Omega.{arith}
 use lib.IntN.{ℤ, pos, natAbs}
 use lib.ListN.{length, getD}
-use Rattle.tree.specs.Asks.{Asks, then}
+use Rattle.tree.specs.Asks.{then}
 use Rattle.tree.specs.Outcomes.{Ends, ends, ends-then}
 use Rattle.sheet.specs.Places.{sizes, row-size}
 use Rattle.silk.specs.declared.Indices.{Indices}
-use Rattle.silk.specs.Record.{Setting, withKind, withInterp, withSeed, withGains, withNlsfs}
+use Rattle.silk.specs.declared.Setting.{Setting}
+use Rattle.silk.specs.Record.{withKind, withInterp, withSeed, withGains, withNlsfs}
 use Rattle.silk.specs.IndexRows.{Rate, Subframes, contourSize}
-use Rattle.silk.specs.IndexSyntax.{bookOf, relativeIn, interpolation, spectrum, voicing, seed, indices}
+use Rattle.silk.specs.IndexSyntax.{bookOf, relativeLag, interpolation, spectrum, voicing, seed, indices}
 use Rattle.silk.specs.IndexParts.{Upto, upto, Kind, firstMost, row-asks, kind-ends, Gained, gained, GainsRead, gains-end, Nlsfed, nlsfed, NlsfRead, spectrum-end, Interped, interped, InterpRead, interpolation-end, Voiced, voiced, unvoiced, voicing-end}
 
 -- the arrays' lengths, which a record of the code always has
@@ -26,7 +27,7 @@ pub record Shape (x : Indices) : Type 0 where
 
 -- what a voiced frame reads (section 4.2.7.6); a lag against the frame before is any number of 16 bits
 pub record PitchRange (s : Setting) (y : Indices) : Type 0 where
-  pub absolute : relativeIn (s .mode) (s .prevtype) ≡ false → Upto (16 * s .khz - 1) (y .lag)
+  pub absolute : relativeLag s ≡ false → Upto (16 * s .khz - 1) (y .lag)
   pub contour : Upto (contourSize (s .khz) (s .subframes) - 1) (y .contour)
   pub period : Upto 2 (y .period)
   pub filters : (k : ℕ) → k < s .subframes → Upto (8 * 2 ^ natAbs (y .period) - 1) (getD (y .ltp) k (pos 0))
@@ -70,18 +71,12 @@ pub record ReadOver (s : Setting) (x y : Indices) : Type 0 where
 -- ---- every way through the tree: at most 51 symbols
 
 module _ (s : Setting) (x : Indices) (r : Rate (s .khz)) (f : Subframes (s .subframes)) (h : Shape x) where
-  abbrev pitched : ℕ → Indices → Indices → Type 0
-  pitched signal = Voiced signal (relativeIn (s .mode) (s .prevtype)) (s .khz) (s .subframes) (s .mode)
-
-  abbrev voicingOf : ℕ → Indices → Asks Indices Indices
-  voicingOf k = voicing (k / 2) (relativeIn (s .mode) (s .prevtype)) (s .khz) (s .subframes) (s .mode) (s .prevlag)
-
   module _ (k : ℕ) (a : Kind (s .active) k) (l : List ℤ) (g : GainsRead (s .mode) (s .subframes) (x .gains) l) (active : s .active < 2) where
     module _ (m : List ℤ) (n : NlsfRead (bookOf (s .khz) .order) (x .nlsf) m) (i : ℕ) (p : InterpRead (s .subframes) i) where
       abbrev so-far : Indices
       so-far = withInterp (withNlsfs (withGains (withKind x k) l) m) i
 
-      read-all : (y : Indices) → pitched (k / 2) so-far y → (w : ℕ) → w ≤ 3 → ReadOver s x (withSeed y w)
+      read-all : (y : Indices) → Voiced (k / 2) s so-far y → (w : ℕ) → w ≤ 3 → ReadOver s x (withSeed y w)
       read-all y (voiced e z c q v o t) w u =
           record {
             range = record {
@@ -137,18 +132,18 @@ module _ (s : Setting) (x : Indices) (r : Rate (s .khz)) (f : Subframes (s .subf
             shape = record { gains = g .size ∙ h .gains; ltp = h .ltp; nlsf = n .size ∙ h .nlsf };
           }
 
-      after-voicing : (y : Indices) → pitched (k / 2) so-far y → Ends (ReadOver s x) 1 (seed y)
+      after-voicing : (y : Indices) → Voiced (k / 2) s so-far y → Ends (ReadOver s x) 1 (seed y)
       unfolding seed sizes
       after-voicing y q = row-asks 42 (omega arith) (λ w b. ends (read-all y q w (omega (arith, row-size 42))))
 
     after-spectrum : (y : Indices) → Nlsfed (NlsfRead (bookOf (s .khz) .order)) (withGains (withKind x k) l) y
-        → Ends (ReadOver s x) 12 (then (interpolation (s .subframes) y) (λ i. then (voicingOf k i) seed))
+        → Ends (ReadOver s x) 12 (then (interpolation (s .subframes) y) (λ i. then (voicing (k / 2) s i) seed))
     after-spectrum y (nlsfed m n) = ends-then {n = 1} {m = 11} _ (interpolation-end (s .subframes) _) after
       where
         after : (z : Indices) → Interped (s .subframes) (withNlsfs (withGains (withKind x k) l) m) z
-            → Ends (ReadOver s x) 11 (then (voicingOf k z) seed)
+            → Ends (ReadOver s x) 11 (then (voicing (k / 2) s z) seed)
         after z (interped i p) =
-            ends-then {n = 10} {m = 1} _ (voicing-end (k / 2) (relativeIn (s .mode) (s .prevtype)) (s .khz) (s .subframes) (s .mode) (s .prevlag) _ r f (h .ltp))
+            ends-then {n = 10} {m = 1} _ (voicing-end (k / 2) s _ r f (h .ltp))
             (after-voicing m n i p)
 
   pub indices-end : s .active < 2 → Ends (ReadOver s x) 51 (indices s x)
@@ -158,6 +153,6 @@ module _ (s : Setting) (x : Indices) (r : Rate (s .khz)) (f : Subframes (s .subf
       ends-then {n = 5} {m = 45} _ (gains-end (s .mode) (s .subframes) (k / 2) (withKind x k) f (omega (arith, a .most)) (h .gains)) (after-gains k a))
     where
       after-gains : (k : ℕ) → Kind (s .active) k → (y : Indices) → Gained (GainsRead (s .mode) (s .subframes)) (withKind x k) y
-          → Ends (ReadOver s x) 45 (then (spectrum (s .khz) (k / 2) y) (λ q. then (interpolation (s .subframes) q) (λ i. then (voicingOf k i) seed)))
+          → Ends (ReadOver s x) 45 (then (spectrum (s .khz) (k / 2) y) (λ q. then (interpolation (s .subframes) q) (λ i. then (voicing (k / 2) s i) seed)))
       after-gains k a y (gained l g) =
           ends-then {n = 33} {m = 12} _ (spectrum-end (s .khz) (k / 2) _ r (omega (arith, a .most)) (h .nlsf)) (after-spectrum k a l g active)

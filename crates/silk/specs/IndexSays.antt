@@ -22,13 +22,13 @@ use Rattle.sheet.specs.Families.{type-stands, gain-stands, first-index-stands, 
 use Rattle.tree.specs.Asks.{Asks, done}
 use Rattle.tree.specs.Says.{Says, means, says-then, says-of}
 use Rattle.silk.specs.declared.Indices.{Indices}
-use Rattle.silk.specs.Record.{Setting, withKind, withGain, withGains, withNlsf, withNlsfs, withFilter, withFilters, withInterp, withLag, withContour, withPeriod, withSeed, withScale}
+use Rattle.silk.specs.declared.Setting.{Setting}
+use Rattle.silk.specs.Record.{withKind, withGain, withGains, withNlsf, withNlsfs, withFilter, withFilters, withInterp, withLag, withContour, withPeriod, withSeed, withScale, putTypes, putInterp, putContour, putPeriod, putScale, putSeed}
 use Rattle.silk.specs.RowSays.{says-row}
 use Rattle.silk.specs.IndexRows.{Rate, eight, twelve, sixteen, rate-most, Subframes, subframes-least, subframes-most, only-two, contourSize}
-use Rattle.silk.specs.IndexSyntax.{kindOf, kind, firstGain, moreGains, gains, bookOf, selectorsOf, residualPick, residual, residuals, spectrum, interpolation, absoluteLag, lag, contour, filters, period, scale, pitch, seed}
+use Rattle.silk.specs.IndexSyntax.{kindOf, kind, firstGain, moreGains, gains, bookOf, selectorsOf, residualPick, residual, residuals, spectrum, interpolation, absoluteLag, lag, contour, filters, period, scale, relativeLag, pitch, seed}
 use Rattle.silk.specs.IndexParts.{Upto, Kind, firstMost, order-most, lag-low-size, low-index, contour-size, contour-index}
 use Rattle.silk.specs.IndexRanges.{Shape, PitchRange, InRange}
-use Rattle.silk.specs.IndexWriting.{made}
 
 -- ---- the fields of a part that may be written
 
@@ -41,13 +41,13 @@ pub record WritesSpectrum (khz : ℕ) (x : Indices) : Type 0 where
   pub residuals : (k : ℕ) → 1 ≤ k → k ≤ bookOf khz .order → natAbs (getD (x .nlsf) k (pos 0)) ≤ 10
 
 -- a lag is written absolutely
-pub record WritesPitch (khz subframes mode : ℕ) (x : Indices) : Type 0 where
-  pub lag : Upto (16 * khz - 1) (x .lag)
-  pub contour : Upto (contourSize khz subframes - 1) (x .contour)
+pub record WritesPitch (s : Setting) (x : Indices) : Type 0 where
+  pub lag : Upto (16 * s .khz - 1) (x .lag)
+  pub contour : Upto (contourSize (s .khz) (s .subframes) - 1) (x .contour)
   pub period : Upto 2 (x .period)
-  pub filters : (k : ℕ) → k < subframes → Upto (8 * 2 ^ natAbs (x .period) - 1) (getD (x .ltp) k (pos 0))
+  pub filters : (k : ℕ) → k < s .subframes → Upto (8 * 2 ^ natAbs (x .period) - 1) (getD (x .ltp) k (pos 0))
   pub scale : Upto 2 (x .scale)
-  pub unscaled : (mode ≡ 0 → ⊥) → x .scale ≡ pos 0
+  pub unscaled : (s .mode ≡ 0 → ⊥) → x .scale ≡ pos 0
 
 module _ {s : Setting} {x : Indices} where
   pub writes-gains : InRange s x → WritesGains (s .mode) (s .subframes) x
@@ -56,7 +56,7 @@ module _ {s : Setting} {x : Indices} where
   pub writes-spectrum : InRange s x → WritesSpectrum (s .khz) x
   writes-spectrum r = record { index = r .index; residuals = r .residuals }
 
-  pub writes-pitch : PitchRange s x → Upto (16 * s .khz - 1) (x .lag) → WritesPitch (s .khz) (s .subframes) (s .mode) x
+  pub writes-pitch : PitchRange s x → Upto (16 * s .khz - 1) (x .lag) → WritesPitch s x
   writes-pitch t l =
       record { lag = l; contour = t .contour; period = t .period; filters = t .filters; scale = t .scale; unscaled = t .unscaled }
 
@@ -72,15 +72,11 @@ entry-same l k n v h u e = ap (λ (z : ℤ). set l k z) (ap pos e ∙ sym (u .le
 
 -- ---- a field set to what it is
 
--- the record with its type, or one number, replaced
-abbrev typed : Indices → ℤ → ℤ → Indices
-typed x s o = made (x .gains) (x .ltp) (x .nlsf) (x .lag) (x .contour) s o (x .interp) (x .period) (x .scale) (x .seed)
-
 pub kind-same : (x : Indices) → Upto 1 (x .offset) → Upto 2 (x .signal) → withKind x (kindOf x) ≡ x
 kind-same x o s =
     let a : kindOf x / 2 ≡ natAbs (x .signal) = omega (arith, o .most) in
     let b : kindOf x % 2 ≡ natAbs (x .offset) = omega (arith, o .most) in
-    ap₂ (typed x) (ap pos a ∙ sym (s .least)) (ap pos b ∙ sym (o .least))
+    ap₂ (putTypes x) (ap pos a ∙ sym (s .least)) (ap pos b ∙ sym (o .least))
 
 pub gain-same : (x : Indices) (k n v : ℕ) → k < length (x .gains) → Upto n (getD (x .gains) k (pos 0)) → v ≡ natAbs (getD (x .gains) k (pos 0))
     → withGain x k v ≡ x
@@ -99,24 +95,19 @@ pub residual-same : (x : Indices) (k : ℕ) → k < length (x .nlsf) → withNls
 residual-same x k h = ap (withNlsfs x) (set-same (x .nlsf) k h)
 
 interp-same : (x : Indices) (v : ℕ) → x .interp ≡ pos v → withInterp x v ≡ x
-interp-same x v e =
-    ap (λ (z : ℤ). made (x .gains) (x .ltp) (x .nlsf) (x .lag) (x .contour) (x .signal) (x .offset) z (x .period) (x .scale) (x .seed)) (sym e)
+interp-same x v e = ap (putInterp x) (sym e)
 
 scale-same : (x : Indices) (v : ℕ) → x .scale ≡ pos v → withScale x v ≡ x
-scale-same x v e =
-    ap (λ (z : ℤ). made (x .gains) (x .ltp) (x .nlsf) (x .lag) (x .contour) (x .signal) (x .offset) (x .interp) (x .period) z (x .seed)) (sym e)
+scale-same x v e = ap (putScale x) (sym e)
 
 seed-same : (x : Indices) (v : ℕ) → x .seed ≡ pos v → withSeed x v ≡ x
-seed-same x v e =
-    ap (λ (z : ℤ). made (x .gains) (x .ltp) (x .nlsf) (x .lag) (x .contour) (x .signal) (x .offset) (x .interp) (x .period) (x .scale) z) (sym e)
+seed-same x v e = ap (putSeed x) (sym e)
 
 contour-same : (x : Indices) (v : ℕ) → x .contour ≡ pos v → withContour x v ≡ x
-contour-same x v e =
-    ap (λ (z : ℤ). made (x .gains) (x .ltp) (x .nlsf) (x .lag) z (x .signal) (x .offset) (x .interp) (x .period) (x .scale) (x .seed)) (sym e)
+contour-same x v e = ap (putContour x) (sym e)
 
 pub period-same : (x : Indices) (v : ℕ) → x .period ≡ pos v → withPeriod x v ≡ x
-period-same x v e =
-    ap (λ (z : ℤ). made (x .gains) (x .ltp) (x .nlsf) (x .lag) (x .contour) (x .signal) (x .offset) (x .interp) z (x .scale) (x .seed)) (sym e)
+period-same x v e = ap (putPeriod x) (sym e)
 
 -- a record equal to x says what x says
 same-means : {x y : Indices} → y ≡ x → Says x x (done y)
@@ -273,31 +264,33 @@ filters-says p (suc n) k x q h u =
     (subst (λ (z : Indices). Says x x (filters p n (suc k) z)) (sym (filter-same x k (8 * 2 ^ p - 1) g (omega arith) v refl))
     (filters-says p n (suc k) x q (omega arith) (λ j a b. u j (omega arith) (omega arith))))
 
-module _ (khz subframes mode : ℕ) (x : Indices) (r : Rate khz) (f : Subframes subframes) (h : Shape x) (t : WritesPitch khz subframes mode x) where
-  pub contour-says : Says x x (contour khz subframes x)
+module _ (s : Setting) (x : Indices) (r : Rate (s .khz)) (f : Subframes (s .subframes)) (h : Shape x) (t : WritesPitch s x) where
+  pub contour-says : Says x x (contour (s .khz) (s .subframes) x)
   unfolding contour
   contour-says =
+      let n = 31 + (s .khz / 12 * 2 + s .subframes / 2) in
       let k = contour-index r f in
-      says-row (31 + (khz / 12 * 2 + subframes / 2)) (omega (arith, k))
-      (omega (arith, t .contour .most, contour-size khz subframes r f, row-good (31 + (khz / 12 * 2 + subframes / 2)) (omega (arith, k)) .some))
+      says-row n (omega (arith, k))
+      (omega (arith, t .contour .most, contour-size (s .khz) (s .subframes) r f, row-good n (omega (arith, k)) .some))
       (same-means (contour-same x _ (t .contour .least)))
 
-  pub period-says : Says x x (period subframes x)
+  pub period-says : Says x x (period (s .subframes) x)
   unfolding period sizes
   period-says =
       let p = natAbs (x .period) in
       says-row 36 (omega arith) (omega (arith, t .period .most, row-size 36))
-      (subst (λ (z : Indices). Says x x (filters p subframes 0 z)) (sym (period-same x p (t .period .least)))
-      (filters-says p subframes 0 x (omega (arith, t .period .most)) (omega (arith, h .ltp, subframes-most f)) (λ j a b. t .filters j (omega arith))))
+      (subst (λ (z : Indices). Says x x (filters p (s .subframes) 0 z)) (sym (period-same x p (t .period .least)))
+      (filters-says p (s .subframes) 0 x (omega (arith, t .period .most)) (omega (arith, h .ltp, subframes-most f)) (λ j a b. t .filters j (omega arith))))
 
-  scale-says : Says x x (scale mode x)
+  scale-says : Says x x (scale (s .mode) x)
   unfolding scale sizes
   scale-says =
-      chosen (λ (q : Asks Indices Indices). Says x x q) (eqb mode 0)
+      chosen (λ (q : Asks Indices Indices). Says x x q) (eqb (s .mode) 0)
       (λ e. says-row 40 (omega arith) (omega (arith, t .scale .most, row-size 40)) (same-means (scale-same x _ (t .scale .least))))
       (λ e. same-means (scale-same x 0 (t .unscaled (eqb-false _ _ e))))
 
-  pub pitch-says : (relative : Bool) (before : ℤ) → Says x x (pitch relative khz subframes mode before x)
+  pub pitch-says : Says x x (pitch s x)
   unfolding pitch
-  pitch-says relative before =
-      says-then _ (lag-says relative khz before x r (t .lag)) (says-then _ contour-says (says-then _ period-says scale-says))
+  pitch-says =
+      says-then _ (lag-says (relativeLag s) (s .khz) (s .prevlag) x r (t .lag))
+      (says-then _ contour-says (says-then _ period-says scale-says))

@@ -17,8 +17,9 @@ use Rattle.sheet.specs.Books.{Book, narrowBook, wideBook}
 use Rattle.entcode.specs.Models.{Model, tab}
 use Rattle.tree.specs.Asks.{Asks, done, ask, then, of}
 use Rattle.silk.specs.declared.Indices.{Indices}
-use Rattle.silk.specs.Record.{Setting, withKind, withGain, withNlsf, withInterp, withLag, withContour, withPeriod}
-use Rattle.silk.specs.Record.{withFilter, withScale, withSeed}
+use Rattle.silk.specs.declared.Setting.{Setting}
+use Rattle.silk.specs.Record.{withKind, withGain, withNlsf, putInterp, withLag, withContour, withPeriod}
+use Rattle.silk.specs.Record.{withFilter, putScale, withSeed}
 
 -- a symbol of a row; all rows of a frame have scale 8
 abbrev row : List ℕ → Model
@@ -30,6 +31,10 @@ said z = natAbs z
 
 abbrev pub saidAt : List ℤ → ℕ → ℕ
 saidAt l k = said (getD l k (pos 0))
+
+-- a symbol of row r put into a field if n is k, else a fixed value
+abbrev pub codedOr : ℕ → ℕ → List ℕ → (Indices → ℕ) → (ℤ → Indices) → ℕ → Asks Indices Indices
+codedOr n k r w put fixed = cond (eqb n k) (ask (row r) w (λ v. done (put (pos v)))) (done (put (pos fixed)))
 
 -- ---- type and offset as one number (section 4.2.7.3): an active frame's symbols begin at 2
 
@@ -100,10 +105,7 @@ spectrum khz signal x =
 
 -- interpolation (section 4.2.7.5.5): 4 subframes only; fixed at 4 for 2
 unfoldable pub interpolation : ℕ → Indices → Asks Indices Indices
-interpolation subframes x =
-    cond (eqb subframes 4)
-    (ask (row interpolationRow) (λ y. said (y .interp)) (λ v. done (withInterp x v)))
-    (done (withInterp x 4))
+interpolation subframes x = codedOr subframes 4 interpolationRow (λ y. said (y .interp)) (putInterp x) 4
 
 -- ---- pitch, in a voiced frame (section 4.2.7.6)
 
@@ -140,21 +142,23 @@ period subframes x = ask (row periodRow) (λ y. said (y .period)) (λ p. filters
 
 -- scale (section 4.2.7.6.3): mode 0 only, else 0
 unfoldable pub scale : ℕ → Indices → Asks Indices Indices
-scale mode x =
-    cond (eqb mode 0) (ask (row scaleRow) (λ y. said (y .scale)) (λ v. done (withScale x v))) (done (withScale x 0))
-
-unfoldable pub pitch : Bool → ℕ → ℕ → ℕ → ℤ → Indices → Asks Indices Indices
-pitch relative khz subframes mode before x =
-    then (lag relative khz before x) (λ a.
-    then (contour khz subframes a) (λ c.
-    then (period subframes c) (scale mode)))
+scale mode x = codedOr mode 0 scaleRow (λ y. said (y .scale)) (putScale x) 0
 
 -- the lag is relative in mode 2 after a voiced frame
 abbrev pub relativeIn : ℕ → ℕ → Bool
 relativeIn mode prevtype = eqb mode 2 && eqb prevtype 2
 
-unfoldable pub voicing : ℕ → Bool → ℕ → ℕ → ℕ → ℤ → Indices → Asks Indices Indices
-voicing signal relative khz subframes mode before x = cond (eqb signal 2) (pitch relative khz subframes mode before x) (done x)
+abbrev pub relativeLag : Setting → Bool
+relativeLag s = relativeIn (s .mode) (s .prevtype)
+
+unfoldable pub pitch : Setting → Indices → Asks Indices Indices
+pitch s x =
+    then (lag (relativeLag s) (s .khz) (s .prevlag) x) (λ a.
+    then (contour (s .khz) (s .subframes) a) (λ c.
+    then (period (s .subframes) c) (scale (s .mode))))
+
+unfoldable pub voicing : ℕ → Setting → Indices → Asks Indices Indices
+voicing signal s x = cond (eqb signal 2) (pitch s x) (done x)
 
 -- seed (section 4.2.7.7)
 unfoldable pub seed : Indices → Asks Indices Indices
@@ -168,4 +172,4 @@ indices s x =
     then (gains (s .mode) (s .subframes) (k / 2) (withKind x k)) (λ g.
     then (spectrum (s .khz) (k / 2) g) (λ q.
     then (interpolation (s .subframes) q) (λ i.
-    then (voicing (k / 2) (relativeIn (s .mode) (s .prevtype)) (s .khz) (s .subframes) (s .mode) (s .prevlag) i) seed))))
+    then (voicing (k / 2) s i) seed))))

@@ -6,20 +6,21 @@ use mathlib.Core.Path.{_≡_, refl, sym, ap, ap₂, subst, _∙_}
 use mathlib.Core.List.{List, [], _∷_, _++_}
 use native.Mathlib.Numerals.{add-one}
 use native.Mathlib.Omega.{arith}
+use borrow.Author.Tests.{eq-eqb, ne-eqb}
 use lib.IntN.{ℤ, pos, natAbs}
 use lib.ListN.{length, getD}
 use Rattle.sheet.specs.Directory.{deltaGainRow, firstIndexRow, residualRow, filterRow}
 use Rattle.entcode.specs.Models.{Sym, tab}
 use Rattle.entcode.specs.Flat.{Out}
-use Rattle.entcode.specs.WriterFacts.{Wrote}
+use Rattle.entcode.specs.WriterFacts.{Core, Wrote}
 use Rattle.tree.specs.Asks.{Asks, symbols, meant, of}
 use Rattle.tree.specs.AsksLaws.{symbols-then, symbols-of, meant-of}
 use Rattle.tree.specs.Says.{says-means}
-use Rattle.tree.specs.Told.{Told, told-ask}
+use Rattle.tree.specs.Told.{Told, told-done, told-ask, told-within}
 use Rattle.silk.specs.declared.Indices.{Indices}
 use Rattle.silk.specs.Record.{withNlsf}
 use Rattle.silk.specs.IndexRows.{Writing, Rate, rate-most}
-use Rattle.silk.specs.IndexSyntax.{saidAt, moreGains, bookOf, selectorsOf, residualPick, residual, residuals, spectrum, filters}
+use Rattle.silk.specs.IndexSyntax.{codedOr, saidAt, moreGains, bookOf, selectorsOf, residualPick, residual, residuals, spectrum, filters}
 use Rattle.silk.specs.IndexSteps.{less-suc}
 use Rattle.silk.specs.IndexParts.{Upto}
 use Rattle.silk.specs.IndexSays.{gain-same, filter-same, index-same, residual-same, residual-says}
@@ -32,6 +33,14 @@ writing-next k h p e = record { core = p .core; few = omega (arith, h .few, p .m
 -- a symbol of a row
 abbrev pub symbolOf : List ℕ → ℕ → Sym
 symbolOf r v = record { model = tab 8 r; value = v }
+
+-- a field that is coded or fixed
+module _ {o : Out} (n k : ℕ) (u : List ℕ) (w : Indices → ℕ) (put : ℤ → Indices) (fixed : ℕ) (x : Indices) where
+  pub coded-told : {q : Out} {r : List ℕ} {v : ℕ} → n ≡ k → r ≡ u → v ≡ w x → Wrote o (symbolOf r v) q → Told o x (codedOr n k u w put fixed) 16 q
+  coded-told e f g h = rw (eq-eqb _ _ e) (told-ask f g h (told-done (h .core)))
+
+  pub fixed-told : (n ≡ k → ⊥) → Core o → Told o x (codedOr n k u w put fixed) 16 o
+  fixed-told h c = rw (ne-eqb _ _ h) (told-within {n = 0} {m = 16} (omega arith) (told-done c))
 
 -- the first index v, by the row r that was lent, then the residuals by its selectors
 pub spectrum-told : {o p q : Out} {r : List ℕ} {v n : ℕ} (khz signal : ℕ) (x : Indices) → length (x .nlsf) ≡ 17 → Upto 31 (getD (x .nlsf) 0 (pos 0))

@@ -21,7 +21,8 @@ use Rattle.tree.specs.AsksLaws.{written-reads-back}
 use Rattle.tree.specs.Telling.{writtenAll, allSaid, ends-meant}
 use Rattle.silk.specs.declared.Indices.{Indices}
 use Rattle.silk.specs.declared.IndicesWritten.{IndicesWritten}
-use Rattle.silk.specs.Record.{Setting}
+use Rattle.silk.specs.declared.Setting.{Setting}
+use Rattle.silk.specs.Record.{made}
 use Rattle.silk.specs.IndexSyntax.{indices}
 use Rattle.silk.specs.IndexRanges.{Shape, InRange, indices-end}
 use Rattle.silk.specs.FrameCalls.{settingOk, nextLag}
@@ -117,23 +118,6 @@ same-sure x y e = subst (λ (z : Indices). sameIndices z y ≡ true) (sym e) (it
         (both-and (sameZ (y .lag) (y .lag)) _ (number-same (y .lag)) (both-and (sameZ (y .contour) (y .contour)) _ (number-same (y .contour)) (both-and (sameZ (y .signal) (y .signal)) _ (number-same (y .signal))
         (both-and (sameZ (y .offset) (y .offset)) _ (number-same (y .offset)) (both-and (sameZ (y .interp) (y .interp)) _ (number-same (y .interp)) (both-and (sameZ (y .period) (y .period)) _ (number-same (y .period))
         (both-and (sameZ (y .scale) (y .scale)) (sameZ (y .seed) (y .seed)) (number-same (y .scale)) (number-same (y .seed)))))))))))
-
--- a record by its fields, so that equal fields make equal records
-abbrev pub made : List ℤ → List ℤ → List ℤ → ℤ → ℤ → ℤ → ℤ → ℤ → ℤ → ℤ → ℤ → Indices
-made g f n l c s o i p k d =
-    record {
-      gains = g;
-      ltp = f;
-      nlsf = n;
-      lag = l;
-      contour = c;
-      signal = s;
-      offset = o;
-      interp = i;
-      period = p;
-      scale = k;
-      seed = d;
-    }
 
 same-fields : (g f n g' f' n' : List ℤ) (l c s o i p k d l' c' s' o' i' p' k' d' : ℤ)
     → g ≡ g' → f ≡ f' → n ≡ n' → l ≡ l' → c ≡ c' → s ≡ s' → o ≡ o' → i ≡ i' → p ≡ p' → k ≡ k' → d ≡ d'

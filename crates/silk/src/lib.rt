@@ -19,6 +19,17 @@ pub struct Indices {
     pub seed: i8,
 }
 
+// The setting of a frame: kHz 8, 12 or 16; 2 or 4 subframes; active 0 or 1; mode 0 independent, 1 independent without LTP scaling, 2 conditional;
+// signal type and lag of the frame before.
+pub struct Setting {
+    pub khz: u32,
+    pub subframes: u32,
+    pub active: u32,
+    pub mode: u32,
+    pub prevtype: u32,
+    pub prevlag: i16,
+}
+
 // A record with some of its fields read, and the reader behind them.
 pub struct IndicesPart {
     pub indices: Indices,

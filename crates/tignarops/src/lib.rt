@@ -5,7 +5,6 @@ ghost use Rattle.entcode.specs.Models.{bit, raw, num, tab};
 ghost use Rattle.entcode.specs.Reading.{decSym, decTell, decOpen};
 ghost use Rattle.entcode.specs.Flat.{out};
 ghost use Rattle.entcode.specs.Writing.{sent, encSym, encTell, encDone, encOpen};
-ghost use Rattle.silk.specs.Record.{settingOf};
 ghost use Rattle.silk.specs.FrameCalls.{decodeIndices, pulsed, decodePulses};
 ghost use Rattle.frame_type.specs.Kind.{frameType};
 ghost use Rattle.silk.specs.IndexWriting.{encodeIndices};
@@ -24,6 +23,7 @@ use pulse_numbers::CallNumbers;
 use silk::Indices;
 use silk::IndicesRead;
 use silk::IndicesWritten;
+use silk::Setting;
 use spectrum::Moves;
 use spectrum::Spectrum;
 
@@ -157,20 +157,18 @@ pub extern "C" fn tg_decode_indices(
     prevtype: u32,
     prevlag: i16,
 ) -> IndicesRead
-    ensures { λ a.
-        ⌜ a ≡ decodeIndices (now (packet .entry)) r «record» (settingOf khz subframes active mode prevtype prevlag) ⌝ }
+    ensures { λ a. ⌜ a ≡ decodeIndices (now (packet .entry)) r «record»
+        (record { khz = khz; subframes = subframes; active = active; mode = mode; prevtype = prevtype; prevlag = prevlag }) ⌝ }
 {
-    decode_indices::silk_decode_indices(
-        packet,
-        r,
-        record,
+    let setting = Setting {
         khz,
         subframes,
         active,
         mode,
         prevtype,
         prevlag,
-    )
+    };
+    decode_indices::silk_decode_indices(packet, r, record, setting)
 }
 
 #[no_mangle]
@@ -185,21 +183,18 @@ pub extern "C" fn tg_encode_indices(
     prevtype: u32,
     prevlag: i16,
 ) -> IndicesWritten
-    ensures { λ a.
-        ⌜ record { buf = now (buf .exit); answer = a } ≡
-        encodeIndices (out (now (buf .entry)) w) «record» (settingOf khz subframes active mode prevtype prevlag) ⌝ }
+    ensures { λ a. ⌜ record { buf = now (buf .exit); answer = a } ≡ encodeIndices (out (now (buf .entry)) w) «record»
+        (record { khz = khz; subframes = subframes; active = active; mode = mode; prevtype = prevtype; prevlag = prevlag }) ⌝ }
 {
-    encode_indices::silk_encode_indices(
-        buf,
-        w,
-        record,
+    let setting = Setting {
         khz,
         subframes,
         active,
         mode,
         prevtype,
         prevlag,
-    )
+    };
+    encode_indices::silk_encode_indices(buf, w, record, setting)
 }
 
 // ---- pulses

@@ -1,93 +1,87 @@
 -- `decode_indices::silk_decode_indices` meets its contract: the first refusal, or the record that the frame's syntax gives. Assumes nothing.
 use borrow.Author.Needs.{needs}
 use mathlib.Core.Path.{_≡_, sym, ap, subst, _∙_}
+use mathlib.Core.List.{List}
 use native.Mathlib.Omega.{arith}
+use mir.Syntax.{w16}
+use mir.Val.{SFits}
 use mir.Facts.{toZ-ofZ}
 use Rattle.entcode.specs.ReaderLaws.{Bytes}
-use Rattle.tree.specs.Asks.{Got, got, run}
+use Rattle.tree.specs.Asks.{Got}
 use Rattle.silk.specs.declared.Indices.{Indices}
-use Rattle.silk.specs.Record.{Setting, settingOf}
 use Rattle.silk.specs.IndexRows.{index-rows}
-use Rattle.silk.specs.IndexSyntax.{indices}
 use Rattle.silk.specs.IndexParts.{Upto}
 use Rattle.silk.specs.IndexRanges.{Shape}
 use Rattle.silk.specs.FrameCalls.{indicesRule, indicesGot}
-use Rattle.silk.specs.IndexCalls.{rule-accepts, indices-ended, indices-runs, indices-refused}
+use Rattle.silk.specs.IndexCalls.{Accepts, rule-accepts, indices-ended, indices-runs, indices-refused}
 use Rattle.decode_indices.proofs.silk_decode_indices.Statement.{statement}
 use Rattle.decode_indices.proofs.silk_decode_indices.Tie as tie
 
--- the setting of the call's numbers
-abbrev setting : tie.Start → Setting
-setting z = settingOf (z .args .khz) (z .args .subframes) (z .args .active) (z .args .mode) (z .args .prevtype) (z .args .prevlag)
+shape : (z : tie.Start) → Shape (z .args .«record»)
+shape z = record { gains = search (needs, z .good .1 .1 .0); ltp = search (needs, z .good .1 .1 .0); nlsf = search (needs, z .good .1 .1 .0) }
 
-numbers-rule-requires : tie.Need-numbers-rule-requires
-numbers-rule-requires c κs = search needs
+prevlag-fits : (z : tie.Start) → SFits w16 (z .args .s .prevlag)
+prevlag-fits z = search needs
 
-gate-requires : tie.Need-gate-requires
-gate-requires c κs = search needs
+-- the first refusal of gate and numbers
+abbrev begun : tie.After-first-refusal → tie.Start
+begun c = c .before .before .before .before
 
-first-refusal-requires : tie.Need-first-refusal-requires
-first-refusal-requires c κs = search needs
+rule-is : (c : tie.After-first-refusal)
+    → let z = begun c in c .first-refusal .result ≡ indicesRule (z .args .packet .now) (z .args .d) (z .args .s)
+rule-is c = rw (c .before .gate .ensures, c .before .before .numbers-rule .ensures) at (c .first-refusal .ensures)
 
-index-rows-requires : tie.Need-index-rows-requires
-index-rows-requires c κs = search needs
+-- a call that is not refused
+abbrev opened : tie.Then1 → tie.Start
+opened c = begun (c .before)
 
-slice-aggregate-all-indices : tie.Need-slice-aggregate-all-indices
-slice-aggregate-all-indices c = search needs
+open-rule : (c : tie.Then1) → let z = opened c in indicesRule (z .args .packet .now) (z .args .d) (z .args .s) ≡ 0
+open-rule c = sym (rule-is (c .before)) ∙ c .if1 .taken
+
+accepts : (c : tie.Then1) → let z = opened c in Accepts (z .args .packet .now) (z .args .d) (z .args .s)
+accepts c = let z = opened c in rule-accepts (z .args .packet .now) (z .args .d) (z .args .s) (open-rule c)
 
 all-indices-requires : tie.Need-all-indices-requires
 all-indices-requires c κs =
-    let z = c .before .before .before .before .before .before .before in
-    let n = c .before .before .before .first-refusal in
-    let e : n .result ≡ indicesRule (z .args .packet .now) (z .args .d) (setting z) =
-    rw (c .before .before .before .before .gate .ensures, c .before .before .before .before .before .numbers-rule .ensures) at (n .ensures) in
-    let a = rule-accepts (z .args .packet .now) (z .args .d) (setting z) (sym e ∙ c .before .before .if1 .taken) in (
-      record { core = a .passed .sound .core; few = omega (arith, a .passed .low); rows = index-rows (c .before .index-rows .result) (c .before .index-rows .ensures) },
+    let a = accepts (c .before .before) in
+    let r = c .before .index-rows in (
+      record { core = a .passed .sound .core; few = omega (arith, a .passed .low); rows = index-rows (r .result) (r .ensures) },
       (a .numbers .rate, a .numbers .subframes, a .numbers .active),
     )
 
 accepted-requires : tie.Need-accepted-requires
 accepted-requires c κs =
-    let z = c .before .before .before .before .before .before .before .before in
-    let n = c .before .before .before .before .first-refusal in
-    let e : n .result ≡ indicesRule (z .args .packet .now) (z .args .d) (setting z) =
-    rw (c .before .before .before .before .before .gate .ensures, c .before .before .before .before .before .before .numbers-rule .ensures) at (n .ensures) in
-    let a = rule-accepts (z .args .packet .now) (z .args .d) (setting z) (sym e ∙ c .before .before .before .if1 .taken) in
-    let y : Bytes (z .args .packet .now) = λ i. omega (arith, c .before .before .before .before .before .before .before .shared-slice-known .given i) in
-    let s : Shape (z .args .«record») = record { gains = search (needs, z .good .1 .1 .0); ltp = search (needs, z .good .1 .1 .0); nlsf = search (needs, z .good .1 .1 .0) } in
-    let g : run (z .args .packet .now) (z .args .d) (indices (setting z) (z .args .«record»)) ≡ got (c .all-indices .result .indices) (c .all-indices .result .state) =
-    rw (toZ-ofZ (z .fits .prevlag)) at (c .all-indices .ensures .is) in
-    subst (λ (q : Got Indices). Upto 2 (q .value .signal)) g (indices-ended _ _ _ _ y a s .holds .range .signal)
+    let r = c .before in
+    let b = r .before .before .before in
+    let z = opened b in
+    let y : Bytes (z .args .packet .now) = λ i. omega (arith, b .before .before .before .before .shared-slice-known .given i) in
+    subst (λ (q : Got Indices). Upto 2 (q .value .signal)) (r .all-indices .ensures .is)
+    (indices-ended _ _ _ _ y (accepts b) (shape z) .holds .range .signal)
 
 returns : tie.Need-returns
 returns c =
-    let z = c .before .before .before .before .before .before .before .before .before in
-    let n = c .before .before .before .before .before .first-refusal in
-    let e : n .result ≡ indicesRule (z .args .packet .now) (z .args .d) (setting z) =
-    rw (c .before .before .before .before .before .before .gate .ensures, c .before .before .before .before .before .before .before .numbers-rule .ensures) at (n .ensures) in
-    let r = c .before .all-indices in
-    let g : run (z .args .packet .now) (z .args .d) (indices (setting z) (z .args .«record»)) ≡ got (r .result .indices) (r .result .state) =
-    rw (toZ-ofZ (z .fits .prevlag)) at (r .ensures .is) in
-    let a : c .accepted .result ≡ indicesGot (z .args .prevlag) (got (r .result .indices) (r .result .state)) = rw (toZ-ofZ (z .fits .prevlag)) at (c .accepted .ensures) in
-    a ∙ ap (λ (q : Got Indices). indicesGot (z .args .prevlag) q) (sym g) ∙ indices-runs _ _ _ (setting z) (sym e ∙ c .before .before .before .before .if1 .taken)
+    let r = c .before .before in
+    let b = r .before .before .before in
+    let z = opened b in
+    (rw (toZ-ofZ (prevlag-fits z)) at (c .accepted .ensures))
+    ∙ ap (λ (q : Got Indices). indicesGot (z .args .s .prevlag) q) (sym (r .all-indices .ensures .is))
+    ∙ indices-runs _ _ _ (z .args .s) (open-rule b)
 
 returns-2 : tie.Need-returns-2
 returns-2 c =
-    let z = c .before .before .before .before .before in
-    let n = c .before .first-refusal in
-    let e : n .result ≡ indicesRule (z .args .packet .now) (z .args .d) (setting z) =
-    rw (c .before .before .gate .ensures, c .before .before .before .numbers-rule .ensures) at (n .ensures) in
-    rw (toZ-ofZ (z .fits .prevlag)) (indices-refused _ _ _ (setting z) (n .result) e (c .if1 .left))
+    let e = c .before in
+    let z = begun (e .before) in
+    rw (toZ-ofZ (prevlag-fits z)) (indices-refused _ _ _ (z .args .s) (e .before .first-refusal .result) (rule-is (e .before)) (e .if1 .left))
 
 pub silk-decode-indices-spec : {M : Type 1} → statement M
 silk-decode-indices-spec =
     tie.close
     (tie.spec
-    numbers-rule-requires
-    gate-requires
-    first-refusal-requires
-    index-rows-requires
-    slice-aggregate-all-indices
+    (λ c κs. search needs)
+    (λ c κs. search needs)
+    (λ c κs. search needs)
+    (λ c κs. search needs)
+    (λ c. search needs)
     all-indices-requires
     accepted-requires
     returns

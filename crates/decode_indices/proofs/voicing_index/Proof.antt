@@ -2,20 +2,14 @@
 use borrow.Author.Needs.{needs}
 use native.Mathlib.Omega.{arith}
 use borrow.Author.Tests.{eq-eqb, ne-eqb}
-use mir.Facts.{toZ-ofZ}
 use Rattle.tree.specs.Ran.{ran-done, ran-within}
 use Rattle.silk.specs.IndexSyntax.{voicing}
 use Rattle.decode_indices.proofs.voicing_index.Statement.{statement}
 use Rattle.decode_indices.proofs.voicing_index.Tie as tie
 
-pitch-run-requires : tie.Need-pitch-run-requires
-pitch-run-requires c κs = search needs
-
 returns : tie.Need-returns
 unfolding voicing
-returns c =
-    let z = c .before .before .before .before in
-    rw (eq-eqb _ _ (c .before .if1 .taken)) (rw (toZ-ofZ (z .fits .before)) at (c .pitch-run .ensures))
+returns c = rw (eq-eqb _ _ (c .before .if1 .taken)) (c .pitch-run .ensures)
 
 returns-2 : tie.Need-returns-2
 unfolding voicing
@@ -24,4 +18,4 @@ returns-2 c =
     rw (ne-eqb _ _ (c .if1 .left)) (ran-within {n = 0} {m = 160} (omega arith) (ran-done (z .pre .0 .core)))
 
 pub voicing-index-spec : {M : Type 1} → statement M
-voicing-index-spec = tie.close (tie.spec pitch-run-requires returns returns-2)
+voicing-index-spec = tie.close (tie.spec (λ c κs. search needs) returns returns-2)

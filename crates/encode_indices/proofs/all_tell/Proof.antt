@@ -7,7 +7,6 @@ use native.Mathlib.Omega.{arith}
 use lib.IntN.{pos}
 use Rattle.entcode.specs.declared.Enc.{Enc}
 use Rattle.entcode.specs.Flat.{out}
-use Rattle.silk.specs.Record.{settingOf}
 use Rattle.silk.specs.IndexRows.{Writing}
 use Rattle.silk.specs.IndexRanges.{Shape}
 use Rattle.silk.specs.IndexTold.{writing-next}
@@ -55,19 +54,13 @@ pitch-start c = interpolation-start (c .before .before .before .before)
 
 pitch-told : (c : tie.After-voicing-tell) (n : ℕ) → 2 ^ 26 + 800 ≤ n → Ready (pitch-start c) (c .voicing-tell .last .0) (c .voicing-tell .result) n
 pitch-told c n h =
-    writing-next n (interpolation-told (c .before .before .before .before) (2 ^ 26 + 640) (omega arith)) (c .voicing-tell .ensures (pos 0)) (omega arith)
+    writing-next n (interpolation-told (c .before .before .before .before) (2 ^ 26 + 640) (omega arith)) (c .voicing-tell .ensures) (omega arith)
 
 -- ---- the calls
-
-next-type-run-requires : tie.Need-next-type-run-requires
-next-type-run-requires c κs = search needs
 
 -- the signal type
 signal-small : (c : tie.After-next-type-run) → c .next-type-run .result < 3
 signal-small c = omega (arith, c .next-type-run .ensures, c .before .before .before .pre .1 .3 .kind .signal .most)
-
-kind-tell-run-requires : tie.Need-kind-tell-run-requires
-kind-tell-run-requires c κs = search needs
 
 gains-tell-run-requires : tie.Need-gains-tell-run-requires
 gains-tell-run-requires c κs =
@@ -115,7 +108,7 @@ same-length c =
     ∙ g .before .before .before .before .kind-tell-run .kept .0
 
 returns : tie.Need-returns
-returns c prevlag =
+returns c =
     let v = c .before .before .before .before .before .before in
     let i = v .before .before .before .before in
     let q = i .before .before .before .before in
@@ -124,21 +117,21 @@ returns c prevlag =
     let z = kind-start k in
     let a = z .args in
     let p = z .pre .1 in
-    parts-told (settingOf (a .khz) (a .subframes) (a .active) (a .mode) (a .prevtype) prevlag) (a .x) (p .0) (p .1) (p .2) (shape z) (p .3)
+    parts-told (a .s) (a .x) (p .0) (p .1) (p .2) (shape z) (p .3)
     (k .before .before .next-type-run .result) (k .before .before .next-type-run .ensures)
     (k .kind-tell-run .ensures)
     (g .gains-tell-run .ensures)
     (q .spectrum-tell-run .ensures)
     (i .interpolation-tell-run .ensures)
-    (v .voicing-tell .ensures prevlag)
+    (v .voicing-tell .ensures)
     (c .before .before .seed-tell-run .ensures)
 
 pub all-tell-spec : {M : Type 1} → statement M
 all-tell-spec =
     tie.close
     (tie.spec
-    next-type-run-requires
-    kind-tell-run-requires
+    (λ c κs. search needs)
+    (λ c κs. search needs)
     gains-tell-run-requires
     spectrum-tell-run-requires
     interpolation-tell-run-requires

@@ -12,17 +12,13 @@ pitch-tell-run-requires c κs =
     let z = c .before .before .before .before in
     (z .pre .0, (z .pre .1 .0, z .pre .1 .1, z .pre .1 .2 (c .before .if1 .taken)))
 
-same-length : tie.Need-same-length
-same-length c = search needs
-
 returns : tie.Need-returns
 unfolding voicing
-returns c before = rw (eq-eqb _ _ (c .before .before .before .before .if1 .taken)) (c .before .before .pitch-tell-run .ensures before)
+returns c = rw (eq-eqb _ _ (c .before .before .before .before .if1 .taken)) (c .before .before .pitch-tell-run .ensures)
 
 returns-2 : tie.Need-returns-2
 unfolding voicing
-returns-2 c before =
-    rw (ne-eqb _ _ (c .if1 .left)) (told-within {n = 0} {m = 160} (omega arith) (told-done (c .before .before .before .pre .0 .core)))
+returns-2 c = rw (ne-eqb _ _ (c .if1 .left)) (told-within {n = 0} {m = 160} (omega arith) (told-done (c .before .before .before .pre .0 .core)))
 
 pub voicing-tell-spec : {M : Type 1} → statement M
-voicing-tell-spec = tie.close (tie.spec pitch-tell-run-requires same-length returns returns-2)
+voicing-tell-spec = tie.close (tie.spec pitch-tell-run-requires (λ c. search needs) returns returns-2)

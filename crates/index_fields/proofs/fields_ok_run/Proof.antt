@@ -4,7 +4,7 @@ use mir.Syntax.{w8}
 use mir.Val.{SFits}
 use mir.Facts.{toZ-ofZ}
 use Rattle.tests.specs.Decides.{decides-as, decides-both}
-use Rattle.index_fields.specs.Tested.{upto-tested}
+use Rattle.index_decides.specs.Tested.{upto-tested}
 use Rattle.index_fields.proofs.fields_ok_run.Statement.{statement}
 use Rattle.index_fields.proofs.fields_ok_run.Tie as tie
 
@@ -13,21 +13,6 @@ interp-fits z = search needs
 
 seed-fits : (z : tie.Start) → SFits w8 (z .args .x .seed)
 seed-fits z = search needs
-
-kind-ok-requires : tie.Need-kind-ok-requires
-kind-ok-requires c κs = search needs
-
-gains-ok-requires : tie.Need-gains-ok-requires
-gains-ok-requires c κs = search needs
-
-spectrum-ok-requires : tie.Need-spectrum-ok-requires
-spectrum-ok-requires c κs = search needs
-
-interpolation-ok-requires : tie.Need-interpolation-ok-requires
-interpolation-ok-requires c κs = search needs
-
-voicing-ok-requires : tie.Need-voicing-ok-requires
-voicing-ok-requires c κs = search needs
 
 returns : tie.Need-returns
 returns c =
@@ -44,19 +29,19 @@ returns c =
       seed = p .1 .1 .1 .1 .1;
     })
     (λ w. (w .kind, (w .gains, (w .spectrum, ((w .interp, w .fixed), (w .pitch, w .seed))))))
-    (decides-both (c .before .before .before .before .before .kind-ok .ensures) (λ k.
-    decides-both (c .before .before .before .before .gains-ok .ensures) (λ g.
+    (decides-both (c .before .before .before .before .before .kind-ok-run .ensures) (λ k.
+    decides-both (c .before .before .before .before .gains-ok-run .ensures) (λ g.
     decides-both (c .before .before .before .spectrum-ok .ensures) (λ q.
-    decides-both (rw (toZ-ofZ (interp-fits z)) at (c .before .interpolation-ok .ensures)) (λ i.
+    decides-both (rw (toZ-ofZ (interp-fits z)) at (c .before .interpolation-ok-run .ensures)) (λ i.
     decides-both (c .voicing-ok .ensures) (λ v. upto-tested 3 (z .args .x .seed))))))))
 
 pub fields-ok-run-spec : {M : Type 1} → statement M
 fields-ok-run-spec =
     tie.close
     (tie.spec
-    kind-ok-requires
-    gains-ok-requires
-    spectrum-ok-requires
-    interpolation-ok-requires
-    voicing-ok-requires
+    (λ c κs. search needs)
+    (λ c κs. search needs)
+    (λ c κs. search needs)
+    (λ c κs. search needs)
+    (λ c κs. search needs)
     returns)

@@ -14,25 +14,10 @@ use Rattle.silk.specs.IndexSyntax.{firstGain}
 use Rattle.index_gains_read.proofs.first_gain.Statement.{statement}
 use Rattle.index_gains_read.proofs.first_gain.Tie as tie
 
-sub-ec-dec-icdf8-run : tie.Need-sub-ec-dec-icdf8-run
-sub-ec-dec-icdf8-run c = search needs
-
-part-ec-dec-icdf8-run-start : tie.Need-part-ec-dec-icdf8-run-start
-part-ec-dec-icdf8-run-start c = search needs
-
-part-ec-dec-icdf8-run-end : tie.Need-part-ec-dec-icdf8-run-end
-part-ec-dec-icdf8-run-end c = search needs
-
 ec-dec-icdf8-run-requires : tie.Need-ec-dec-icdf8-run-requires
 ec-dec-icdf8-run-requires c κs =
     let z = c .before .before .before .before in
     (z .pre .0 .core, (omega arith, delta-gain-row (z .pre .0 .rows) .good))
-
-cast-out : tie.Need-cast-out
-cast-out c = search needs
-
-element-set-from-out : tie.Need-element-set-from-out
-element-set-from-out c = search needs
 
 returns : tie.Need-returns
 unfolding firstGain
@@ -44,55 +29,16 @@ returns c =
     rw (eq-eqb _ _ (c .before .before .before .before .if1 .taken), e)
     (ran-within {n = 16} {m = 32} (omega arith) (ran-ask (t .is) (a .ensures) (ran-done (a .ensures .core))))
 
-mul-start : tie.Need-mul-start
-mul-start c = search needs
-
-add-start : tie.Need-add-start
-add-start c = search needs
-
-add-end : tie.Need-add-end
-add-end c = search needs
-
-sub-ec-dec-icdf8-run-2 : tie.Need-sub-ec-dec-icdf8-run-2
-sub-ec-dec-icdf8-run-2 c = search needs
-
-part-ec-dec-icdf8-run-start-2 : tie.Need-part-ec-dec-icdf8-run-start-2
-part-ec-dec-icdf8-run-start-2 c = search needs
-
-part-ec-dec-icdf8-run-end-2 : tie.Need-part-ec-dec-icdf8-run-end-2
-part-ec-dec-icdf8-run-end-2 c = search needs
-
 ec-dec-icdf8-run-requires-2 : tie.Need-ec-dec-icdf8-run-requires-2
 ec-dec-icdf8-run-requires-2 c κs =
     let z = c .before .before .before .before in
     (z .pre .0 .core, (omega arith, gain-row (z .pre .0 .rows) (z .args .signal) (z .pre .1) .good))
-
-sub-ec-dec-icdf8-run-3 : tie.Need-sub-ec-dec-icdf8-run-3
-sub-ec-dec-icdf8-run-3 c = search needs
-
-part-ec-dec-icdf8-run-start-3 : tie.Need-part-ec-dec-icdf8-run-start-3
-part-ec-dec-icdf8-run-start-3 c = search needs
-
-part-ec-dec-icdf8-run-end-3 : tie.Need-part-ec-dec-icdf8-run-end-3
-part-ec-dec-icdf8-run-end-3 c = search needs
 
 ec-dec-icdf8-run-requires-3 : tie.Need-ec-dec-icdf8-run-requires-3
 ec-dec-icdf8-run-requires-3 c κs =
     let z = c .before .before .before .before .before .before in
     let h = c .before .ec-dec-icdf8-run2 in
     (h .ensures .core, (omega (arith, h .ensures .most), gain-low-row (z .pre .0 .rows) .good))
-
-mul-out : tie.Need-mul-out
-mul-out c = search needs
-
-add-out : tie.Need-add-out
-add-out c = search needs
-
-cast-out-2 : tie.Need-cast-out-2
-cast-out-2 c = search needs
-
-element-set-from-out-2 : tie.Need-element-set-from-out-2
-element-set-from-out-2 c = search needs
 
 returns-2 : tie.Need-returns-2
 unfolding firstGain
@@ -111,26 +57,26 @@ pub first-gain-spec : {M : Type 1} → statement M
 first-gain-spec =
     tie.close
     (tie.spec
-    sub-ec-dec-icdf8-run
-    part-ec-dec-icdf8-run-start
-    part-ec-dec-icdf8-run-end
+    (λ c. search needs)
+    (λ c. search needs)
+    (λ c. search needs)
     ec-dec-icdf8-run-requires
-    cast-out
-    element-set-from-out
+    (λ c. search needs)
+    (λ c. search needs)
     returns
-    mul-start
-    add-start
-    add-end
-    sub-ec-dec-icdf8-run-2
-    part-ec-dec-icdf8-run-start-2
-    part-ec-dec-icdf8-run-end-2
+    (λ c. search needs)
+    (λ c. search needs)
+    (λ c. search needs)
+    (λ c. search needs)
+    (λ c. search needs)
+    (λ c. search needs)
     ec-dec-icdf8-run-requires-2
-    sub-ec-dec-icdf8-run-3
-    part-ec-dec-icdf8-run-start-3
-    part-ec-dec-icdf8-run-end-3
+    (λ c. search needs)
+    (λ c. search needs)
+    (λ c. search needs)
     ec-dec-icdf8-run-requires-3
-    mul-out
-    add-out
-    cast-out-2
-    element-set-from-out-2
+    (λ c. search needs)
+    (λ c. search needs)
+    (λ c. search needs)
+    (λ c. search needs)
     returns-2)

@@ -5,15 +5,9 @@ use Rattle.silk.specs.IndexSyntax.{gains}
 use Rattle.index_gains_read.proofs.gains_run.Statement.{statement}
 use Rattle.index_gains_read.proofs.gains_run.Tie as tie
 
-first-gain-requires : tie.Need-first-gain-requires
-first-gain-requires c κs = search needs
-
-more-gains-requires : tie.Need-more-gains-requires
-more-gains-requires c κs = search needs
-
 returns : tie.Need-returns
 unfolding gains
 returns c = ran-bind _ (c .before .first-gain .ensures) (c .more-gains .ensures)
 
 pub gains-run-spec : {M : Type 1} → statement M
-gains-run-spec = tie.close (tie.spec first-gain-requires more-gains-requires returns)
+gains-run-spec = tie.close (tie.spec (λ c κs. search needs) (λ c κs. search needs) returns)

@@ -50,15 +50,6 @@ loop-holds c =
       most = omega arith;
     }
 
-sub-ec-dec-icdf8-run : tie.Need-sub-ec-dec-icdf8-run Inv-loop μ-loop
-sub-ec-dec-icdf8-run c = search needs
-
-part-ec-dec-icdf8-run-start : tie.Need-part-ec-dec-icdf8-run-start Inv-loop μ-loop
-part-ec-dec-icdf8-run-start c = search needs
-
-part-ec-dec-icdf8-run-end : tie.Need-part-ec-dec-icdf8-run-end Inv-loop μ-loop
-part-ec-dec-icdf8-run-end c = search needs
-
 ec-dec-icdf8-run-requires : tie.Need-ec-dec-icdf8-run-requires Inv-loop μ-loop
 ec-dec-icdf8-run-requires c κs =
     let z = c .before .before .before .before .before in
@@ -69,15 +60,6 @@ cast-out : tie.Need-cast-out Inv-loop μ-loop
 cast-out c =
     let z = c .before .before .before .before .before .before .before in
     omega (arith, c .before .ec-dec-icdf8-run .ensures .inside, delta-gain-row (z .pre .0 .rows) .size)
-
-element-set-from-out : tie.Need-element-set-from-out Inv-loop μ-loop
-element-set-from-out c = search needs
-
-add-k : tie.Need-add-k Inv-loop μ-loop
-add-k c = search needs
-
-loop-less : tie.Need-loop-less Inv-loop μ-loop
-loop-less c = search needs
 
 loop-again : tie.Need-loop-again Inv-loop μ-loop
 loop-again c =
@@ -110,13 +92,13 @@ more-gains-spec =
     Inv-loop
     μ-loop
     loop-holds
-    sub-ec-dec-icdf8-run
-    part-ec-dec-icdf8-run-start
-    part-ec-dec-icdf8-run-end
+    (λ c. search needs)
+    (λ c. search needs)
+    (λ c. search needs)
     ec-dec-icdf8-run-requires
     cast-out
-    element-set-from-out
-    add-k
-    loop-less
+    (λ c. search needs)
+    (λ c. search needs)
+    (λ c. search needs)
     loop-again
     returns)

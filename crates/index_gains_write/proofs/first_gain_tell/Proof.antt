@@ -24,22 +24,10 @@ gain-upto z = record { least = z .pre .1 .1 .least; most = omega (arith, z .pre 
 gain-is : (z : tie.Start) → toZ w8 (ofZ w8 (gain z)) ≡ gain z
 gain-is z = abs-kept w8 (gain z) (gain-upto z .most) (omega arith)
 
-element-copy-out-gain : tie.Need-element-copy-out-gain
-element-copy-out-gain c = search needs
-
 cast-gain : tie.Need-cast-gain
 cast-gain c =
     let z = c .before .before .before in
     rw (gain-is z) (upto-fits (gain z) (omega arith) (gain-upto z))
-
-sub-ec-enc-icdf8-run : tie.Need-sub-ec-enc-icdf8-run
-sub-ec-enc-icdf8-run c = search needs
-
-part-ec-enc-icdf8-run-start : tie.Need-part-ec-enc-icdf8-run-start
-part-ec-enc-icdf8-run-start c = search needs
-
-part-ec-enc-icdf8-run-end : tie.Need-part-ec-enc-icdf8-run-end
-part-ec-enc-icdf8-run-end c = search needs
 
 ec-enc-icdf8-run-requires : tie.Need-ec-enc-icdf8-run-requires
 ec-enc-icdf8-run-requires c κs =
@@ -47,9 +35,6 @@ ec-enc-icdf8-run-requires c κs =
     let t = delta-gain-row (z .pre .0 .rows) in
     let l : natAbs (gain z) ≤ 40 = rw (eq-eqb _ _ (c .before .before .if1 .taken)) at (z .pre .1 .1 .most) in
     rw (gain-is z) (z .pre .0 .core, (omega (arith, z .pre .0 .few), (t .good, t .writable _ (omega arith))))
-
-same-length : tie.Need-same-length
-same-length c = search needs
 
 returns : tie.Need-returns
 unfolding firstGain
@@ -60,24 +45,6 @@ returns c =
     (told-within {n = 16} {m = 32} (omega arith)
     (told-ask (delta-gain-row (z .pre .0 .rows) .is) (ap natAbs (gain-is z)) (a .ensures) (told-done (a .ensures .core))))
 
-mul-start : tie.Need-mul-start
-mul-start c = search needs
-
-add-start : tie.Need-add-start
-add-start c = search needs
-
-add-end : tie.Need-add-end
-add-end c = search needs
-
-sub-ec-enc-icdf8-run-2 : tie.Need-sub-ec-enc-icdf8-run-2
-sub-ec-enc-icdf8-run-2 c = search needs
-
-part-ec-enc-icdf8-run-start-2 : tie.Need-part-ec-enc-icdf8-run-start-2
-part-ec-enc-icdf8-run-start-2 c = search needs
-
-part-ec-enc-icdf8-run-end-2 : tie.Need-part-ec-enc-icdf8-run-end-2
-part-ec-enc-icdf8-run-end-2 c = search needs
-
 ec-enc-icdf8-run-requires-2 : tie.Need-ec-enc-icdf8-run-requires-2
 ec-enc-icdf8-run-requires-2 c κs =
     let z = c .before .before .before .before .before .before in
@@ -85,24 +52,12 @@ ec-enc-icdf8-run-requires-2 c κs =
     let l : natAbs (gain z) ≤ 63 = rw (ne-eqb _ _ (c .before .before .if1 .left)) at (z .pre .1 .1 .most) in
     rw (gain-is z) (z .pre .0 .core, (omega (arith, z .pre .0 .few), (t .good, t .writable _ (omega arith))))
 
-sub-ec-enc-icdf8-run-3 : tie.Need-sub-ec-enc-icdf8-run-3
-sub-ec-enc-icdf8-run-3 c = search needs
-
-part-ec-enc-icdf8-run-start-3 : tie.Need-part-ec-enc-icdf8-run-start-3
-part-ec-enc-icdf8-run-start-3 c = search needs
-
-part-ec-enc-icdf8-run-end-3 : tie.Need-part-ec-enc-icdf8-run-end-3
-part-ec-enc-icdf8-run-end-3 c = search needs
-
 ec-enc-icdf8-run-requires-3 : tie.Need-ec-enc-icdf8-run-requires-3
 ec-enc-icdf8-run-requires-3 c κs =
     let z = c .before .before .before .before .before .before .before .before .before .before .before in
     let h = c .before .before .before .before .ec-enc-icdf8-run2 in
     let t = gain-low-row (z .pre .0 .rows) in
     (h .ensures .core, (omega (arith, z .pre .0 .few, h .ensures .most), (t .good, t .writable _ (omega arith))))
-
-same-length-2 : tie.Need-same-length-2
-same-length-2 c = search needs
 
 returns-2 : tie.Need-returns-2
 unfolding firstGain
@@ -119,24 +74,24 @@ pub first-gain-tell-spec : {M : Type 1} → statement M
 first-gain-tell-spec =
     tie.close
     (tie.spec
-    element-copy-out-gain
+    (λ c. search needs)
     cast-gain
-    sub-ec-enc-icdf8-run
-    part-ec-enc-icdf8-run-start
-    part-ec-enc-icdf8-run-end
+    (λ c. search needs)
+    (λ c. search needs)
+    (λ c. search needs)
     ec-enc-icdf8-run-requires
-    same-length
+    (λ c. search needs)
     returns
-    mul-start
-    add-start
-    add-end
-    sub-ec-enc-icdf8-run-2
-    part-ec-enc-icdf8-run-start-2
-    part-ec-enc-icdf8-run-end-2
+    (λ c. search needs)
+    (λ c. search needs)
+    (λ c. search needs)
+    (λ c. search needs)
+    (λ c. search needs)
+    (λ c. search needs)
     ec-enc-icdf8-run-requires-2
-    sub-ec-enc-icdf8-run-3
-    part-ec-enc-icdf8-run-start-3
-    part-ec-enc-icdf8-run-end-3
+    (λ c. search needs)
+    (λ c. search needs)
+    (λ c. search needs)
     ec-enc-icdf8-run-requires-3
-    same-length-2
+    (λ c. search needs)
     returns-2)

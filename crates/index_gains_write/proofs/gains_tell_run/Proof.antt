@@ -14,15 +14,6 @@ use Rattle.index_gains_write.proofs.gains_tell_run.Tie as tie
 some-gain : (z : tie.Start) → 0 < length (z .args .x .gains)
 some-gain z = let e : length (z .args .x .gains) ≡ 4 = search needs in omega (arith, e)
 
-first-gain-tell-requires : tie.Need-first-gain-tell-requires
-first-gain-tell-requires c κs = search needs
-
-more-gains-tell-requires : tie.Need-more-gains-tell-requires
-more-gains-tell-requires c κs = search needs
-
-same-length : tie.Need-same-length
-same-length c = search needs
-
 returns : tie.Need-returns
 unfolding gains
 returns c =
@@ -33,4 +24,4 @@ returns c =
 
 pub gains-tell-run-spec : {M : Type 1} → statement M
 gains-tell-run-spec =
-    tie.close (tie.spec first-gain-tell-requires more-gains-tell-requires same-length returns)
+    tie.close (tie.spec (λ c κs. search needs) (λ c κs. search needs) (λ c. search needs) returns)

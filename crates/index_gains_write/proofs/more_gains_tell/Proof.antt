@@ -57,15 +57,6 @@ cast-ec-enc-icdf8-run c =
     let u = z .pre .1 .1 (l .k) (l .inv .from) (c .before .before .loop-test .taken) in
     rw (gain-is u) (upto-fits (getD (z .args .t4 .gains) (l .k) (pos 0)) (omega arith) u)
 
-sub-ec-enc-icdf8-run : tie.Need-sub-ec-enc-icdf8-run Inv-loop μ-loop
-sub-ec-enc-icdf8-run c = search needs
-
-part-ec-enc-icdf8-run-start : tie.Need-part-ec-enc-icdf8-run-start Inv-loop μ-loop
-part-ec-enc-icdf8-run-start c = search needs
-
-part-ec-enc-icdf8-run-end : tie.Need-part-ec-enc-icdf8-run-end Inv-loop μ-loop
-part-ec-enc-icdf8-run-end c = search needs
-
 ec-enc-icdf8-run-requires : tie.Need-ec-enc-icdf8-run-requires Inv-loop μ-loop
 ec-enc-icdf8-run-requires c κs =
     let z = c .before .before .before .before .before .before .before in
@@ -74,12 +65,6 @@ ec-enc-icdf8-run-requires c κs =
     let t = delta-gain-row (z .pre .0 .rows) in
     let few : l .q .total ≤ 2 ^ 30 = omega (arith, z .pre .0 .few, l .inv .told .most, l .inv .to, subframes-most (z .pre .1 .0)) in
     rw (gain-is u) (l .inv .told .core, (few, (t .good, t .writable _ (omega (arith, u .most)))))
-
-add-k : tie.Need-add-k Inv-loop μ-loop
-add-k c = search needs
-
-loop-less : tie.Need-loop-less Inv-loop μ-loop
-loop-less c = search needs
 
 loop-again : tie.Need-loop-again Inv-loop μ-loop
 loop-again c =
@@ -116,12 +101,12 @@ more-gains-tell-spec =
     loop-holds
     element-copy-out-ec-enc-icdf8-run
     cast-ec-enc-icdf8-run
-    sub-ec-enc-icdf8-run
-    part-ec-enc-icdf8-run-start
-    part-ec-enc-icdf8-run-end
+    (λ c. search needs)
+    (λ c. search needs)
+    (λ c. search needs)
     ec-enc-icdf8-run-requires
-    add-k
-    loop-less
+    (λ c. search needs)
+    (λ c. search needs)
     loop-again
     same-length
     returns)

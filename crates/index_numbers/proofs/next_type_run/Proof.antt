@@ -14,8 +14,5 @@ cast-result c =
     let f : SFits w8 (z .args .x .signal) = search needs in
     rw (toZ-ofZ f) (upto-fits (z .args .x .signal) (omega arith) (z .pre))
 
-returns : tie.Need-returns
-returns c = search needs
-
 pub next-type-run-spec : {M : Type 1} → statement M
-next-type-run-spec = tie.close (tie.spec cast-result returns)
+next-type-run-spec = tie.close (tie.spec cast-result (λ c. search needs))

@@ -1,11 +1,11 @@
 -- `index_numbers::numbers_ok` meets its contract. Assumes nothing.
 use borrow.Author.Needs.{needs}
-use Rattle.silk.specs.FrameCalls.{numbersOk}
+use Rattle.silk.specs.FrameCalls.{settingOk}
 use Rattle.index_numbers.proofs.numbers_ok.Statement.{statement}
 use Rattle.index_numbers.proofs.numbers_ok.Tie as tie
 
 returns : tie.Need-returns
-unfolding numbersOk
+unfolding settingOk
 returns c = search needs
 
 pub numbers-ok-spec : {M : Type 1} → statement M

@@ -4,9 +4,6 @@ use mathlib.Core.Path.{sym, _∙_}
 use Rattle.index_numbers.proofs.numbers_rule.Statement.{statement}
 use Rattle.index_numbers.proofs.numbers_rule.Tie as tie
 
-numbers-ok-requires : tie.Need-numbers-ok-requires
-numbers-ok-requires c κs = search needs
-
 returns : tie.Need-returns
 returns c = rw (sym (c .before .numbers-ok .ensures) ∙ c .if1 .taken)
 
@@ -14,4 +11,4 @@ returns-2 : tie.Need-returns-2
 returns-2 c = rw (sym (c .before .numbers-ok .ensures) ∙ c .if1 .left)
 
 pub numbers-rule-spec : {M : Type 1} → statement M
-numbers-rule-spec = tie.close (tie.spec numbers-ok-requires returns returns-2)
+numbers-rule-spec = tie.close (tie.spec (λ c κs. search needs) returns returns-2)

@@ -18,36 +18,15 @@ use Rattle.index_pitch_read.proofs.absolute_lag.Tie as tie
 high-most : (h half : ℕ) → h < 32 → half ≤ 8 → h * half ≤ 248
 high-most h half p q = let l : h ≤ 31 = omega arith in mul-le-mul l q
 
-lag-low-start-requires : tie.Need-lag-low-start-requires
-lag-low-start-requires c κs = search needs
-
-cast-end : tie.Need-cast-end
-cast-end c = search needs
-
 add-end : tie.Need-add-end
 add-end c =
     let z = c .before .before .before in
     omega (arith, lag-low-within (z .args .khz) (z .pre .1) .0, c .lag-low-start .ensures)
 
-sub-ec-dec-icdf8-run : tie.Need-sub-ec-dec-icdf8-run
-sub-ec-dec-icdf8-run c = search needs
-
-part-ec-dec-icdf8-run-start : tie.Need-part-ec-dec-icdf8-run-start
-part-ec-dec-icdf8-run-start c = search needs
-
-part-ec-dec-icdf8-run-end : tie.Need-part-ec-dec-icdf8-run-end
-part-ec-dec-icdf8-run-end c = search needs
-
 ec-dec-icdf8-run-requires : tie.Need-ec-dec-icdf8-run-requires
 ec-dec-icdf8-run-requires c κs =
     let z = c .before .before .before .before in
     (z .pre .0 .core, (omega (arith, z .pre .0 .few), lag-row (z .pre .0 .rows) .good))
-
-sub-ec-dec-icdf8-run-2 : tie.Need-sub-ec-dec-icdf8-run-2
-sub-ec-dec-icdf8-run-2 c = search needs
-
-part-ec-dec-icdf8-run-start-2 : tie.Need-part-ec-dec-icdf8-run-start-2
-part-ec-dec-icdf8-run-start-2 c = search needs
 
 part-ec-dec-icdf8-run-end-2 : tie.Need-part-ec-dec-icdf8-run-end-2
 part-ec-dec-icdf8-run-end-2 c =
@@ -111,15 +90,15 @@ pub absolute-lag-spec : {M : Type 1} → statement M
 absolute-lag-spec =
     tie.close
     (tie.spec
-    lag-low-start-requires
-    cast-end
+    (λ c κs. search needs)
+    (λ c. search needs)
     add-end
-    sub-ec-dec-icdf8-run
-    part-ec-dec-icdf8-run-start
-    part-ec-dec-icdf8-run-end
+    (λ c. search needs)
+    (λ c. search needs)
+    (λ c. search needs)
     ec-dec-icdf8-run-requires
-    sub-ec-dec-icdf8-run-2
-    part-ec-dec-icdf8-run-start-2
+    (λ c. search needs)
+    (λ c. search needs)
     part-ec-dec-icdf8-run-end-2
     ec-dec-icdf8-run-requires-2
     mul-out

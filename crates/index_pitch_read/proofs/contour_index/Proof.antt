@@ -12,23 +12,11 @@ use Rattle.silk.specs.IndexSyntax.{contour}
 use Rattle.index_pitch_read.proofs.contour_index.Statement.{statement}
 use Rattle.index_pitch_read.proofs.contour_index.Tie as tie
 
-contour-start-requires : tie.Need-contour-start-requires
-contour-start-requires c κs = search needs
-
-contour-size-requires : tie.Need-contour-size-requires
-contour-size-requires c κs = search needs
-
 add-end : tie.Need-add-end
 add-end c =
     let z = c .before .before .before .before in
     let w = contour-within (z .args .khz) (z .args .subframes) (z .pre .1 .0) (z .pre .1 .1) in
     omega (arith, w .0, c .contour-size .ensures, c .before .contour-start .ensures)
-
-sub-ec-dec-icdf8-run : tie.Need-sub-ec-dec-icdf8-run
-sub-ec-dec-icdf8-run c = search needs
-
-part-ec-dec-icdf8-run-start : tie.Need-part-ec-dec-icdf8-run-start
-part-ec-dec-icdf8-run-start c = search needs
 
 part-ec-dec-icdf8-run-end : tie.Need-part-ec-dec-icdf8-run-end
 part-ec-dec-icdf8-run-end c =
@@ -65,11 +53,11 @@ pub contour-index-spec : {M : Type 1} → statement M
 contour-index-spec =
     tie.close
     (tie.spec
-    contour-start-requires
-    contour-size-requires
+    (λ c κs. search needs)
+    (λ c κs. search needs)
     add-end
-    sub-ec-dec-icdf8-run
-    part-ec-dec-icdf8-run-start
+    (λ c. search needs)
+    (λ c. search needs)
     part-ec-dec-icdf8-run-end
     ec-dec-icdf8-run-requires
     cast-out

@@ -37,9 +37,6 @@ Inv-loop packet rows p n size start end out₀ r₀ k₀ out r k = Going packet 
 abbrev μ-loop : tie.MeasureT-loop
 μ-loop packet rows p n size start end out₀ r₀ k₀ out r k = n - k
 
-shl-size : tie.Need-shl-size Inv-loop μ-loop
-shl-size c = search needs
-
 add-start : tie.Need-add-start Inv-loop μ-loop
 add-start c = let z = c .before .before in omega (arith, size-most (z .args .p) (z .pre .1 .0))
 
@@ -59,12 +56,6 @@ loop-holds c =
       most = omega arith;
     }
 
-sub-ec-dec-icdf8-run : tie.Need-sub-ec-dec-icdf8-run Inv-loop μ-loop
-sub-ec-dec-icdf8-run c = search needs
-
-part-ec-dec-icdf8-run-start : tie.Need-part-ec-dec-icdf8-run-start Inv-loop μ-loop
-part-ec-dec-icdf8-run-start c = search needs
-
 part-ec-dec-icdf8-run-end : tie.Need-part-ec-dec-icdf8-run-end Inv-loop μ-loop
 part-ec-dec-icdf8-run-end c =
     let z = c .before .before .before .before in
@@ -83,15 +74,6 @@ cast-out c =
     let h = z .pre .1 .0 in
     let t = filter-row (z .pre .0 .rows) (z .args .p) _ h (size-is (z .args .p) h) in
     omega (arith, c .before .ec-dec-icdf8-run .ensures .inside, t .size, size-most (z .args .p) h)
-
-element-set-from-out : tie.Need-element-set-from-out Inv-loop μ-loop
-element-set-from-out c = search needs
-
-add-k : tie.Need-add-k Inv-loop μ-loop
-add-k c = search needs
-
-loop-less : tie.Need-loop-less Inv-loop μ-loop
-loop-less c = search needs
 
 loop-again : tie.Need-loop-again Inv-loop μ-loop
 loop-again c =
@@ -123,17 +105,17 @@ filter-indices-spec =
     (tie.spec
     Inv-loop
     μ-loop
-    shl-size
+    (λ c. search needs)
     add-start
     add-end
     loop-holds
-    sub-ec-dec-icdf8-run
-    part-ec-dec-icdf8-run-start
+    (λ c. search needs)
+    (λ c. search needs)
     part-ec-dec-icdf8-run-end
     ec-dec-icdf8-run-requires
     cast-out
-    element-set-from-out
-    add-k
-    loop-less
+    (λ c. search needs)
+    (λ c. search needs)
+    (λ c. search needs)
     loop-again
     returns)

@@ -20,14 +20,8 @@ module _ (v : ℕ) (h : v < 21) where
   delta-fits : SFits w16 (pos v -ℤ pos 9)
   delta-fits = parts-fit (pos v -ℤ pos 9) (omega (arith, up-diff (pos v) (pos 9))) (omega (arith, down-diff (pos v) (pos 9)))
 
-cast-delta : tie.Need-cast-delta
-cast-delta c = search needs
-
 sub-delta : tie.Need-sub-delta
 sub-delta c = rw (symbol-is (c .args .v) (c .pre)) (delta-fits (c .args .v) (c .pre))
-
-add16-requires : tie.Need-add16-requires
-add16-requires c κs = search needs
 
 returns : tie.Need-returns
 returns c =
@@ -37,4 +31,4 @@ returns c =
     toZ-ofZ {w = w16} (sfits-of (c .add16 .ok)) ∙ c .add16 .ensures ∙ ap wrap16 (rw (toZ-ofZ (z .fits .before), e, f))
 
 pub lag-after-spec : {M : Type 1} → statement M
-lag-after-spec = tie.close (tie.spec cast-delta sub-delta add16-requires returns)
+lag-after-spec = tie.close (tie.spec (λ c. search needs) sub-delta (λ c κs. search needs) returns)

@@ -10,15 +10,6 @@ use Rattle.silk.specs.IndexSyntax.{lagAfter, lag}
 use Rattle.index_pitch_read.proofs.lag_index.Statement.{statement}
 use Rattle.index_pitch_read.proofs.lag_index.Tie as tie
 
-sub-ec-dec-icdf8-run : tie.Need-sub-ec-dec-icdf8-run
-sub-ec-dec-icdf8-run c = search needs
-
-part-ec-dec-icdf8-run-start : tie.Need-part-ec-dec-icdf8-run-start
-part-ec-dec-icdf8-run-start c = search needs
-
-part-ec-dec-icdf8-run-end : tie.Need-part-ec-dec-icdf8-run-end
-part-ec-dec-icdf8-run-end c = search needs
-
 ec-dec-icdf8-run-requires : tie.Need-ec-dec-icdf8-run-requires
 ec-dec-icdf8-run-requires c κs =
     let z = c .before .before .before .before in
@@ -54,9 +45,6 @@ returns-2 c =
     (ran-within {n = 16} {m = 48} (omega arith)
     (ran-ask {n = 0} (delta-lag-row (z .pre .0 .rows) .is) (a .ensures) (rw (ne-eqb _ _ (c .before .before .if2 .left)) (ran-done (a .ensures .core)))))
 
-absolute-lag-requires-2 : tie.Need-absolute-lag-requires-2
-absolute-lag-requires-2 c κs = search needs
-
 returns-3 : tie.Need-returns-3
 unfolding lag
 returns-3 c = rw (c .before .if1 .left) (ran-within {n = 32} {m = 48} (omega arith) (c .absolute-lag2 .ensures))
@@ -65,13 +53,13 @@ pub lag-index-spec : {M : Type 1} → statement M
 lag-index-spec =
     tie.close
     (tie.spec
-    sub-ec-dec-icdf8-run
-    part-ec-dec-icdf8-run-start
-    part-ec-dec-icdf8-run-end
+    (λ c. search needs)
+    (λ c. search needs)
+    (λ c. search needs)
     ec-dec-icdf8-run-requires
     absolute-lag-requires
     returns
     lag-after-requires
     returns-2
-    absolute-lag-requires-2
+    (λ c κs. search needs)
     returns-3)

@@ -12,22 +12,10 @@ use Rattle.silk.specs.IndexSyntax.{period}
 use Rattle.index_pitch_read.proofs.period_index.Statement.{statement}
 use Rattle.index_pitch_read.proofs.period_index.Tie as tie
 
-sub-ec-dec-icdf8-run : tie.Need-sub-ec-dec-icdf8-run
-sub-ec-dec-icdf8-run c = search needs
-
-part-ec-dec-icdf8-run-start : tie.Need-part-ec-dec-icdf8-run-start
-part-ec-dec-icdf8-run-start c = search needs
-
-part-ec-dec-icdf8-run-end : tie.Need-part-ec-dec-icdf8-run-end
-part-ec-dec-icdf8-run-end c = search needs
-
 ec-dec-icdf8-run-requires : tie.Need-ec-dec-icdf8-run-requires
 ec-dec-icdf8-run-requires c κs =
     let z = c .before .before .before in
     (z .pre .0 .core, (omega arith, period-row (z .pre .0 .rows) .good))
-
-cast-out : tie.Need-cast-out
-cast-out c = search needs
 
 filter-indices-requires : tie.Need-filter-indices-requires
 filter-indices-requires c κs =
@@ -51,10 +39,10 @@ pub period-index-spec : {M : Type 1} → statement M
 period-index-spec =
     tie.close
     (tie.spec
-    sub-ec-dec-icdf8-run
-    part-ec-dec-icdf8-run-start
-    part-ec-dec-icdf8-run-end
+    (λ c. search needs)
+    (λ c. search needs)
+    (λ c. search needs)
     ec-dec-icdf8-run-requires
-    cast-out
+    (λ c. search needs)
     filter-indices-requires
     returns)

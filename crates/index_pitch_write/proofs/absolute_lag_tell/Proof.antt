@@ -17,12 +17,6 @@ use Rattle.index_pitch_write.proofs.absolute_lag_tell.Tie as tie
 lag-is : (z : tie.Start) → toZ w16 (ofZ w16 (z .args .x .lag)) ≡ z .args .x .lag
 lag-is z = abs-kept w16 _ (z .pre .1 .1 .most) (omega (arith, rate-most (z .pre .1 .0)))
 
-lag-low-start-requires : tie.Need-lag-low-start-requires
-lag-low-start-requires c κs = search needs
-
-cast-end : tie.Need-cast-end
-cast-end c = search needs
-
 add-end : tie.Need-add-end
 add-end c =
     let z = c .before .before .before in
@@ -38,15 +32,6 @@ div-ec-enc-icdf8-run c =
     let z = c .before .before .before .before .before .before in
     omega (arith, low-part (z .args .khz) 0 (z .pre .1 .0))
 
-sub-ec-enc-icdf8-run : tie.Need-sub-ec-enc-icdf8-run
-sub-ec-enc-icdf8-run c = search needs
-
-part-ec-enc-icdf8-run-start : tie.Need-part-ec-enc-icdf8-run-start
-part-ec-enc-icdf8-run-start c = search needs
-
-part-ec-enc-icdf8-run-end : tie.Need-part-ec-enc-icdf8-run-end
-part-ec-enc-icdf8-run-end c = search needs
-
 ec-enc-icdf8-run-requires : tie.Need-ec-enc-icdf8-run-requires
 ec-enc-icdf8-run-requires c κs =
     let z = c .before .before .before .before .before .before .before in
@@ -58,12 +43,6 @@ rem-ec-enc-icdf8-run : tie.Need-rem-ec-enc-icdf8-run
 rem-ec-enc-icdf8-run c =
     let z = c .before .before .before .before .before .before .before .before .before .before .before in
     omega (arith, low-part (z .args .khz) 0 (z .pre .1 .0))
-
-sub-ec-enc-icdf8-run-2 : tie.Need-sub-ec-enc-icdf8-run-2
-sub-ec-enc-icdf8-run-2 c = search needs
-
-part-ec-enc-icdf8-run-start-2 : tie.Need-part-ec-enc-icdf8-run-start-2
-part-ec-enc-icdf8-run-start-2 c = search needs
 
 part-ec-enc-icdf8-run-end-2 : tie.Need-part-ec-enc-icdf8-run-end-2
 part-ec-enc-icdf8-run-end-2 c =
@@ -78,9 +57,6 @@ ec-enc-icdf8-run-requires-2 c κs =
     let e = c .before .before .before .before .before .before .before .before .before .lag-low-start .ensures in
     let t = lag-low-row (z .pre .0 .rows) _ _ (z .pre .1 .0) e in
     (h .ensures .core, (omega (arith, z .pre .0 .few, h .ensures .most), (t .good, t .writable _ (low-part (z .args .khz) _ (z .pre .1 .0)))))
-
-same-length : tie.Need-same-length
-same-length c = search needs
 
 returns : tie.Need-returns
 unfolding absoluteLag
@@ -98,19 +74,19 @@ pub absolute-lag-tell-spec : {M : Type 1} → statement M
 absolute-lag-tell-spec =
     tie.close
     (tie.spec
-    lag-low-start-requires
-    cast-end
+    (λ c κs. search needs)
+    (λ c. search needs)
     add-end
     cast-value
     div-ec-enc-icdf8-run
-    sub-ec-enc-icdf8-run
-    part-ec-enc-icdf8-run-start
-    part-ec-enc-icdf8-run-end
+    (λ c. search needs)
+    (λ c. search needs)
+    (λ c. search needs)
     ec-enc-icdf8-run-requires
     rem-ec-enc-icdf8-run
-    sub-ec-enc-icdf8-run-2
-    part-ec-enc-icdf8-run-start-2
+    (λ c. search needs)
+    (λ c. search needs)
     part-ec-enc-icdf8-run-end-2
     ec-enc-icdf8-run-requires-2
-    same-length
+    (λ c. search needs)
     returns)

@@ -21,12 +21,6 @@ within z = contour-within (z .args .khz) (z .args .subframes) (z .pre .1 .0) (z 
 contour-is : (z : tie.Start) → toZ w8 (ofZ w8 (z .args .x .contour)) ≡ z .args .x .contour
 contour-is z = abs-kept w8 _ (z .pre .1 .2 .most) (omega (arith, within z .1))
 
-contour-start-requires : tie.Need-contour-start-requires
-contour-start-requires c κs = search needs
-
-contour-size-requires : tie.Need-contour-size-requires
-contour-size-requires c κs = search needs
-
 add-end : tie.Need-add-end
 add-end c =
     let z = c .before .before .before .before in
@@ -36,12 +30,6 @@ cast-ec-enc-icdf8-run : tie.Need-cast-ec-enc-icdf8-run
 cast-ec-enc-icdf8-run c =
     let z = c .before .before .before .before .before .before .before in
     rw (contour-is z) (upto-fits (z .args .x .contour) (omega (arith, within z .1)) (z .pre .1 .2))
-
-sub-ec-enc-icdf8-run : tie.Need-sub-ec-enc-icdf8-run
-sub-ec-enc-icdf8-run c = search needs
-
-part-ec-enc-icdf8-run-start : tie.Need-part-ec-enc-icdf8-run-start
-part-ec-enc-icdf8-run-start c = search needs
 
 part-ec-enc-icdf8-run-end : tie.Need-part-ec-enc-icdf8-run-end
 part-ec-enc-icdf8-run-end c =
@@ -59,9 +47,6 @@ ec-enc-icdf8-run-requires c κs =
     rw (contour-is z)
     (z .pre .0 .core, (omega (arith, z .pre .0 .few), (t .good, t .writable _ (omega (arith, z .pre .1 .2 .most, n, t .size, t .good .some)))))
 
-same-length : tie.Need-same-length
-same-length c = search needs
-
 returns : tie.Need-returns
 unfolding contour
 returns c =
@@ -76,13 +61,13 @@ pub contour-tell-spec : {M : Type 1} → statement M
 contour-tell-spec =
     tie.close
     (tie.spec
-    contour-start-requires
-    contour-size-requires
+    (λ c κs. search needs)
+    (λ c κs. search needs)
     add-end
     cast-ec-enc-icdf8-run
-    sub-ec-enc-icdf8-run
-    part-ec-enc-icdf8-run-start
+    (λ c. search needs)
+    (λ c. search needs)
     part-ec-enc-icdf8-run-end
     ec-enc-icdf8-run-requires
-    same-length
+    (λ c. search needs)
     returns)

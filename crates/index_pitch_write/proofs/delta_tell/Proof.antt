@@ -8,23 +8,11 @@ use Rattle.silk.specs.IndexSyntax.{lag}
 use Rattle.index_pitch_write.proofs.delta_tell.Statement.{statement}
 use Rattle.index_pitch_write.proofs.delta_tell.Tie as tie
 
-sub-ec-enc-icdf8-run : tie.Need-sub-ec-enc-icdf8-run
-sub-ec-enc-icdf8-run c = search needs
-
-part-ec-enc-icdf8-run-start : tie.Need-part-ec-enc-icdf8-run-start
-part-ec-enc-icdf8-run-start c = search needs
-
-part-ec-enc-icdf8-run-end : tie.Need-part-ec-enc-icdf8-run-end
-part-ec-enc-icdf8-run-end c = search needs
-
 ec-enc-icdf8-run-requires : tie.Need-ec-enc-icdf8-run-requires
 ec-enc-icdf8-run-requires c κs =
     let z = c .before .before .before .before .before in
     let t = delta-lag-row (z .pre .rows) in
     (z .pre .core, (omega (arith, z .pre .few), (t .good, t .writable _ (omega arith))))
-
-same-length : tie.Need-same-length
-same-length c = search needs
 
 returns : tie.Need-returns
 unfolding lag
@@ -43,10 +31,10 @@ pub delta-tell-spec : {M : Type 1} → statement M
 delta-tell-spec =
     tie.close
     (tie.spec
-    sub-ec-enc-icdf8-run
-    part-ec-enc-icdf8-run-start
-    part-ec-enc-icdf8-run-end
+    (λ c. search needs)
+    (λ c. search needs)
+    (λ c. search needs)
     ec-enc-icdf8-run-requires
-    same-length
+    (λ c. search needs)
     returns
     returns-2)

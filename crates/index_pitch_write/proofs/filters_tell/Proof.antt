@@ -35,9 +35,6 @@ Inv-loop buf₀ rows p n x size start end q₀ k₀ buf q k = Going (out buf₀ 
 abbrev μ-loop : tie.MeasureT-loop
 μ-loop buf₀ rows p n x size start end q₀ k₀ buf q k = n - k
 
-shl-size : tie.Need-shl-size Inv-loop μ-loop
-shl-size c = search needs
-
 add-start : tie.Need-add-start Inv-loop μ-loop
 add-start c = let z = c .before .before in omega (arith, size-most (z .args .p) (z .pre .1 .0))
 
@@ -68,12 +65,6 @@ cast-ec-enc-icdf8-run c =
     rw (filter-is (z .args .p) h u)
     (upto-fits (getD (z .args .t4 .ltp) (l .k) (pos 0)) (omega (arith, size-is (z .args .p) h, size-most (z .args .p) h)) u)
 
-sub-ec-enc-icdf8-run : tie.Need-sub-ec-enc-icdf8-run Inv-loop μ-loop
-sub-ec-enc-icdf8-run c = search needs
-
-part-ec-enc-icdf8-run-start : tie.Need-part-ec-enc-icdf8-run-start Inv-loop μ-loop
-part-ec-enc-icdf8-run-start c = search needs
-
 part-ec-enc-icdf8-run-end : tie.Need-part-ec-enc-icdf8-run-end Inv-loop μ-loop
 part-ec-enc-icdf8-run-end c =
     let z = c .before .before .before .before .before .before in
@@ -89,12 +80,6 @@ ec-enc-icdf8-run-requires c κs =
     let t = filter-row (z .pre .0 .rows) (z .args .p) _ h e in
     let few : l .q .total ≤ 2 ^ 30 = omega (arith, z .pre .0 .few, l .inv .told .most, l .inv .to, subframes-most (z .pre .1 .1)) in
     rw (filter-is (z .args .p) h u) (l .inv .told .core, (few, (t .good, t .writable _ (omega (arith, u .most, e, t .size, t .good .some)))))
-
-add-k : tie.Need-add-k Inv-loop μ-loop
-add-k c = search needs
-
-loop-less : tie.Need-loop-less Inv-loop μ-loop
-loop-less c = search needs
 
 loop-again : tie.Need-loop-again Inv-loop μ-loop
 loop-again c =
@@ -129,18 +114,18 @@ filters-tell-spec =
     (tie.spec
     Inv-loop
     μ-loop
-    shl-size
+    (λ c. search needs)
     add-start
     add-end
     loop-holds
     element-copy-out-ec-enc-icdf8-run
     cast-ec-enc-icdf8-run
-    sub-ec-enc-icdf8-run
-    part-ec-enc-icdf8-run-start
+    (λ c. search needs)
+    (λ c. search needs)
     part-ec-enc-icdf8-run-end
     ec-enc-icdf8-run-requires
-    add-k
-    loop-less
+    (λ c. search needs)
+    (λ c. search needs)
     loop-again
     same-length
     returns)

@@ -5,17 +5,11 @@ use lib.IntN.{pos}
 use Rattle.index_pitch_write.proofs.lag_tell.Statement.{statement}
 use Rattle.index_pitch_write.proofs.lag_tell.Tie as tie
 
-delta-tell-requires : tie.Need-delta-tell-requires
-delta-tell-requires c κs = search needs
-
 absolute-lag-tell-requires : tie.Need-absolute-lag-tell-requires
 absolute-lag-tell-requires c κs =
     let z = c .before .before .before .before .before .before .before in
     let d = c .before .before .before .delta-tell .ensures (z .args .khz) (pos 0) (z .args .x) in
     (record { core = d .core; few = omega (arith, d .most, z .pre .0 .few); rows = z .pre .0 .rows }, z .pre .1)
-
-same-length : tie.Need-same-length
-same-length c = search needs
 
 returns : tie.Need-returns
 returns c =
@@ -32,4 +26,4 @@ returns c =
 
 pub lag-tell-spec : {M : Type 1} → statement M
 lag-tell-spec =
-    tie.close (tie.spec delta-tell-requires absolute-lag-tell-requires same-length returns)
+    tie.close (tie.spec (λ c κs. search needs) absolute-lag-tell-requires (λ c. search needs) returns)

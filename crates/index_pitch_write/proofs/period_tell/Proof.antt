@@ -23,15 +23,6 @@ cast-p c =
     let z = c .before .before .before .before in
     rw (period-is z) (upto-fits (z .args .x .period) (omega arith) (z .pre .1 .0 .1))
 
-sub-ec-enc-icdf8-run : tie.Need-sub-ec-enc-icdf8-run
-sub-ec-enc-icdf8-run c = search needs
-
-part-ec-enc-icdf8-run-start : tie.Need-part-ec-enc-icdf8-run-start
-part-ec-enc-icdf8-run-start c = search needs
-
-part-ec-enc-icdf8-run-end : tie.Need-part-ec-enc-icdf8-run-end
-part-ec-enc-icdf8-run-end c = search needs
-
 ec-enc-icdf8-run-requires : tie.Need-ec-enc-icdf8-run-requires
 ec-enc-icdf8-run-requires c κs =
     let z = c .before .before .before .before .before .before in
@@ -46,9 +37,6 @@ filters-tell-requires c κs =
       record { core = a .ensures .core; few = omega (arith, a .ensures .most, z .pre .0 .few); rows = z .pre .0 .rows },
       (omega (arith, z .pre .1 .0 .1 .most), z .pre .1 .0 .0, z .pre .1 .1),
     )
-
-same-length : tie.Need-same-length
-same-length c = search needs
 
 returns : tie.Need-returns
 unfolding period
@@ -68,10 +56,10 @@ period-tell-spec =
     tie.close
     (tie.spec
     cast-p
-    sub-ec-enc-icdf8-run
-    part-ec-enc-icdf8-run-start
-    part-ec-enc-icdf8-run-end
+    (λ c. search needs)
+    (λ c. search needs)
+    (λ c. search needs)
     ec-enc-icdf8-run-requires
     filters-tell-requires
-    same-length
+    (λ c. search needs)
     returns)

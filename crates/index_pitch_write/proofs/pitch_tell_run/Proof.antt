@@ -1,11 +1,14 @@
 -- `index_pitch_write::pitch_tell_run` meets its contract: lag, contour, filters, scale. Assumes nothing.
 use borrow.Author.Needs.{needs}
-use Prim.Native.Nat.{_+_, _^_}
+use Prim.Native.Nat.{ℕ, _+_, _^_, _≤_}
+use mathlib.Core.List.{List}
 use native.Mathlib.Omega.{arith}
-use lib.IntN.{pos}
+use Rattle.entcode.specs.declared.Enc.{Enc}
+use Rattle.entcode.specs.Flat.{out}
 use Rattle.tree.specs.Says.{says-means}
 use Rattle.tree.specs.Told.{told-then}
-use Rattle.silk.specs.IndexSyntax.{pitch}
+use Rattle.silk.specs.IndexRows.{Writing}
+use Rattle.silk.specs.IndexSyntax.{relativeLag, pitch}
 use Rattle.silk.specs.IndexRanges.{Shape}
 use Rattle.silk.specs.IndexSays.{lag-says, contour-says, period-says}
 use Rattle.silk.specs.IndexTold.{writing-next}
@@ -15,52 +18,68 @@ use Rattle.index_pitch_write.proofs.pitch_tell_run.Tie as tie
 shape : (z : tie.Start) → Shape (z .args .x)
 shape z = record { gains = search needs; ltp = search needs; nlsf = search needs }
 
+-- ---- a writer for the next part, behind each part; its total is at most n
+
+abbrev Ready : tie.Start → List ℕ → Enc → ℕ → Type 0
+Ready z b w n = Writing (out b w) (z .args .rows .now) n
+
+abbrev lag-start : tie.After-lag-tell → tie.Start
+lag-start c = c .before .before .before .before .before .before
+
+lag-told : (c : tie.After-lag-tell) (n : ℕ) → 2 ^ 27 + 48 ≤ n → Ready (lag-start c) (c .lag-tell .last .0) (c .lag-tell .result) n
+lag-told c n h = let z = lag-start c in writing-next n (z .pre .0) (c .lag-tell .ensures (z .args .s .prevlag)) h
+
+abbrev contour-lag : tie.After-contour-tell → tie.After-lag-tell
+contour-lag c = c .before .before .before .before
+
+contour-told : (c : tie.After-contour-tell) (n : ℕ) → 2 ^ 27 + 64 ≤ n
+    → Ready (lag-start (contour-lag c)) (c .contour-tell .last .0) (c .contour-tell .result) n
+contour-told c n h = writing-next n (lag-told (contour-lag c) (2 ^ 27 + 48) (omega arith)) (c .contour-tell .ensures) h
+
+abbrev period-contour : tie.After-period-tell → tie.After-contour-tell
+period-contour c = c .before .before .before .before
+
+period-told : (c : tie.After-period-tell) (n : ℕ) → 2 ^ 27 + 144 ≤ n
+    → Ready (lag-start (contour-lag (period-contour c))) (c .period-tell .last .0) (c .period-tell .result) n
+period-told c n h = writing-next n (contour-told (period-contour c) (2 ^ 27 + 64) (omega arith)) (c .period-tell .ensures) h
+
+-- ---- the calls
+
 lag-tell-requires : tie.Need-lag-tell-requires
 lag-tell-requires c κs =
-    let z = c .before .before .before in
+    let z = c .before .before .before .before .before in
     (record { core = z .pre .0 .core; few = omega (arith, z .pre .0 .few); rows = z .pre .0 .rows }, (z .pre .1 .0, z .pre .1 .2 .lag))
 
 contour-tell-requires : tie.Need-contour-tell-requires
 contour-tell-requires c κs =
-    let z = c .before .before .before .before .before .before .before in
-    let l = c .before .before .before .lag-tell .ensures (pos 0) in
-    let t = z .pre .1 in
-    (writing-next (2 ^ 29) (z .pre .0) l (omega arith), (t .0, t .1, t .2 .contour))
+    let l = c .before .before .before in
+    let t = lag-start l .pre .1 in
+    (lag-told l (2 ^ 29) (omega arith), (t .0, t .1, t .2 .contour))
 
 period-tell-requires : tie.Need-period-tell-requires
 period-tell-requires c κs =
-    let z = c .before .before .before .before .before .before .before .before .before .before .before in
-    let l = c .before .before .before .before .before .before .before .lag-tell .ensures (pos 0) in
-    let t = z .pre .1 in
-    let w = writing-next (2 ^ 27 + 48) (z .pre .0) l (omega arith) in
-    (writing-next (2 ^ 28) w (c .before .before .before .contour-tell .ensures) (omega arith), ((t .1, t .2 .period), t .2 .filters))
+    let k = c .before .before .before in
+    let t = lag-start (contour-lag k) .pre .1 in
+    (contour-told k (2 ^ 28) (omega arith), ((t .1, t .2 .period), t .2 .filters))
 
 scale-tell-requires : tie.Need-scale-tell-requires
 scale-tell-requires c κs =
-    let z = c .before .before .before .before .before .before .before .before .before .before .before .before .before .before .before in
-    let l = c .before .before .before .before .before .before .before .before .before .before .before .lag-tell .ensures (pos 0) in
-    let w = writing-next (2 ^ 27 + 48) (z .pre .0) l (omega arith) in
-    let v = writing-next (2 ^ 27 + 64) w (c .before .before .before .before .before .before .before .contour-tell .ensures) (omega arith) in
-    (writing-next (2 ^ 29) v (c .before .before .before .period-tell .ensures) (omega arith), z .pre .1 .2 .scale)
-
-same-length : tie.Need-same-length
-same-length c = search needs
+    let p = c .before .before .before in
+    (period-told p (2 ^ 29) (omega arith), lag-start (contour-lag (period-contour p)) .pre .1 .2 .scale)
 
 returns : tie.Need-returns
 unfolding pitch
 returns c =
-    let z = c .before .before .before .before .before .before .before .before .before .before .before .before .before .before .before .before .before .before in
+    let p = c .before .before .before .before .before .before in
+    let k = period-contour p in
+    let l = contour-lag k in
+    let z = lag-start l in
     let x = z .args .x in
-    let r = z .pre .1 .0 in
-    let f = z .pre .1 .1 in
-    let t = z .pre .1 .2 in
-    let l = c .before .before .before .before .before .before .before .before .before .before .before .before .before .before .lag-tell in
-    let k = c .before .before .before .before .before .before .before .before .before .before .contour-tell in
-    let p = c .before .before .before .before .before .before .period-tell in
-    λ before.
-    told-then _ (says-means (lag-says (z .args .relative) (z .args .khz) before x r (t .lag))) (l .ensures before)
-    (told-then _ (says-means (contour-says _ _ _ x r f (shape z) t)) (k .ensures)
-    (told-then _ (says-means (period-says _ _ _ x r f (shape z) t)) (p .ensures) (c .before .before .scale-tell .ensures)))
+    let s = z .args .s in
+    let t = z .pre .1 in
+    told-then _ (says-means (lag-says (relativeLag s) (s .khz) (s .prevlag) x (t .0) (t .2 .lag))) (l .lag-tell .ensures (s .prevlag))
+    (told-then _ (says-means (contour-says s x (t .0) (t .1) (shape z) (t .2))) (k .contour-tell .ensures)
+    (told-then _ (says-means (period-says s x (t .0) (t .1) (shape z) (t .2))) (p .period-tell .ensures) (c .before .before .scale-tell .ensures)))
 
 pub pitch-tell-run-spec : {M : Type 1} → statement M
 pitch-tell-run-spec =
@@ -70,5 +89,5 @@ pitch-tell-run-spec =
     contour-tell-requires
     period-tell-requires
     scale-tell-requires
-    same-length
+    (λ c. search needs)
     returns)

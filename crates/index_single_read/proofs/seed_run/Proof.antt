@@ -12,22 +12,10 @@ use Rattle.silk.specs.IndexSyntax.{seed}
 use Rattle.index_single_read.proofs.seed_run.Statement.{statement}
 use Rattle.index_single_read.proofs.seed_run.Tie as tie
 
-sub-ec-dec-icdf8-run : tie.Need-sub-ec-dec-icdf8-run
-sub-ec-dec-icdf8-run c = search needs
-
-part-ec-dec-icdf8-run-start : tie.Need-part-ec-dec-icdf8-run-start
-part-ec-dec-icdf8-run-start c = search needs
-
-part-ec-dec-icdf8-run-end : tie.Need-part-ec-dec-icdf8-run-end
-part-ec-dec-icdf8-run-end c = search needs
-
 ec-dec-icdf8-run-requires : tie.Need-ec-dec-icdf8-run-requires
 ec-dec-icdf8-run-requires c κs =
     let z = c .before .before .before in
     (z .pre .core, (omega arith, seed-row (z .pre .rows) .good))
-
-cast-out : tie.Need-cast-out
-cast-out c = search needs
 
 returns : tie.Need-returns
 unfolding seed
@@ -42,9 +30,9 @@ pub seed-run-spec : {M : Type 1} → statement M
 seed-run-spec =
     tie.close
     (tie.spec
-    sub-ec-dec-icdf8-run
-    part-ec-dec-icdf8-run-start
-    part-ec-dec-icdf8-run-end
+    (λ c. search needs)
+    (λ c. search needs)
+    (λ c. search needs)
     ec-dec-icdf8-run-requires
-    cast-out
+    (λ c. search needs)
     returns)

@@ -19,18 +19,6 @@ signal-is z = abs-kept w8 _ (z .pre .1 .1 .0 .most) (omega arith)
 offset-is : (z : tie.Start) → toZ w8 (ofZ w8 (z .args .x .offset)) ≡ z .args .x .offset
 offset-is z = abs-kept w8 _ (z .pre .1 .1 .1 .most) (omega arith)
 
-mul-base : tie.Need-mul-base
-mul-base c = search needs
-
-cast-start : tie.Need-cast-start
-cast-start c = search needs
-
-add-end : tie.Need-add-end
-add-end c = search needs
-
-add-end-2 : tie.Need-add-end-2
-add-end-2 c = search needs
-
 cast-kind : tie.Need-cast-kind
 cast-kind c =
     let z = c .before .before .before .before in
@@ -56,24 +44,12 @@ sub-ec-enc-icdf8-run c =
     let z = c .before .before .before .before .before .before .before in
     rw (signal-is z, offset-is z) (omega (arith, z .pre .1 .0 .1 .least))
 
-sub-ec-enc-icdf8-run-2 : tie.Need-sub-ec-enc-icdf8-run-2
-sub-ec-enc-icdf8-run-2 c = search needs
-
-part-ec-enc-icdf8-run-start : tie.Need-part-ec-enc-icdf8-run-start
-part-ec-enc-icdf8-run-start c = search needs
-
-part-ec-enc-icdf8-run-end : tie.Need-part-ec-enc-icdf8-run-end
-part-ec-enc-icdf8-run-end c = search needs
-
 ec-enc-icdf8-run-requires : tie.Need-ec-enc-icdf8-run-requires
 ec-enc-icdf8-run-requires c κs =
     let z = c .before .before .before .before .before .before .before .before in
     let t = type-row (z .pre .0 .rows) (z .args .active) (z .pre .1 .0 .0) in
     let k = z .pre .1 .0 .1 in
     rw (signal-is z, offset-is z) (z .pre .0 .core, (omega (arith, z .pre .0 .few), (t .good, t .writable _ (omega (arith, k .least, k .most)))))
-
-same-length : tie.Need-same-length
-same-length c = search needs
 
 returns : tie.Need-returns
 unfolding kind
@@ -87,18 +63,18 @@ pub kind-tell-run-spec : {M : Type 1} → statement M
 kind-tell-run-spec =
     tie.close
     (tie.spec
-    mul-base
-    cast-start
-    add-end
-    add-end-2
+    (λ c. search needs)
+    (λ c. search needs)
+    (λ c. search needs)
+    (λ c. search needs)
     cast-kind
     mul-kind
     cast-kind-2
     add-kind
     sub-ec-enc-icdf8-run
-    sub-ec-enc-icdf8-run-2
-    part-ec-enc-icdf8-run-start
-    part-ec-enc-icdf8-run-end
+    (λ c. search needs)
+    (λ c. search needs)
+    (λ c. search needs)
     ec-enc-icdf8-run-requires
-    same-length
+    (λ c. search needs)
     returns)

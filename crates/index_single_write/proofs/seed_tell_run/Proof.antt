@@ -20,23 +20,11 @@ cast-ec-enc-icdf8-run c =
     let z = c .before .before .before .before .before in
     rw (seed-is z) (upto-fits (z .args .x .seed) (omega arith) (z .pre .1))
 
-sub-ec-enc-icdf8-run : tie.Need-sub-ec-enc-icdf8-run
-sub-ec-enc-icdf8-run c = search needs
-
-part-ec-enc-icdf8-run-start : tie.Need-part-ec-enc-icdf8-run-start
-part-ec-enc-icdf8-run-start c = search needs
-
-part-ec-enc-icdf8-run-end : tie.Need-part-ec-enc-icdf8-run-end
-part-ec-enc-icdf8-run-end c = search needs
-
 ec-enc-icdf8-run-requires : tie.Need-ec-enc-icdf8-run-requires
 ec-enc-icdf8-run-requires c κs =
     let z = c .before .before .before .before .before .before in
     let t = seed-row (z .pre .0 .rows) in
     rw (seed-is z) (z .pre .0 .core, (omega (arith, z .pre .0 .few), (t .good, t .writable _ (omega (arith, z .pre .1 .most)))))
-
-same-length : tie.Need-same-length
-same-length c = search needs
 
 returns : tie.Need-returns
 unfolding seed
@@ -50,9 +38,9 @@ seed-tell-run-spec =
     tie.close
     (tie.spec
     cast-ec-enc-icdf8-run
-    sub-ec-enc-icdf8-run
-    part-ec-enc-icdf8-run-start
-    part-ec-enc-icdf8-run-end
+    (λ c. search needs)
+    (λ c. search needs)
+    (λ c. search needs)
     ec-enc-icdf8-run-requires
-    same-length
+    (λ c. search needs)
     returns)

@@ -19,9 +19,6 @@ module _ (v : ℕ) (h : v < 9) where
   fits : SFits w8 (pos v -ℤ pos 4)
   fits = parts-fit (pos v -ℤ pos 4) (omega (arith, up-diff (pos v) (pos 4))) (omega (arith, down-diff (pos v) (pos 4)))
 
-cast-result : tie.Need-cast-result
-cast-result c = search needs
-
 sub-result : tie.Need-sub-result
 sub-result c = rw (symbol-is (c .args .v) (c .pre)) (fits (c .args .v) (c .pre))
 
@@ -29,4 +26,4 @@ returns : tie.Need-returns
 returns c = rw (symbol-is (c .args .v) (c .pre), toZ-ofZ (fits (c .args .v) (c .pre)))
 
 pub centred-spec : {M : Type 1} → statement M
-centred-spec = tie.close (tie.spec cast-result sub-result returns)
+centred-spec = tie.close (tie.spec (λ c. search needs) sub-result returns)

@@ -23,9 +23,6 @@ module _ (e : ℕ) (h : e < 7) where
   fits : SFits w8 (negsuc (3 + e))
   fits = parts-fit (negsuc (3 + e)) (omega arith) (omega arith)
 
-cast-result : tie.Need-cast-result
-cast-result c = search needs
-
 sub-result : tie.Need-sub-result
 sub-result c = rw (symbol-is (c .args .extension) (c .pre), lower-is (c .args .extension) (c .pre)) (fits (c .args .extension) (c .pre))
 
@@ -34,4 +31,4 @@ returns c =
     rw (symbol-is (c .args .extension) (c .pre), lower-is (c .args .extension) (c .pre), toZ-ofZ (fits (c .args .extension) (c .pre)))
 
 pub lowered-spec : {M : Type 1} → statement M
-lowered-spec = tie.close (tie.spec cast-result sub-result returns)
+lowered-spec = tie.close (tie.spec (λ c. search needs) sub-result returns)

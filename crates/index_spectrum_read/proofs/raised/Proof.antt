@@ -7,14 +7,8 @@ use mir.Facts.{toZ-pos}
 use Rattle.index_spectrum_read.proofs.raised.Statement.{statement}
 use Rattle.index_spectrum_read.proofs.raised.Tie as tie
 
-add-result : tie.Need-add-result
-add-result c = search needs
-
-cast-result : tie.Need-cast-result
-cast-result c = search needs
-
 returns : tie.Need-returns
 returns c = toZ-pos w8 {n = 4 + c .args .extension} (omega (arith, c .pre))
 
 pub raised-spec : {M : Type 1} → statement M
-raised-spec = tie.close (tie.spec add-result cast-result returns)
+raised-spec = tie.close (tie.spec (λ c. search needs) (λ c. search needs) returns)

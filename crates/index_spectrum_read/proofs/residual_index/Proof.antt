@@ -14,46 +14,16 @@ use Rattle.silk.specs.IndexSyntax.{residual}
 use Rattle.index_spectrum_read.proofs.residual_index.Statement.{statement}
 use Rattle.index_spectrum_read.proofs.residual_index.Tie as tie
 
-mul-start : tie.Need-mul-start
-mul-start c = search needs
-
-add-start : tie.Need-add-start
-add-start c = search needs
-
-add-end : tie.Need-add-end
-add-end c = search needs
-
-sub-ec-dec-icdf8-run : tie.Need-sub-ec-dec-icdf8-run
-sub-ec-dec-icdf8-run c = search needs
-
-part-ec-dec-icdf8-run-start : tie.Need-part-ec-dec-icdf8-run-start
-part-ec-dec-icdf8-run-start c = search needs
-
-part-ec-dec-icdf8-run-end : tie.Need-part-ec-dec-icdf8-run-end
-part-ec-dec-icdf8-run-end c = search needs
-
 ec-dec-icdf8-run-requires : tie.Need-ec-dec-icdf8-run-requires
 ec-dec-icdf8-run-requires c κs =
     let z = c .before .before .before in
     (z .pre .0 .core, (omega arith, residual-row (z .pre .0 .rows) (z .args .k) (z .pre .1) .good))
-
-sub-ec-dec-icdf8-run-2 : tie.Need-sub-ec-dec-icdf8-run-2
-sub-ec-dec-icdf8-run-2 c = search needs
-
-part-ec-dec-icdf8-run-start-2 : tie.Need-part-ec-dec-icdf8-run-start-2
-part-ec-dec-icdf8-run-start-2 c = search needs
-
-part-ec-dec-icdf8-run-end-2 : tie.Need-part-ec-dec-icdf8-run-end-2
-part-ec-dec-icdf8-run-end-2 c = search needs
 
 ec-dec-icdf8-run-requires-2 : tie.Need-ec-dec-icdf8-run-requires-2
 ec-dec-icdf8-run-requires-2 c κs =
     let z = c .before .before .before .before .before .before .before in
     let a = c .before .before .before .ec-dec-icdf8-run in
     (a .ensures .core, (omega (arith, a .ensures .most, z .pre .0 .few), extension-row (z .pre .0 .rows) .good))
-
-lowered-requires : tie.Need-lowered-requires
-lowered-requires c κs = search needs
 
 returns : tie.Need-returns
 unfolding residual
@@ -68,23 +38,11 @@ returns c =
     (rw (eq-eqb _ _ (c .before .before .before .before .if1 .taken))
     (ran-ask (extension-row (z .pre .0 .rows) .is) (x .ensures) (ran-done (x .ensures .core)))))
 
-sub-ec-dec-icdf8-run-3 : tie.Need-sub-ec-dec-icdf8-run-3
-sub-ec-dec-icdf8-run-3 c = search needs
-
-part-ec-dec-icdf8-run-start-3 : tie.Need-part-ec-dec-icdf8-run-start-3
-part-ec-dec-icdf8-run-start-3 c = search needs
-
-part-ec-dec-icdf8-run-end-3 : tie.Need-part-ec-dec-icdf8-run-end-3
-part-ec-dec-icdf8-run-end-3 c = search needs
-
 ec-dec-icdf8-run-requires-3 : tie.Need-ec-dec-icdf8-run-requires-3
 ec-dec-icdf8-run-requires-3 c κs =
     let z = c .before .before .before .before .before .before .before .before .before in
     let a = c .before .before .before .before .before .ec-dec-icdf8-run in
     (a .ensures .core, (omega (arith, a .ensures .most, z .pre .0 .few), extension-row (z .pre .0 .rows) .good))
-
-raised-requires : tie.Need-raised-requires
-raised-requires c κs = search needs
 
 returns-2 : tie.Need-returns-2
 unfolding residual
@@ -98,9 +56,6 @@ returns-2 c =
     (ran-ask {n = 16} (residual-row (z .pre .0 .rows) (z .args .k) (z .pre .1) .is) (a .ensures)
     (rw (ne-eqb _ _ (c .before .before .before .before .before .before .if1 .left), eq-eqb _ _ (c .before .before .before .before .if2 .taken))
     (ran-ask (extension-row (z .pre .0 .rows) .is) (x .ensures) (ran-done (x .ensures .core)))))
-
-centred-requires : tie.Need-centred-requires
-centred-requires c κs = search needs
 
 returns-3 : tie.Need-returns-3
 unfolding residual
@@ -119,24 +74,24 @@ pub residual-index-spec : {M : Type 1} → statement M
 residual-index-spec =
     tie.close
     (tie.spec
-    mul-start
-    add-start
-    add-end
-    sub-ec-dec-icdf8-run
-    part-ec-dec-icdf8-run-start
-    part-ec-dec-icdf8-run-end
+    (λ c. search needs)
+    (λ c. search needs)
+    (λ c. search needs)
+    (λ c. search needs)
+    (λ c. search needs)
+    (λ c. search needs)
     ec-dec-icdf8-run-requires
-    sub-ec-dec-icdf8-run-2
-    part-ec-dec-icdf8-run-start-2
-    part-ec-dec-icdf8-run-end-2
+    (λ c. search needs)
+    (λ c. search needs)
+    (λ c. search needs)
     ec-dec-icdf8-run-requires-2
-    lowered-requires
+    (λ c κs. search needs)
     returns
-    sub-ec-dec-icdf8-run-3
-    part-ec-dec-icdf8-run-start-3
-    part-ec-dec-icdf8-run-end-3
+    (λ c. search needs)
+    (λ c. search needs)
+    (λ c. search needs)
     ec-dec-icdf8-run-requires-3
-    raised-requires
+    (λ c κs. search needs)
     returns-2
-    centred-requires
+    (λ c κs. search needs)
     returns-3)

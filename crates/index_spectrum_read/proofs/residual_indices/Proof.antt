@@ -39,9 +39,6 @@ abbrev μ-loop : tie.MeasureT-loop
 mul-base : tie.Need-mul-base Inv-loop μ-loop
 mul-base c = let z = c .before .before .before in omega (arith, rate-most (z .pre .1 .0))
 
-cast-base : tie.Need-cast-base Inv-loop μ-loop
-cast-base c = search needs
-
 loop-holds : tie.Need-loop-holds Inv-loop μ-loop
 loop-holds c =
     let z = c .before .before .before in
@@ -70,18 +67,6 @@ residual-index-requires c κs =
     let z = c .before .before .before .before .before .before in
     let i = c .before .before .loop .inv in
     (record { core = i .core; few = omega (arith, z .pre .0 .few, i .most); rows = z .pre .0 .rows }, omega (arith, rate-most (z .pre .1 .0), c .residual-pick-run .ensures))
-
-add-value : tie.Need-add-value Inv-loop μ-loop
-add-value c = search needs
-
-element-set-from-value : tie.Need-element-set-from-value Inv-loop μ-loop
-element-set-from-value c = search needs
-
-add-i : tie.Need-add-i Inv-loop μ-loop
-add-i c = search needs
-
-loop-less : tie.Need-loop-less Inv-loop μ-loop
-loop-less c = search needs
 
 loop-again : tie.Need-loop-again Inv-loop μ-loop
 loop-again c =
@@ -115,14 +100,14 @@ residual-indices-spec =
     Inv-loop
     μ-loop
     mul-base
-    cast-base
+    (λ c. search needs)
     loop-holds
     residual-pick-run-requires
     add-residual-index
     residual-index-requires
-    add-value
-    element-set-from-value
-    add-i
-    loop-less
+    (λ c. search needs)
+    (λ c. search needs)
+    (λ c. search needs)
+    (λ c. search needs)
     loop-again
     returns)

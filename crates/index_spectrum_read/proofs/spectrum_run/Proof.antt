@@ -21,30 +21,6 @@ use Rattle.index_spectrum_read.proofs.spectrum_run.Tie as tie
 below-four : (z : tie.Start) → z .args .khz / 16 * 2 + z .args .signal / 2 < 4
 below-four z = omega (arith, rate-most (z .pre .1 .0), z .pre .1 .1)
 
-mul-k : tie.Need-mul-k
-mul-k c = search needs
-
-add-k : tie.Need-add-k
-add-k c = search needs
-
-cast-k : tie.Need-cast-k
-cast-k c = search needs
-
-mul-start : tie.Need-mul-start
-mul-start c = search needs
-
-add-start : tie.Need-add-start
-add-start c = search needs
-
-add-end : tie.Need-add-end
-add-end c = search needs
-
-sub-ec-dec-icdf8-run : tie.Need-sub-ec-dec-icdf8-run
-sub-ec-dec-icdf8-run c = search needs
-
-part-ec-dec-icdf8-run-start : tie.Need-part-ec-dec-icdf8-run-start
-part-ec-dec-icdf8-run-start c = search needs
-
 part-ec-dec-icdf8-run-end : tie.Need-part-ec-dec-icdf8-run-end
 part-ec-dec-icdf8-run-end c =
     let z = c .before .before in
@@ -54,21 +30,6 @@ ec-dec-icdf8-run-requires : tie.Need-ec-dec-icdf8-run-requires
 ec-dec-icdf8-run-requires c κs =
     let z = c .before .before .before in
     (z .pre .0 .core, (omega arith, first-index-row (z .pre .0 .rows) _ (below-four z) .good))
-
-cast-out : tie.Need-cast-out
-cast-out c = search needs
-
-element-set-from-out : tie.Need-element-set-from-out
-element-set-from-out c = search needs
-
-selectors-run-requires : tie.Need-selectors-run-requires
-selectors-run-requires c κs = search needs
-
-slice-aggregate-residual-indices : tie.Need-slice-aggregate-residual-indices
-slice-aggregate-residual-indices c = search needs
-
-order-of-requires : tie.Need-order-of-requires
-order-of-requires c κs = search needs
 
 residual-indices-requires : tie.Need-residual-indices-requires
 residual-indices-requires c κs =
@@ -96,20 +57,20 @@ pub spectrum-run-spec : {M : Type 1} → statement M
 spectrum-run-spec =
     tie.close
     (tie.spec
-    mul-k
-    add-k
-    cast-k
-    mul-start
-    add-start
-    add-end
-    sub-ec-dec-icdf8-run
-    part-ec-dec-icdf8-run-start
+    (λ c. search needs)
+    (λ c. search needs)
+    (λ c. search needs)
+    (λ c. search needs)
+    (λ c. search needs)
+    (λ c. search needs)
+    (λ c. search needs)
+    (λ c. search needs)
     part-ec-dec-icdf8-run-end
     ec-dec-icdf8-run-requires
-    cast-out
-    element-set-from-out
-    selectors-run-requires
-    slice-aggregate-residual-indices
-    order-of-requires
+    (λ c. search needs)
+    (λ c. search needs)
+    (λ c κs. search needs)
+    (λ c. search needs)
+    (λ c κs. search needs)
     residual-indices-requires
     returns)

@@ -28,24 +28,6 @@ high-end (negsuc n) e = absurd (omega (arith, leZ-true (pos 4) (negsuc n) e))
 z-is : (z : tie.Start) → toZ w8 (ofZ w8 (z .args .z)) ≡ z .args .z
 z-is z = toZ-ofZ (z .fits .z)
 
-mul-start : tie.Need-mul-start
-mul-start c = search needs
-
-add-start : tie.Need-add-start
-add-start c = search needs
-
-add-end : tie.Need-add-end
-add-end c = search needs
-
-sub-ec-enc-icdf8-run : tie.Need-sub-ec-enc-icdf8-run
-sub-ec-enc-icdf8-run c = search needs
-
-part-ec-enc-icdf8-run-start : tie.Need-part-ec-enc-icdf8-run-start
-part-ec-enc-icdf8-run-start c = search needs
-
-part-ec-enc-icdf8-run-end : tie.Need-part-ec-enc-icdf8-run-end
-part-ec-enc-icdf8-run-end c = search needs
-
 ec-enc-icdf8-run-requires : tie.Need-ec-enc-icdf8-run-requires
 ec-enc-icdf8-run-requires c κs =
     let z = c .before .before .before .before .before in
@@ -57,15 +39,6 @@ extension-said-requires c κs =
     let z = c .before .before .before .before .before .before .before .before .before in
     rw (z-is z) (low-end (z .args .z) (rw (z-is z) at (c .before .before .before .before .before .before .if1 .taken)), z .pre .1 .1)
 
-sub-ec-enc-icdf8-run-2 : tie.Need-sub-ec-enc-icdf8-run-2
-sub-ec-enc-icdf8-run-2 c = search needs
-
-part-ec-enc-icdf8-run-start-2 : tie.Need-part-ec-enc-icdf8-run-start-2
-part-ec-enc-icdf8-run-start-2 c = search needs
-
-part-ec-enc-icdf8-run-end-2 : tie.Need-part-ec-enc-icdf8-run-end-2
-part-ec-enc-icdf8-run-end-2 c = search needs
-
 ec-enc-icdf8-run-requires-2 : tie.Need-ec-enc-icdf8-run-requires-2
 ec-enc-icdf8-run-requires-2 c κs =
     let z = c .before .before .before .before .before .before .before .before .before .before .before in
@@ -73,9 +46,6 @@ ec-enc-icdf8-run-requires-2 c κs =
     let e : c .before .extension-said .result ≡ extensionSaid (z .args .z) = rw (z-is z) at (c .before .extension-said .ensures) in
     let t = extension-row (z .pre .0 .rows) in
     (a .ensures .core, (omega (arith, a .ensures .most, z .pre .0 .few), (t .good, t .writable _ (omega (arith, e, z .pre .1 .1)))))
-
-same-length : tie.Need-same-length
-same-length c = search needs
 
 returns : tie.Need-returns
 unfolding residual
@@ -91,15 +61,6 @@ returns c =
     told-ask {n = 16} (residual-row (z .pre .0 .rows) (z .args .k) (z .pre .1 .0) .is) f (a .ensures)
     (told-ask (extension-row (z .pre .0 .rows) .is) e (b .ensures) (told-done (b .ensures .core)))
 
-sub-ec-enc-icdf8-run-3 : tie.Need-sub-ec-enc-icdf8-run-3
-sub-ec-enc-icdf8-run-3 c = search needs
-
-part-ec-enc-icdf8-run-start-3 : tie.Need-part-ec-enc-icdf8-run-start-3
-part-ec-enc-icdf8-run-start-3 c = search needs
-
-part-ec-enc-icdf8-run-end-3 : tie.Need-part-ec-enc-icdf8-run-end-3
-part-ec-enc-icdf8-run-end-3 c = search needs
-
 ec-enc-icdf8-run-requires-3 : tie.Need-ec-enc-icdf8-run-requires-3
 ec-enc-icdf8-run-requires-3 c κs =
     let z = c .before .before .before .before .before .before in
@@ -111,15 +72,6 @@ extension-said-requires-2 c κs =
     let z = c .before .before .before .before .before .before .before .before .before .before in
     rw (z-is z) (high-end (z .args .z) (rw (z-is z) at (c .before .before .before .before .before .before .if2 .taken)), z .pre .1 .1)
 
-sub-ec-enc-icdf8-run-4 : tie.Need-sub-ec-enc-icdf8-run-4
-sub-ec-enc-icdf8-run-4 c = search needs
-
-part-ec-enc-icdf8-run-start-4 : tie.Need-part-ec-enc-icdf8-run-start-4
-part-ec-enc-icdf8-run-start-4 c = search needs
-
-part-ec-enc-icdf8-run-end-4 : tie.Need-part-ec-enc-icdf8-run-end-4
-part-ec-enc-icdf8-run-end-4 c = search needs
-
 ec-enc-icdf8-run-requires-4 : tie.Need-ec-enc-icdf8-run-requires-4
 ec-enc-icdf8-run-requires-4 c κs =
     let z = c .before .before .before .before .before .before .before .before .before .before .before .before in
@@ -127,9 +79,6 @@ ec-enc-icdf8-run-requires-4 c κs =
     let e : c .before .extension-said2 .result ≡ extensionSaid (z .args .z) = rw (z-is z) at (c .before .extension-said2 .ensures) in
     let t = extension-row (z .pre .0 .rows) in
     (a .ensures .core, (omega (arith, a .ensures .most, z .pre .0 .few), (t .good, t .writable _ (omega (arith, e, z .pre .1 .1)))))
-
-same-length-2 : tie.Need-same-length-2
-same-length-2 c = search needs
 
 returns-2 : tie.Need-returns-2
 unfolding residual
@@ -147,26 +96,11 @@ returns-2 c =
     told-ask {n = 16} (residual-row (z .pre .0 .rows) (z .args .k) (z .pre .1 .0) .is) f (a .ensures)
     (told-ask (extension-row (z .pre .0 .rows) .is) e (b .ensures) (told-done (b .ensures .core)))
 
-centred-said-requires : tie.Need-centred-said-requires
-centred-said-requires c κs = search needs
-
-sub-ec-enc-icdf8-run-5 : tie.Need-sub-ec-enc-icdf8-run-5
-sub-ec-enc-icdf8-run-5 c = search needs
-
-part-ec-enc-icdf8-run-start-5 : tie.Need-part-ec-enc-icdf8-run-start-5
-part-ec-enc-icdf8-run-start-5 c = search needs
-
-part-ec-enc-icdf8-run-end-5 : tie.Need-part-ec-enc-icdf8-run-end-5
-part-ec-enc-icdf8-run-end-5 c = search needs
-
 ec-enc-icdf8-run-requires-5 : tie.Need-ec-enc-icdf8-run-requires-5
 ec-enc-icdf8-run-requires-5 c κs =
     let z = c .before .before .before .before .before .before .before in
     let t = residual-row (z .pre .0 .rows) (z .args .k) (z .pre .1 .0) in
     (z .pre .0 .core, (omega (arith, z .pre .0 .few), (t .good, t .writable _ (omega (arith, c .before .centred-said .ensures .2)))))
-
-same-length-3 : tie.Need-same-length-3
-same-length-3 c = search needs
 
 returns-3 : tie.Need-returns-3
 unfolding residual
@@ -190,35 +124,35 @@ pub residual-tell-spec : {M : Type 1} → statement M
 residual-tell-spec =
     tie.close
     (tie.spec
-    mul-start
-    add-start
-    add-end
-    sub-ec-enc-icdf8-run
-    part-ec-enc-icdf8-run-start
-    part-ec-enc-icdf8-run-end
+    (λ c. search needs)
+    (λ c. search needs)
+    (λ c. search needs)
+    (λ c. search needs)
+    (λ c. search needs)
+    (λ c. search needs)
     ec-enc-icdf8-run-requires
     extension-said-requires
-    sub-ec-enc-icdf8-run-2
-    part-ec-enc-icdf8-run-start-2
-    part-ec-enc-icdf8-run-end-2
+    (λ c. search needs)
+    (λ c. search needs)
+    (λ c. search needs)
     ec-enc-icdf8-run-requires-2
-    same-length
+    (λ c. search needs)
     returns
-    sub-ec-enc-icdf8-run-3
-    part-ec-enc-icdf8-run-start-3
-    part-ec-enc-icdf8-run-end-3
+    (λ c. search needs)
+    (λ c. search needs)
+    (λ c. search needs)
     ec-enc-icdf8-run-requires-3
     extension-said-requires-2
-    sub-ec-enc-icdf8-run-4
-    part-ec-enc-icdf8-run-start-4
-    part-ec-enc-icdf8-run-end-4
+    (λ c. search needs)
+    (λ c. search needs)
+    (λ c. search needs)
     ec-enc-icdf8-run-requires-4
-    same-length-2
+    (λ c. search needs)
     returns-2
-    centred-said-requires
-    sub-ec-enc-icdf8-run-5
-    part-ec-enc-icdf8-run-start-5
-    part-ec-enc-icdf8-run-end-5
+    (λ c κs. search needs)
+    (λ c. search needs)
+    (λ c. search needs)
+    (λ c. search needs)
     ec-enc-icdf8-run-requires-5
-    same-length-3
+    (λ c. search needs)
     returns-3)

@@ -35,9 +35,6 @@ abbrev μ-loop : tie.MeasureT-loop
 mul-base : tie.Need-mul-base Inv-loop μ-loop
 mul-base c = let z = c .before .before .before in omega (arith, rate-most (z .pre .1 .0 .0))
 
-cast-base : tie.Need-cast-base Inv-loop μ-loop
-cast-base c = search needs
-
 loop-holds : tie.Need-loop-holds Inv-loop μ-loop
 loop-holds c =
     let z = c .before .before .before in
@@ -52,9 +49,6 @@ residual-pick-run-requires : tie.Need-residual-pick-run-requires Inv-loop μ-loo
 residual-pick-run-requires c κs =
     let z = c .before .before .before .before .before in
     omega (arith, z .pre .1 .0 .1)
-
-add-residual-tell : tie.Need-add-residual-tell Inv-loop μ-loop
-add-residual-tell c = search needs
 
 element-copy-out-residual-tell : tie.Need-element-copy-out-residual-tell Inv-loop μ-loop
 element-copy-out-residual-tell c =
@@ -75,12 +69,6 @@ residual-tell-requires c κs =
       record { core = l .inv .told .core; few = few; rows = z .pre .0 .rows },
       (omega (arith, rate-most (z .pre .1 .0 .0), c .before .before .residual-pick-run .ensures), rw (abs-kept w8 _ u (omega arith)) u),
     )
-
-add-i : tie.Need-add-i Inv-loop μ-loop
-add-i c = search needs
-
-loop-less : tie.Need-loop-less Inv-loop μ-loop
-loop-less c = search needs
 
 loop-again : tie.Need-loop-again Inv-loop μ-loop
 loop-again c =
@@ -120,15 +108,15 @@ residuals-tell-spec =
     Inv-loop
     μ-loop
     mul-base
-    cast-base
+    (λ c. search needs)
     loop-holds
     residual-pick-run-requires
-    add-residual-tell
+    (λ c. search needs)
     element-copy-out-residual-tell
     add-residual-tell-2
     residual-tell-requires
-    add-i
-    loop-less
+    (λ c. search needs)
+    (λ c. search needs)
     loop-again
     same-length
     returns)

@@ -31,37 +31,10 @@ index-below z = rw (index-is z) (omega (arith, z .pre .1 .2 .index .most))
 nlsf-size : (z : tie.Start) → length (z .args .t4 .nlsf) ≡ 17
 nlsf-size z = search needs
 
-mul-k : tie.Need-mul-k
-mul-k c = search needs
-
-add-k : tie.Need-add-k
-add-k c = search needs
-
-cast-k : tie.Need-cast-k
-cast-k c = search needs
-
-mul-start : tie.Need-mul-start
-mul-start c = search needs
-
-add-start : tie.Need-add-start
-add-start c = search needs
-
-add-end : tie.Need-add-end
-add-end c = search needs
-
-element-copy-out-v : tie.Need-element-copy-out-v
-element-copy-out-v c = search needs
-
 cast-v : tie.Need-cast-v
 cast-v c =
     let z = c .before .before .before in
     rw (index-is z) (upto-fits (index z) (omega arith) (z .pre .1 .2 .index))
-
-sub-ec-enc-icdf8-run : tie.Need-sub-ec-enc-icdf8-run
-sub-ec-enc-icdf8-run c = search needs
-
-part-ec-enc-icdf8-run-start : tie.Need-part-ec-enc-icdf8-run-start
-part-ec-enc-icdf8-run-start c = search needs
 
 part-ec-enc-icdf8-run-end : tie.Need-part-ec-enc-icdf8-run-end
 part-ec-enc-icdf8-run-end c =
@@ -77,12 +50,6 @@ ec-enc-icdf8-run-requires c κs =
 selectors-run-requires : tie.Need-selectors-run-requires
 selectors-run-requires c κs = index-below (c .before .before .before .before .before .before .before .before)
 
-slice-aggregate-residuals-tell : tie.Need-slice-aggregate-residuals-tell
-slice-aggregate-residuals-tell c = search needs
-
-order-of-requires : tie.Need-order-of-requires
-order-of-requires c κs = search needs
-
 residuals-tell-requires : tie.Need-residuals-tell-requires
 residuals-tell-requires c κs =
     let z = c .before .before .before .before .before .before .before .before .before .before .before .before in
@@ -95,9 +62,6 @@ residuals-tell-requires c κs =
         λ k p q. z .pre .1 .2 .residuals k p (omega (arith, o)),
       ),
     )
-
-same-length : tie.Need-same-length
-same-length c = search needs
 
 returns : tie.Need-returns
 returns c =
@@ -114,21 +78,21 @@ pub spectrum-tell-run-spec : {M : Type 1} → statement M
 spectrum-tell-run-spec =
     tie.close
     (tie.spec
-    mul-k
-    add-k
-    cast-k
-    mul-start
-    add-start
-    add-end
-    element-copy-out-v
+    (λ c. search needs)
+    (λ c. search needs)
+    (λ c. search needs)
+    (λ c. search needs)
+    (λ c. search needs)
+    (λ c. search needs)
+    (λ c. search needs)
     cast-v
-    sub-ec-enc-icdf8-run
-    part-ec-enc-icdf8-run-start
+    (λ c. search needs)
+    (λ c. search needs)
     part-ec-enc-icdf8-run-end
     ec-enc-icdf8-run-requires
     selectors-run-requires
-    slice-aggregate-residuals-tell
-    order-of-requires
+    (λ c. search needs)
+    (λ c κs. search needs)
     residuals-tell-requires
-    same-length
+    (λ c. search needs)
     returns)

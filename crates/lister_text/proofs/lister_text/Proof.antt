@@ -17,7 +17,7 @@ use Rattle.numerals.specs.Put.{Put, put-as}
 use Rattle.listing.specs.Lines.{refusedText}
 use Rattle.listing.specs.Printed.{printed-put}
 use Rattle.sections.specs.Values.{byteAt, pairAt, valueAt}
-use Rattle.silk.specs.Record.{Setting, settingOf}
+use Rattle.silk.specs.declared.Setting.{Setting}
 use Rattle.lister_text.specs.ListerText.{settingAt, whole, frameText, listerText}
 use Rattle.lister_text.proofs.lister_text.Statement.{statement}
 use Rattle.lister_text.proofs.lister_text.Tie as tie
@@ -28,7 +28,8 @@ long s e =
     omega (arith, eqb-true (length s) (10 + pairAt s 8) (p .1))
 
 same : (s : List ℕ) {khz subframes active mode type : ℕ} {lag : ℤ} → khz ≡ byteAt s 1 → subframes ≡ byteAt s 2 → active ≡ byteAt s 3
-    → mode ≡ byteAt s 4 → type ≡ byteAt s 5 → lag ≡ valueAt s 6 → settingOf khz subframes active mode type lag ≡ settingAt s
+    → mode ≡ byteAt s 4 → type ≡ byteAt s 5 → lag ≡ valueAt s 6
+    → record { khz = khz; subframes = subframes; active = active; mode = mode; prevtype = type; prevlag = lag } ≡ settingAt s
 same s a b d e f g = cc
 
 put-whole : (s : List ℕ) {q : Setting} {l b : List ℕ} {i : ℕ} → whole s ≡ true → q ≡ settingAt s

@@ -5,7 +5,6 @@ use Prim.Native.Nat.{ℕ, _≤_}
 use mathlib.Core.Path.{_≡_, sym, ap, ap₂, subst⁻¹, _∙_}
 use mathlib.Core.List.{List}
 use native.Mathlib.Omega.{arith}
-use mir.Facts.{toZ-ofZ}
 use Rattle.numerals.specs.Put.{put-as}
 use Rattle.listing.specs.Lines.{refusedText}
 use Rattle.entcode.specs.declared.Dec.{Dec}
@@ -13,7 +12,7 @@ use Rattle.entcode.specs.declared.Decoded.{Decoded}
 use Rattle.entcode.specs.ReaderLaws.{Bytes}
 use Rattle.silk.specs.declared.Indices.{Indices}
 use Rattle.silk.specs.declared.IndicesRead.{IndicesRead}
-use Rattle.silk.specs.Record.{Setting, settingOf}
+use Rattle.silk.specs.declared.Setting.{Setting}
 use Rattle.silk.specs.FrameCalls.{decodeIndices}
 use Rattle.lister_text.specs.ListerText.{indicesOf, acceptedText, readText}
 use Rattle.lister_text.specs.Readings.{Listable, listable, refusal-most}
@@ -24,14 +23,13 @@ abbrev start : tie.After-silk-decode-indices → tie.Start
 start r = r .before .before .before .before .before .before
 
 abbrev setting : tie.Start → Setting
-setting z = settingOf (z .args .khz) (z .args .subframes) (z .args .active) (z .args .mode) (z .args .prevtype) (z .args .prevlag)
+setting z = z .args .s
 
 reading : (r : tie.After-silk-decode-indices) → r .silk-decode-indices .result ≡ indicesOf (start r .args .packet .now) (setting (start r))
 reading r =
     let z = start r in
-    let e = rw (toZ-ofZ (z .fits .prevlag)) at (r .silk-decode-indices .ensures) in
     let d = ap (λ (a : Decoded). a .state) (r .before .before .before .ec-dec-init .ensures) in
-    e ∙ ap₂ (λ (q : Dec) (x : Indices). decodeIndices (z .args .packet .now) q x (setting z)) d (r .before .blank .ensures)
+    r .silk-decode-indices .ensures ∙ ap₂ (λ (q : Dec) (x : Indices). decodeIndices (z .args .packet .now) q x (setting z)) d (r .before .blank .ensures)
 
 accepted : (r : tie.After-silk-decode-indices) → r .silk-decode-indices .result .refusal ≡ 0 → Listable (setting (start r)) (r .silk-decode-indices .result)
 accepted r h =

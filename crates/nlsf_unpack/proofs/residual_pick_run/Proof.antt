@@ -6,9 +6,6 @@ use borrow.Author.Tests.{eq-eqb, ne-eqb}
 use Rattle.nlsf_unpack.proofs.residual_pick_run.Statement.{statement}
 use Rattle.nlsf_unpack.proofs.residual_pick_run.Tie as tie
 
-shared-slice-read-s : tie.Need-shared-slice-read-s
-shared-slice-read-s c = search needs
-
 cast-s : tie.Need-cast-s
 cast-s c = omega (arith, c .shared-slice-known .given (c .before .args .i / 2))
 
@@ -19,4 +16,4 @@ returns-2 : tie.Need-returns-2
 returns-2 c = rw (ne-eqb _ _ (c .if1 .left))
 
 pub residual-pick-run-spec : {M : Type 1} → statement M
-residual-pick-run-spec = tie.close (tie.spec shared-slice-read-s cast-s returns returns-2)
+residual-pick-run-spec = tie.close (tie.spec (λ c. search needs) cast-s returns returns-2)

@@ -22,29 +22,8 @@ first-five l m (suc (suc (suc zero))) h = refl
 first-five l m (suc (suc (suc (suc zero)))) h = refl
 first-five l m (suc (suc (suc (suc (suc j))))) h = absurd (omega arith)
 
-wide-selectors-run-requires : tie.Need-wide-selectors-run-requires
-wide-selectors-run-requires c κs = search needs
-
 returns : tie.Need-returns
 returns c = rw (eq-eqb _ _ (c .before .if1 .taken), c .wide-selectors-run .ensures) (λ i l. refl)
-
-narrow-selectors-run-requires : tie.Need-narrow-selectors-run-requires
-narrow-selectors-run-requires c κs = search needs
-
-array-read-t10 : tie.Need-array-read-t10
-array-read-t10 c = search needs
-
-array-read-t13 : tie.Need-array-read-t13
-array-read-t13 c = search needs
-
-array-read-t16 : tie.Need-array-read-t16
-array-read-t16 c = search needs
-
-array-read-t19 : tie.Need-array-read-t19
-array-read-t19 c = search needs
-
-array-read-t22 : tie.Need-array-read-t22
-array-read-t22 c = search needs
 
 returns-2 : tie.Need-returns-2
 returns-2 c =
@@ -56,12 +35,12 @@ pub selectors-run-spec : {M : Type 1} → statement M
 selectors-run-spec =
     tie.close
     (tie.spec
-    wide-selectors-run-requires
+    (λ c κs. search needs)
     returns
-    narrow-selectors-run-requires
-    array-read-t10
-    array-read-t13
-    array-read-t16
-    array-read-t19
-    array-read-t22
+    (λ c κs. search needs)
+    (λ c. search needs)
+    (λ c. search needs)
+    (λ c. search needs)
+    (λ c. search needs)
+    (λ c. search needs)
     returns-2)

@@ -4,11 +4,8 @@ use mir.Facts.{toZ-ofZ}
 use Rattle.tignarops.proofs.tg_decode_indices.Statement.{statement}
 use Rattle.tignarops.proofs.tg_decode_indices.Tie as tie
 
-silk-decode-indices-requires : tie.Need-silk-decode-indices-requires
-silk-decode-indices-requires c κs = search needs
-
 returns : tie.Need-returns
 returns c = rw (toZ-ofZ (c .before .before .fits .prevlag)) at (c .silk-decode-indices .ensures)
 
 pub tg-decode-indices-spec : {M : Type 1} → statement M
-tg-decode-indices-spec = tie.close (tie.spec silk-decode-indices-requires returns)
+tg-decode-indices-spec = tie.close (tie.spec (λ c κs. search needs) returns)

@@ -4,15 +4,9 @@ use mir.Facts.{toZ-ofZ}
 use Rattle.tignarops.proofs.tg_encode_indices.Statement.{statement}
 use Rattle.tignarops.proofs.tg_encode_indices.Tie as tie
 
-silk-encode-indices-requires : tie.Need-silk-encode-indices-requires
-silk-encode-indices-requires c κs = search needs
-
-same-length : tie.Need-same-length
-same-length c = search needs
-
 returns : tie.Need-returns
 returns c =
     let z = c .before .before .before .before .before in rw (toZ-ofZ (z .fits .prevlag)) at (c .before .before .silk-encode-indices .ensures)
 
 pub tg-encode-indices-spec : {M : Type 1} → statement M
-tg-encode-indices-spec = tie.close (tie.spec silk-encode-indices-requires same-length returns)
+tg-encode-indices-spec = tie.close (tie.spec (λ c κs. search needs) (λ c. search needs) returns)
