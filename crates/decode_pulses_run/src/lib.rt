@@ -66,7 +66,14 @@ fn lows(packet: &[u8], from: Dec, rows: &[u8], x: BlocksRead, pulses: &mut [i16]
 }
 
 // The signs of n blocks.
-fn signs(packet: &[u8], from: Dec, rows: &[u8], x: BlocksRead, pulses: &mut [i16], f: FrameNumbers) -> Dec
+fn signs(
+    packet: &[u8],
+    from: Dec,
+    rows: &[u8],
+    x: BlocksRead,
+    pulses: &mut [i16],
+    f: FrameNumbers,
+) -> Dec
     requires { ⌜ Core (now packet) from ⌝ }
     requires { ⌜ from .total ≤ 2 ^ 26 ⌝ }
     requires { ⌜ PulseRows (now rows) ⌝ }

@@ -30,7 +30,13 @@ fn answer(n: u32, state: Enc) -> Encoded
     }
 }
 
-pub fn silk_encode_pulses(buf: &mut [u8], w: Enc, pulses: &[i16], f: CallNumbers, rate: u32) -> Encoded
+pub fn silk_encode_pulses(
+    buf: &mut [u8],
+    w: Enc,
+    pulses: &[i16],
+    f: CallNumbers,
+    rate: u32,
+) -> Encoded
     ensures { λ a.
         ⌜ sent (now (buf .exit)) a ≡
         encodePulses (out (now (buf .entry)) w) (now (pulses .entry)) (f .khz) (f .subframes) (f .signal) (f .offset) rate ⌝ }
@@ -49,8 +55,15 @@ pub fn silk_encode_pulses(buf: &mut [u8], w: Enc, pulses: &[i16], f: CallNumbers
             signal: f.signal,
             offset: f.offset,
         };
-        let state =
-            encode_pulses_run::silk_encode_pulses_run(buf, w, &rows, pulses, x, frame, rate);
+        let state = encode_pulses_run::silk_encode_pulses_run(
+            buf,
+            w,
+            &rows,
+            pulses,
+            x,
+            frame,
+            rate,
+        );
         return answer(0, state);
     }
     answer(8, w)

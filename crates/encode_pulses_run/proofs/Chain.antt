@@ -51,6 +51,7 @@ module _ (o p₀ p₁ p₂ p₃ q : Out) (r : List ℕ) (signal offset rate n : 
       told-within (omega arith) (subst (λ (b : List Block). Told p₃ ps (blockSigns signal offset b (whole ps)) (256 * n) q) planned w) in
       told-ask e refl h
       (told-then _ (meant-of hand (λ (y : Excitation). y .blocks) (counts rate n) ∙ counts-back) (told-of _ counted)
-      (told-then _ (meant-of hand (λ (y : Excitation). shifted (y .blocks) (magnitudes y)) (each [] shellOf bs) ∙ splits-meant (take n l) ps (s .suits)) (told-of _ split)
+      (told-then _ (meant-of hand (λ (y : Excitation). shifted (y .blocks) (magnitudes y)) (each [] shellOf bs) ∙ splits-meant (take n l) ps (s .suits))
+      (told-of _ split)
       (told-then _ (meant-of hand magnitudes (blockLows bs (shifted bs (whole ps))) ∙ lows-meant (take n l) ps (s .suits)) (told-of _ lowered)
       (told-then _ refl (told-of _ signed) (told-done (signed .core))))))

@@ -1,5 +1,5 @@
--- The turns of a loop over the blocks of a slice of pulses, as the writer makes them: splits, low bits and signs take them alike. The buffer keeps its
--- length. Assumes nothing.
+-- The turns of a loop over the blocks of a slice of pulses, as the writer makes them: splits, low bits and signs take them alike. The buffer
+-- keeps its length. Assumes nothing.
 use Prim.Native.Nat.{ℕ, _+_, _*_, _<_, _≤_}
 use mathlib.Core.Path.{_≡_, refl, _∙_}
 use mathlib.Core.List.{List, [], _∷_, _++_}

@@ -36,7 +36,15 @@ fn some_pulses(c: u8, j: u8) -> bool
 }
 
 // The signs of a block with shift j and c pulses before low bits.
-pub fn block_signs_run(buf: &mut [u8], w: Enc, rows: &[u8], part: &[i16], c: u8, j: u8, f: FrameNumbers) -> Enc
+pub fn block_signs_run(
+    buf: &mut [u8],
+    w: Enc,
+    rows: &[u8],
+    part: &[i16],
+    c: u8,
+    j: u8,
+    f: FrameNumbers,
+) -> Enc
     requires { ⌜ Core (out (now buf) w) ⌝ }
     requires { ⌜ w .total ≤ 2 ^ 29 ⌝ }
     requires { ⌜ PulseRows (now rows) ⌝ }

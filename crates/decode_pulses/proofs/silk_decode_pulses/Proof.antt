@@ -81,14 +81,6 @@ refused c =
 pub silk-decode-pulses-spec : {M : Type 1} → statement M
 silk-decode-pulses-spec =
     tie.close
-    (tie.spec
-    (λ c κs. search needs)
-    (λ c κs. search needs)
-    (λ c κs. search needs)
-    (λ c κs. search needs)
+    (tie.spec (λ c κs. search needs) (λ c κs. search needs) (λ c κs. search needs) (λ c κs. search needs)
     (λ c κs. let o = accepted (c .before) .own .numbers in (o .khz16, o .subframes4))
-    (λ c. search needs)
-    silk-decode-pulses-run-requires
-    (λ c. search needs)
-    returns
-    refused)
+    (λ c. search needs) silk-decode-pulses-run-requires (λ c. search needs) returns refused)

@@ -43,24 +43,13 @@ loop-again c =
 pub lows-spec : {M : Type 1} → statement M
 lows-spec =
     tie.close
-    (tie.spec
-    Inv-loop
-    μ-loop
+    (tie.spec Inv-loop μ-loop
     (λ c. let b = c .before .before in round-start (b .pre .1 .1 .1 .2) (b .pre .0))
-    (λ c. search needs)
-    (λ c. search needs)
-    (λ c. search needs)
-    (λ c. search needs)
-    (λ c. search needs)
-    (λ c. search needs)
-    (λ c. search needs)
-    (λ c. search needs)
+    (λ c. search needs) (λ c. search needs) (λ c. search needs) (λ c. search needs) (λ c. search needs)
+    (λ c. search needs) (λ c. search needs) (λ c. search needs)
     (λ c. omega (arith, round-fits (c .before .before .before .loop .inv) (c .before .before .loop-test .taken)))
     (λ c. round-fits (c .before .before .before .loop .inv) (c .before .before .loop-test .taken))
     (λ c. let l = c .before .before .before .before in omega (arith, start l .pre .1 .1 .1 .1 (l .loop .i)))
-    block-lows-run-requires
-    (λ c. search needs)
-    (λ c. search needs)
-    loop-again
+    block-lows-run-requires (λ c. search needs) (λ c. search needs) loop-again
     (λ c. round-kept (c .before .loop .inv) (c .loop-test .left) ∙ sym (start (c .before) .pre .1 .1 .1 .2 .size))
     (λ c. round-end (c .before .loop .inv) (c .loop-test .left)))

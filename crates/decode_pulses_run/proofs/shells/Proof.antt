@@ -43,21 +43,12 @@ loop-again c =
 pub shells-spec : {M : Type 1} → statement M
 shells-spec =
     tie.close
-    (tie.spec
-    Inv-loop
-    μ-loop
+    (tie.spec Inv-loop μ-loop
     (λ c. let b = c .before .before .before in splitting-start _ _ _ _ _ _ (b .pre .1 .1 .1 .1) (b .pre .0))
-    (λ c. search needs)
-    (λ c. search needs)
-    (λ c. search needs)
-    (λ c. search needs)
-    (λ c. search needs)
+    (λ c. search needs) (λ c. search needs) (λ c. search needs) (λ c. search needs) (λ c. search needs)
     (λ c. omega (arith, sized (c .before .before)))
     (λ c. omega (arith, sized (c .before .before)))
     (λ c. let l = c .before .before .before in omega (arith, start l .pre .1 .1 .1 .2 (l .loop .i)))
-    silk-shell-decoder-run-requires
-    (λ c. search needs)
-    (λ c. search needs)
-    loop-again
+    silk-shell-decoder-run-requires (λ c. search needs) (λ c. search needs) loop-again
     (λ c. sized (c .before) ∙ sym (start (c .before) .pre .1 .1 .1 .1))
     (λ c. let l = c .before .loop in splitting-end _ _ _ _ _ (l .pulses) (l .d) (l .i) (l .inv) (c .loop-test .left)))

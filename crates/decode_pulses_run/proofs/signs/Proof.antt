@@ -81,27 +81,16 @@ loop-again c =
 pub signs-spec : {M : Type 1} → statement M
 signs-spec =
     tie.close
-    (tie.spec
-    Inv-loop
-    μ-loop
+    (tie.spec Inv-loop μ-loop
     (λ c. let b = c .before .before in round-start (b .pre .1 .1 .1 .3) (b .pre .0))
-    (λ c. search needs)
-    (λ c. search needs)
-    (λ c. search needs)
+    (λ c. search needs) (λ c. search needs) (λ c. search needs)
     (λ c κs. let p = c .before .before .before .before .before .pre .1 .1 .1 in (p .1, p .2))
-    (λ c. omega (arith, row-ends c))
-    (λ c. search needs)
-    (λ c. search needs)
-    (λ c. search needs)
+    (λ c. omega (arith, row-ends c)) (λ c. search needs) (λ c. search needs) (λ c. search needs)
     (λ c. omega (arith, row-ends (c .before .before)))
     (λ c. row-ends (c .before .before))
-    (λ c. search needs)
-    (λ c. search needs)
+    (λ c. search needs) (λ c. search needs)
     (λ c. omega (arith, fits (c .before .before .before .before .before)))
     (λ c. fits (c .before .before .before .before .before))
-    silk-decode-signs-run-requires
-    (λ c. search needs)
-    (λ c. search needs)
-    loop-again
+    silk-decode-signs-run-requires (λ c. search needs) (λ c. search needs) loop-again
     (λ c. round-kept (c .before .loop .inv) (c .loop-test .left) ∙ sym (start (c .before) .pre .1 .1 .1 .3 .size))
     (λ c. round-end (c .before .loop .inv) (c .loop-test .left)))

@@ -119,18 +119,6 @@ returns c =
 pub silk-decode-pulses-run-spec : {M : Type 1} → statement M
 silk-decode-pulses-run-spec =
     tie.close
-    (tie.spec
-    (λ c. search needs)
-    (λ c. search needs)
-    (λ c. search needs)
-    (λ c. search needs)
-    (λ c. search needs)
-    (λ c. search needs)
-    ec-dec-icdf8-run-requires
-    (λ c. search needs)
-    counts-run-requires
-    shells-requires
-    lows-requires
-    signs-requires
-    (λ c. search needs)
-    returns)
+    (tie.spec (λ c. search needs) (λ c. search needs) (λ c. search needs) (λ c. search needs) (λ c. search needs)
+    (λ c. search needs) ec-dec-icdf8-run-requires (λ c. search needs) counts-run-requires shells-requires lows-requires
+    signs-requires (λ c. search needs) returns)

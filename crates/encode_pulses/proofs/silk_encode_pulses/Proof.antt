@@ -110,21 +110,9 @@ unfit c =
 pub silk-encode-pulses-spec : {M : Type 1} → statement M
 silk-encode-pulses-spec =
     tie.close
-    (tie.spec
-    (λ c κs. search needs)
-    (λ c κs. search needs)
-    (λ c κs. search needs)
-    (λ c κs. search needs)
-    (λ c. search needs)
-    returns
+    (tie.spec (λ c κs. search needs) (λ c κs. search needs) (λ c κs. search needs) (λ c κs. search needs)
+    (λ c. search needs) returns
     (λ c κs. let m = on c .own .frame .numbers in (m .khz16, m .subframes4))
     (λ c κs. (few c, omega (arith, c .blocks-of-run .ensures, on (c .before) .own .frame .length16)))
-    (λ c κs. search needs)
-    (λ c. search needs)
-    silk-encode-pulses-run-requires
-    (λ c κs. search needs)
-    (λ c. search needs)
-    written
-    (λ c κs. search needs)
-    (λ c. search needs)
-    unfit)
+    (λ c κs. search needs) (λ c. search needs) silk-encode-pulses-run-requires (λ c κs. search needs)
+    (λ c. search needs) written (λ c κs. search needs) (λ c. search needs) unfit)

@@ -43,24 +43,10 @@ loop-again c =
 pub lows-spec : {M : Type 1} → statement M
 lows-spec =
     tie.close
-    (tie.spec
-    Inv-loop
-    μ-loop
+    (tie.spec Inv-loop μ-loop
     (λ c. round-start (c .before .before .pre .0))
-    (λ c. search needs)
-    (λ c. search needs)
-    (λ c. search needs)
-    (λ c. search needs)
-    (λ c. search needs)
-    (λ c. search needs)
-    (λ c. search needs)
-    (λ c. search needs)
-    (λ c. search needs)
-    (λ c. search needs)
-    (λ c. search needs)
-    block-lows-tell-run-requires
-    (λ c. search needs)
-    (λ c. search needs)
-    loop-again
+    (λ c. search needs) (λ c. search needs) (λ c. search needs) (λ c. search needs) (λ c. search needs)
+    (λ c. search needs) (λ c. search needs) (λ c. search needs) (λ c. search needs) (λ c. search needs)
+    (λ c. search needs) block-lows-tell-run-requires (λ c. search needs) (λ c. search needs) loop-again
     (λ c. search needs)
     (λ c. round-end (c .before .loop .inv) (c .loop-test .left)))

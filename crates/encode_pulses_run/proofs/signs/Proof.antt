@@ -51,21 +51,9 @@ loop-again c =
 pub signs-spec : {M : Type 1} → statement M
 signs-spec =
     tie.close
-    (tie.spec
-    Inv-loop
-    μ-loop
+    (tie.spec Inv-loop μ-loop
     (λ c. round-start (c .before .before .pre .0))
-    (λ c. search needs)
-    (λ c. search needs)
-    (λ c. search needs)
-    (λ c. search needs)
-    (λ c. search needs)
-    (λ c. search needs)
-    (λ c. search needs)
-    (λ c. search needs)
-    block-signs-run-requires
-    (λ c. search needs)
-    (λ c. search needs)
-    loop-again
-    (λ c. search needs)
+    (λ c. search needs) (λ c. search needs) (λ c. search needs) (λ c. search needs) (λ c. search needs)
+    (λ c. search needs) (λ c. search needs) (λ c. search needs) block-signs-run-requires (λ c. search needs)
+    (λ c. search needs) loop-again (λ c. search needs)
     (λ c. round-end (c .before .loop .inv) (c .loop-test .left)))

@@ -119,17 +119,6 @@ returns c =
 pub silk-encode-pulses-run-spec : {M : Type 1} → statement M
 silk-encode-pulses-run-spec =
     tie.close
-    (tie.spec
-    (λ c. search needs)
-    (λ c. search needs)
-    (λ c. search needs)
-    (λ c. search needs)
-    (λ c. search needs)
-    (λ c. search needs)
-    ec-enc-icdf-run-requires
-    counts-tell-run-requires
-    splits-requires
-    lows-requires
-    signs-requires
-    same-length
-    returns)
+    (tie.spec (λ c. search needs) (λ c. search needs) (λ c. search needs) (λ c. search needs) (λ c. search needs)
+    (λ c. search needs) ec-enc-icdf-run-requires counts-tell-run-requires splits-requires lows-requires signs-requires
+    same-length returns)

@@ -57,14 +57,5 @@ returns-2 c =
 pub block-signs-run-spec : {M : Type 1} → statement M
 block-signs-run-spec =
     tie.close
-    (tie.spec
-    (λ c κs. search needs)
-    (λ c κs. search needs)
-    (λ c. search needs)
-    (λ c. search needs)
-    (λ c. search needs)
-    (λ c. search needs)
-    silk-encode-signs-run-requires
-    (λ c. search needs)
-    returns
-    returns-2)
+    (tie.spec (λ c κs. search needs) (λ c κs. search needs) (λ c. search needs) (λ c. search needs) (λ c. search needs)
+    (λ c. search needs) silk-encode-signs-run-requires (λ c. search needs) returns returns-2)

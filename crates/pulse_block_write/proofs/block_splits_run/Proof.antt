@@ -26,10 +26,5 @@ returns c =
 pub block-splits-run-spec : {M : Type 1} → statement M
 block-splits-run-spec =
     tie.close
-    (tie.spec
-    (λ c. search needs)
-    (λ c κs. search needs)
-    (λ c. search needs)
-    silk-shell-encoder-run-requires
-    (λ c. search needs)
-    returns)
+    (tie.spec (λ c. search needs) (λ c κs. search needs) (λ c. search needs) silk-shell-encoder-run-requires
+    (λ c. search needs) returns)

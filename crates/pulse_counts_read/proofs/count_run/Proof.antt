@@ -129,23 +129,7 @@ returns c =
 pub count-run-spec : {M : Type 1} → statement M
 count-run-spec =
     tie.close
-    (tie.spec
-    Inv-loop
-    μ-loop
-    (λ c. search needs)
-    (λ c. search needs)
-    (λ c. search needs)
-    (λ c. search needs)
-    (λ c. search needs)
-    (λ c. search needs)
-    ec-dec-icdf8-run-requires
-    loop-holds
-    (λ c. search needs)
-    (λ c κs. search needs)
-    sub-ec-dec-icdf8-run-2
-    part-ec-dec-icdf8-run-start-2
-    (λ c. search needs)
-    ec-dec-icdf8-run-requires-2
-    loop-less
-    loop-again
-    returns)
+    (tie.spec Inv-loop μ-loop (λ c. search needs) (λ c. search needs) (λ c. search needs) (λ c. search needs)
+    (λ c. search needs) (λ c. search needs) ec-dec-icdf8-run-requires loop-holds (λ c. search needs)
+    (λ c κs. search needs) sub-ec-dec-icdf8-run-2 part-ec-dec-icdf8-run-start-2 (λ c. search needs)
+    ec-dec-icdf8-run-requires-2 loop-less loop-again returns)

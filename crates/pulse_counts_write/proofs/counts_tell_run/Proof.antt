@@ -127,27 +127,7 @@ returns c =
 pub counts-tell-run-spec : {M : Type 1} → statement M
 counts-tell-run-spec =
     tie.close
-    (tie.spec
-    Inv-loop
-    μ-loop
-    (λ c. search needs)
-    (λ c. search needs)
-    (λ c. search needs)
-    loop-holds
-    (λ c. search needs)
-    (λ c. search needs)
-    cast-count-said
-    cast-count-said-2
-    (λ c κs. search needs)
-    (λ c. search needs)
-    (λ c. search needs)
-    (λ c. search needs)
-    ec-enc-icdf-run-requires
-    cast-later-tell
-    cast-later-tell-2
-    later-tell-requires
-    (λ c. search needs)
-    (λ c. search needs)
-    loop-again
-    same-length
-    returns)
+    (tie.spec Inv-loop μ-loop (λ c. search needs) (λ c. search needs) (λ c. search needs) loop-holds (λ c. search needs)
+    (λ c. search needs) cast-count-said cast-count-said-2 (λ c κs. search needs) (λ c. search needs) (λ c. search needs)
+    (λ c. search needs) ec-enc-icdf-run-requires cast-later-tell cast-later-tell-2 later-tell-requires
+    (λ c. search needs) (λ c. search needs) loop-again same-length returns)

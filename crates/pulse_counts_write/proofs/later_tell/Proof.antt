@@ -82,18 +82,6 @@ returns c =
 pub later-tell-spec : {M : Type 1} → statement M
 later-tell-spec =
     tie.close
-    (tie.spec
-    Inv-loop
-    μ-loop
-    loop-holds
-    (λ c. search needs)
-    (λ c κs. search needs)
-    (λ c κs. search needs)
-    sub-ec-enc-icdf-run
-    part-ec-enc-icdf-run-start
-    (λ c. search needs)
-    ec-enc-icdf-run-requires
-    (λ c. search needs)
-    loop-again
-    same-length
-    returns)
+    (tie.spec Inv-loop μ-loop loop-holds (λ c. search needs) (λ c κs. search needs) (λ c κs. search needs)
+    sub-ec-enc-icdf-run part-ec-enc-icdf-run-start (λ c. search needs) ec-enc-icdf-run-requires (λ c. search needs)
+    loop-again same-length returns)

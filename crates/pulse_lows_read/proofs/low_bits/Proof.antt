@@ -97,14 +97,5 @@ returns c =
 pub low-bits-spec : {M : Type 1} → statement M
 low-bits-spec =
     tie.close
-    (tie.spec
-    Inv-loop
-    μ-loop
-    loop-holds
-    ec-dec-icdf8-run-requires
-    mul-v
-    add-v
-    (λ c. search needs)
-    (λ c. search needs)
-    loop-again
-    returns)
+    (tie.spec Inv-loop μ-loop loop-holds ec-dec-icdf8-run-requires mul-v add-v (λ c. search needs) (λ c. search needs)
+    loop-again returns)

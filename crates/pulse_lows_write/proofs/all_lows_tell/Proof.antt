@@ -69,16 +69,5 @@ returns c =
 pub all-lows-tell-spec : {M : Type 1} → statement M
 all-lows-tell-spec =
     tie.close
-    (tie.spec
-    Inv-loop
-    μ-loop
-    loop-holds
-    (λ c. search needs)
-    (λ c. search needs)
-    (λ c κs. search needs)
-    low-bits-tell-requires
-    (λ c. search needs)
-    (λ c. search needs)
-    loop-again
-    same-length
-    returns)
+    (tie.spec Inv-loop μ-loop loop-holds (λ c. search needs) (λ c. search needs) (λ c κs. search needs)
+    low-bits-tell-requires (λ c. search needs) (λ c. search needs) loop-again same-length returns)

@@ -70,14 +70,5 @@ returns c =
 pub low-bits-tell-spec : {M : Type 1} → statement M
 low-bits-tell-spec =
     tie.close
-    (tie.spec
-    Inv-loop
-    μ-loop
-    loop-holds
-    (λ c. search needs)
-    shr-bit
-    ec-enc-icdf-run-requires
-    (λ c. search needs)
-    loop-again
-    same-length
-    returns)
+    (tie.spec Inv-loop μ-loop loop-holds (λ c. search needs) shr-bit ec-enc-icdf-run-requires (λ c. search needs)
+    loop-again same-length returns)

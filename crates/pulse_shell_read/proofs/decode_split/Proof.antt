@@ -44,13 +44,5 @@ returns-2 c =
 pub decode-split-spec : {M : Type 1} → statement M
 decode-split-spec =
     tie.close
-    (tie.spec
-    returns
-    (λ c κs. search needs)
-    (λ c. search needs)
-    add-end-2
-    (λ c. search needs)
-    (λ c. search needs)
-    part-ec-dec-icdf8-run-end
-    ec-dec-icdf8-run-requires
-    returns-2)
+    (tie.spec returns (λ c κs. search needs) (λ c. search needs) add-end-2 (λ c. search needs) (λ c. search needs)
+    part-ec-dec-icdf8-run-end ec-dec-icdf8-run-requires returns-2)

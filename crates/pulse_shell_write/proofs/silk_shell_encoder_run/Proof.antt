@@ -140,29 +140,7 @@ returns c =
 pub silk-shell-encoder-run-spec : {M : Type 1} → statement M
 silk-shell-encoder-run-spec =
     tie.close
-    (tie.spec
-    Inv-loop
-    μ-loop
-    (λ c. search needs)
-    (λ c. search needs)
-    (λ c. search needs)
-    (λ c. search needs)
-    spoken-of-requires
-    loop-holds
-    mul-start
-    array-read-start
-    array-read-n
-    cast-n
-    add-end
-    add-end-2
-    array-read-left
-    cast-left
-    (λ c. search needs)
-    (λ c. search needs)
-    part-ec-enc-icdf-run-end
-    ec-enc-icdf-run-requires
-    (λ c. search needs)
-    (λ c. search needs)
-    loop-again
-    same-length
-    returns)
+    (tie.spec Inv-loop μ-loop (λ c. search needs) (λ c. search needs) (λ c. search needs) (λ c. search needs)
+    spoken-of-requires loop-holds mul-start array-read-start array-read-n cast-n add-end add-end-2 array-read-left
+    cast-left (λ c. search needs) (λ c. search needs) part-ec-enc-icdf-run-end ec-enc-icdf-run-requires
+    (λ c. search needs) (λ c. search needs) loop-again same-length returns)

@@ -118,26 +118,7 @@ returns c =
 pub spoken-of-spec : {M : Type 1} → statement M
 spoken-of-spec =
     tie.close
-    (tie.spec
-    Inv-loop
-    μ-loop
-    splits-of-requires
-    loop-holds
-    (λ c. search needs)
-    (λ c. search needs)
-    cast-split-start-run
-    cast-split-start-run-2
-    split-start-run-requires
-    mul-start
-    slice-write-start
-    slice-write-all
-    (λ c. search needs)
-    slice-write-left
-    counted-requires
-    (λ c. search needs)
-    (λ c. search needs)
-    loop-again
-    same-length
-    same-length-2
-    same-length-3
-    returns)
+    (tie.spec Inv-loop μ-loop splits-of-requires loop-holds (λ c. search needs) (λ c. search needs) cast-split-start-run
+    cast-split-start-run-2 split-start-run-requires mul-start slice-write-start slice-write-all (λ c. search needs)
+    slice-write-left counted-requires (λ c. search needs) (λ c. search needs) loop-again same-length same-length-2
+    same-length-3 returns)

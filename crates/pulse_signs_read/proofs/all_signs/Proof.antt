@@ -117,20 +117,8 @@ returns c =
 pub all-signs-spec : {M : Type 1} → statement M
 all-signs-spec =
     tie.close
-    (tie.spec
-    Inv-loop
-    μ-loop
-    (λ c κs. search needs)
-    loop-holds
-    (λ c. search needs)
-    (λ c. omega (arith, below c))
-    (λ c. omega (arith, below c))
-    (λ c. below c)
-    decode-sign-requires
+    (tie.spec Inv-loop μ-loop (λ c κs. search needs) loop-holds (λ c. search needs) (λ c. omega (arith, below c))
+    (λ c. omega (arith, below c)) (λ c. below c) decode-sign-requires
     (λ c. omega (arith, below (c .before .before .before)))
     (λ c. below (c .before .before .before))
-    (λ c. search needs)
-    (λ c. search needs)
-    loop-again
-    (λ c. search needs)
-    returns)
+    (λ c. search needs) (λ c. search needs) loop-again (λ c. search needs) returns)

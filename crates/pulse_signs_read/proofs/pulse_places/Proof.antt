@@ -67,17 +67,5 @@ returns c = let l = c .before .loop in let e : l .k ≡ 16 = omega arith in rw e
 pub pulse-places-spec : {M : Type 1} → statement M
 pulse-places-spec =
     tie.close
-    (tie.spec
-    Inv-loop
-    μ-loop
-    loop-holds
-    (λ c. search needs)
-    (λ c. search needs)
-    (λ c. search needs)
-    (λ c. search needs)
-    (λ c. search needs)
-    add-n
-    (λ c. search needs)
-    (λ c. search needs)
-    loop-again
-    returns)
+    (tie.spec Inv-loop μ-loop loop-holds (λ c. search needs) (λ c. search needs) (λ c. search needs) (λ c. search needs)
+    (λ c. search needs) add-n (λ c. search needs) (λ c. search needs) loop-again returns)

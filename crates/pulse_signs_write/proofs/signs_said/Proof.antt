@@ -70,17 +70,5 @@ returns c =
 pub signs-said-spec : {M : Type 1} → statement M
 signs-said-spec =
     tie.close
-    (tie.spec
-    Inv-loop
-    μ-loop
-    loop-holds
-    (λ c. search needs)
-    (λ c. search needs)
-    (λ c κs. search needs)
-    slice-write-symbols
-    next-place-requires
-    (λ c. search needs)
-    (λ c. search needs)
-    loop-again
-    same-length
-    returns)
+    (tie.spec Inv-loop μ-loop loop-holds (λ c. search needs) (λ c. search needs) (λ c κs. search needs)
+    slice-write-symbols next-place-requires (λ c. search needs) (λ c. search needs) loop-again same-length returns)

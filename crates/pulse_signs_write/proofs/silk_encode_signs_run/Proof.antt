@@ -97,17 +97,5 @@ returns c =
 pub silk-encode-signs-run-spec : {M : Type 1} → statement M
 silk-encode-signs-run-spec =
     tie.close
-    (tie.spec
-    Inv-loop
-    μ-loop
-    (λ c. search needs)
-    (λ c κs. search needs)
-    loop-holds
-    array-read-ec-enc-icdf-run
-    cast-ec-enc-icdf-run
-    ec-enc-icdf-run-requires
-    add-k
-    (λ c. search needs)
-    loop-again
-    same-length
-    returns)
+    (tie.spec Inv-loop μ-loop (λ c. search needs) (λ c κs. search needs) loop-holds array-read-ec-enc-icdf-run
+    cast-ec-enc-icdf-run ec-enc-icdf-run-requires add-k (λ c. search needs) loop-again same-length returns)
