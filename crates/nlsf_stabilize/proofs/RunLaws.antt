@@ -33,19 +33,23 @@ run-start g v =
     let s = run kept16 20 g v in
     let z : 0 + s .moves ≡ s .moves = omega arith in ap (λ (k : ℕ). record { vector = s .vector; moves = k }) z
 
-pub run-stop : (g v : List ℤ) (m : ℕ) (s : Stable) → MoveOk g v 0 → keeps g v ≡ true → after m (run kept16 (20 - m) g v) ≡ s → record { vector = v; moves = m } ≡ s
+pub run-stop : (g v : List ℤ) (m : ℕ) (s : Stable) → MoveOk g v 0 → keeps g v ≡ true → after m (run kept16 (20 - m) g v) ≡ s
+    → record { vector = v; moves = m } ≡ s
 run-stop g v m s o k e = sym (turn-stop kept16 m (20 - m) g v (o .long) (o .rule .good) k) ∙ e
 
-pub run-on : (g v w : List ℤ) (i m : ℕ) (s : Stable) → m < 20 → keeps g v ≡ false → i ≡ place g v → w ≡ move kept16 g v i → after m (run kept16 (20 - m) g v) ≡ s
+pub run-on : (g v w : List ℤ) (i m : ℕ) (s : Stable) → m < 20 → keeps g v ≡ false → i ≡ place g v → w ≡ move kept16 g v i
+    → after m (run kept16 (20 - m) g v) ≡ s
     → after (m + 1) (run kept16 (20 - (m + 1)) g w) ≡ s
 run-on g v w i m s h k e f q =
     ap (λ (l : List ℤ). after (m + 1) (run kept16 (20 - (m + 1)) g l)) (f ∙ ap (move kept16 g v) e)
     ∙ sym (turn-move kept16 m (20 - (m + 1)) g v k) ∙ ap (λ (n : ℕ). after m (run kept16 n g v)) (sym (left m h)) ∙ q
 
-pub run-out : (g v w : List ℤ) (m : ℕ) (s : Stable) → m ≡ 20 → w ≡ fallback g v → after m (run kept16 (20 - m) g v) ≡ s → record { vector = w; moves = m } ≡ s
+pub run-out : (g v w : List ℤ) (m : ℕ) (s : Stable) → m ≡ 20 → w ≡ fallback g v → after m (run kept16 (20 - m) g v) ≡ s
+    → record { vector = w; moves = m } ≡ s
 run-out g v w m s h f e =
     let z : 20 - m ≡ 0 = omega arith in
-    ap (λ (l : List ℤ). record { vector = l; moves = m }) f ∙ sym (turn-end kept16 m g v) ∙ ap (λ (n : ℕ). after m (run kept16 n g v)) (sym z) ∙ e
+    ap (λ (l : List ℤ). record { vector = l; moves = m }) f ∙ sym (turn-end kept16 m g v)
+    ∙ ap (λ (n : ℕ). after m (run kept16 n g v)) (sym z) ∙ e
 
 -- under the gap set's rule, the loop's test is the definition's
 pub stays-keeps : (g v : List ℤ) → MoveOk g v 0 → stays g v ≡ keeps g v

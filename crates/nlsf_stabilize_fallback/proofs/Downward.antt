@@ -27,7 +27,8 @@ min-no a b e = ap (λ (t : Bool). cond t a b) e
 pub behind : List ℤ → ℕ → ℤ
 behind l k = front (drop k l)
 
-pub lowered-at : (gs v : List ℤ) (k : ℕ) → length gs ≡ length v → k < length v → at (lowered gs v) k ≡ minZ (at v k) (behind (lowered gs v) (suc k) -ℤ at gs k)
+pub lowered-at : (gs v : List ℤ) (k : ℕ) → length gs ≡ length v → k < length v
+    → at (lowered gs v) k ≡ minZ (at v k) (behind (lowered gs v) (suc k) -ℤ at gs k)
 unfolding lowered behind
 lowered-at gs [] k l h = absurd (not-suc-le-zero h)
 lowered-at [] (x ∷ v) k l h = absurd (omega arith)
@@ -66,7 +67,9 @@ pub down-turn : (g v : List ℤ) (k j : ℕ) → suc j ≡ k → k ≤ length v 
     → (at (lowered (drop 1 g) v) j ≡ minZ (at v j) (behind (lowered (drop 1 g) v) k -ℤ at g k)) × (down (behind (lowered (drop 1 g) v) k -ℤ at g k) ≡ 0)
 down-turn g v k j e h l w =
     let f = lowered (drop 1 g) v in
-    let a : at f j ≡ minZ (at v j) (behind f (suc j) -ℤ at (drop 1 g) j) = lowered-at (drop 1 g) v j (length-tail g (length v) l) (omega arith) in
-    let b : at f j ≡ minZ (at v j) (behind f k -ℤ at g k) = a ∙ ap (λ (z : ℤ). minZ (at v j) (behind f (suc j) -ℤ z)) (at-drop g j) ∙ ap (λ (n : ℕ). minZ (at v j) (behind f n -ℤ at g n)) e in
+    let a : at f j ≡ minZ (at v j) (behind f (suc j) -ℤ at (drop 1 g) j) =
+    lowered-at (drop 1 g) v j (length-tail g (length v) l) (omega arith) in
+    let b : at f j ≡ minZ (at v j) (behind f k -ℤ at g k) =
+    a ∙ ap (λ (z : ℤ). minZ (at v j) (behind f (suc j) -ℤ z)) (at-drop g j) ∙ ap (λ (n : ℕ). minZ (at v j) (behind f n -ℤ at g n)) e in
     let z = behind f k -ℤ at g k in
     (b, omega (arith, min-right (at v j) z, ap up b, ap down b, within-at 0 32767 f w j, parts-alone z))

@@ -46,24 +46,28 @@ raised-first g [] h l = absurd (not-suc-le-zero h)
 raised-first [] (x ∷ v) h l = absurd (omega arith)
 raised-first (a ∷ g) (x ∷ v) h l = refl
 
-climb-at : (p : ℤ) (v g : List ℤ) (k : ℕ) → length v ≤ length g → k < length v → at (climb p v g) k ≡ maxZ (at v k) (sat16 (at (p ∷ climb p v g) k +ℤ at g k))
+climb-at : (p : ℤ) (v g : List ℤ) (k : ℕ) → length v ≤ length g → k < length v
+    → at (climb p v g) k ≡ maxZ (at v k) (sat16 (at (p ∷ climb p v g) k +ℤ at g k))
 unfolding climb
 climb-at p [] g k l h = absurd (not-suc-le-zero h)
 climb-at p (x ∷ v) [] k l h = absurd (not-suc-le-zero l)
 climb-at p (x ∷ v) (a ∷ g) zero l h = refl
 climb-at p (x ∷ v) (a ∷ g) (suc k) l h = climb-at (maxZ x (sat16 (p +ℤ a))) v g k (le-of-suc-le-suc l) (le-of-suc-le-suc h)
 
-raised-next : (g v : List ℤ) (k : ℕ) → suc k < length v → length g ≡ suc (length v) → at (raised g v) (suc k) ≡ maxZ (at v (suc k)) (sat16 (at (raised g v) k +ℤ at g (suc k)))
+raised-next : (g v : List ℤ) (k : ℕ) → suc k < length v → length g ≡ suc (length v)
+    → at (raised g v) (suc k) ≡ maxZ (at v (suc k)) (sat16 (at (raised g v) k +ℤ at g (suc k)))
 unfolding raised
 raised-next g [] k h l = absurd (not-suc-le-zero h)
 raised-next [] (x ∷ v) k h l = absurd (omega arith)
-raised-next (a ∷ g) (x ∷ v) k h l = climb-at (maxZ x a) v g k (let e : length g ≡ suc (length v) = suc-inj l in omega arith) (le-of-suc-le-suc h)
+raised-next (a ∷ g) (x ∷ v) k h l =
+    climb-at (maxZ x a) v g k (let e : length g ≡ suc (length v) = suc-inj l in omega arith) (le-of-suc-le-suc h)
 
 -- what stands before place i of the result: 0, or the value before
 pub raised-at : (g v : List ℤ) (i : ℕ) → i < length v → length g ≡ suc (length v) → down (at g 0) ≡ 0 → up (at g 0) ≤ 32767
     → at (raised g v) i ≡ maxZ (at v i) (sat16 (at (pos 0 ∷ raised g v) i +ℤ at g i))
 raised-at g v zero h l d u =
-    raised-first g v h l ∙ ap (maxZ (at v 0)) (sym (ap (λ (z : ℤ). sat16 z) (zero-plus (at g 0)) ∙ sat-same (at g 0) (omega arith) (omega arith)))
+    raised-first g v h l
+    ∙ ap (maxZ (at v 0)) (sym (ap (λ (z : ℤ). sat16 z) (zero-plus (at g 0)) ∙ sat-same (at g 0) (omega arith) (omega arith)))
 raised-at g v (suc k) h l d u = raised-next g v k h l
 
 pub none-below : (g : List ℤ) (n : ℕ) → Ruled g → length g ≡ suc n → 0 < n → NoneBelow g

@@ -49,7 +49,8 @@ pub move-first : (g v : List ℤ) (i : ℕ) → i ≡ 0 → MoveOk g v i → set
 unfolding move
 move-first g v i e m =
     let c = cut g 0 (length v) (m .long) (m .some) (m .rule .good) in
-    ap (set v 0) (sym (kept16-keeps (at g 0) (fits-nat (at g 0) (c .here0) (omega (arith, c .all, c .some, m .rule .most))))) ∙ ap (move kept16 g v) (sym e)
+    ap (set v 0) (sym (kept16-keeps (at g 0) (fits-nat (at g 0) (c .here0) (omega (arith, c .all, c .some, m .rule .most)))))
+    ∙ ap (move kept16 g v) (sym e)
 
 -- the last value's new place: 0 .. 32,767
 last-near : (g v : List ℤ) (i : ℕ) → i ≡ length v → MoveOk g v i → (down (top -ℤ at g i) ≡ 0) × (up (top -ℤ at g i) ≤ 32767)
@@ -78,7 +79,9 @@ move-between g v zero x y n z m e f = absurd (not-suc-le-zero z)
 move-between g v (suc j) x y n z m e f =
     let c = cut g (suc j) (length v) (m .long) (omega (arith, m .place, n)) (m .rule .good) in
     let p : suc j - 1 ≡ j = omega arith in
-    let a : x ≡ newLow kept16 g (suc j) (at v j) (at v (suc j)) = e ∙ ap (λ (k : ℕ). held (lower g (suc j)) (upper g (suc j)) (half (at v k +ℤ at v (suc j) +ℤ pos 1)) -ℤ half (at g (suc j))) p ∙ sym (low-is kept16 kept16-keeps g (suc j) (length v) (at v j) (at v (suc j)) (m .rule .most) c) in
+    let a : x ≡ newLow kept16 g (suc j) (at v j) (at v (suc j)) =
+    e ∙ ap (λ (k : ℕ). held (lower g (suc j)) (upper g (suc j)) (half (at v k +ℤ at v (suc j) +ℤ pos 1)) -ℤ half (at g (suc j))) p
+    ∙ sym (low-is kept16 kept16-keeps g (suc j) (length v) (at v j) (at v (suc j)) (m .rule .most) c) in
     ap (λ (k : ℕ). set (set v k x) (suc j) y) p
     ∙ ap₂ (λ (r s : ℤ). set (set v j r) (suc j) s) a (f ∙ ap (λ (r : ℤ). wrap16 (r +ℤ at g (suc j))) a)
     ∙ sym (ap (λ (t : Bool). cond t (set v j (kept16 (top -ℤ at g (suc j)))) (set (set v j (newLow kept16 g (suc j) (at v j) (at v (suc j)))) (suc j) (newHigh kept16 g (suc j) (at v j) (at v (suc j))))) (ne-eqb (suc j) (length v) n))

@@ -19,16 +19,19 @@ use Rattle.spectrum.specs.Distances.{diffs, place}
 use Rattle.spectrum.specs.Values.{at, top, total, _≼_}
 use Rattle.nlsf_stabilize_search.specs.Asked.{keyed, smallestKey}
 
-pub at-first : (v g : List ℤ) (i : ℕ) → i ≡ 0 → 0 < length v → length g ≡ suc (length v) → at (diffs (pos 0) v g) i ≡ at v 0 -ℤ (pos 0 +ℤ at g 0)
+pub at-first : (v g : List ℤ) (i : ℕ) → i ≡ 0 → 0 < length v → length g ≡ suc (length v)
+    → at (diffs (pos 0) v g) i ≡ at v 0 -ℤ (pos 0 +ℤ at g 0)
 at-first [] g i e h l = absurd (not-suc-le-zero h)
 at-first (x ∷ v) g i e h l = ap (at (diffs (pos 0) (x ∷ v) g)) e ∙ diff-first (pos 0) x v g (omega arith)
 
-pub at-between : (v g : List ℤ) (i : ℕ) → 0 < i → i < length v → length g ≡ suc (length v) → at (diffs (pos 0) v g) i ≡ at v i -ℤ (at v (i - 1) +ℤ at g i)
+pub at-between : (v g : List ℤ) (i : ℕ) → 0 < i → i < length v → length g ≡ suc (length v)
+    → at (diffs (pos 0) v g) i ≡ at v i -ℤ (at v (i - 1) +ℤ at g i)
 at-between v g zero z h l = absurd (not-suc-le-zero z)
 at-between v g (suc j) z h l =
     let e : suc j - 1 ≡ j = omega arith in rw e (diff-between (pos 0) v g j l h)
 
-pub at-last : (v g : List ℤ) (i : ℕ) → 0 < i → i ≡ length v → length g ≡ suc (length v) → at (diffs (pos 0) v g) i ≡ top -ℤ (at v (i - 1) +ℤ at g i)
+pub at-last : (v g : List ℤ) (i : ℕ) → 0 < i → i ≡ length v → length g ≡ suc (length v)
+    → at (diffs (pos 0) v g) i ≡ top -ℤ (at v (i - 1) +ℤ at g i)
 at-last v g zero z h l = absurd (not-suc-le-zero z)
 at-last v g (suc j) z h l = let e : suc j - 1 ≡ j = omega arith in rw e (diff-last (pos 0) v g j l h)
 

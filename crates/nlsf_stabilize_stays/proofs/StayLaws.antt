@@ -48,7 +48,8 @@ module _ (p g x : ℤ) where
 
   place-lost : ltZ g (pos 0) || ltZ x (p +ℤ g) ≡ true → Place p g x → ⊥
   place-lost e k =
-      either (ltZ g (pos 0)) (ltZ x (p +ℤ g)) e (λ h. omega (arith, ltZ-true g (pos 0) h, k .nat)) (λ h. omega (arith, ltZ-true x (p +ℤ g) h, k .kept))
+      either (ltZ g (pos 0)) (ltZ x (p +ℤ g)) e (λ h. omega (arith, ltZ-true g (pos 0) h, k .nat))
+      (λ h. omega (arith, ltZ-true x (p +ℤ g) h, k .kept))
 
 -- ---- all places: the first i, and the last, whose gap is 1 or more
 

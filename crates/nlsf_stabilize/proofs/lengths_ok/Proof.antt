@@ -4,9 +4,6 @@ use Rattle.spectrum.specs.Calls.{lengthsOk}
 use Rattle.nlsf_stabilize.proofs.lengths_ok.Statement.{statement}
 use Rattle.nlsf_stabilize.proofs.lengths_ok.Tie as tie
 
-add-result : tie.Need-add-result
-add-result c = search needs
-
 returns : tie.Need-returns
 unfolding lengthsOk
 returns c = rw (c .if1 .taken)
@@ -16,4 +13,4 @@ unfolding lengthsOk
 returns-2 c = rw (c .if1 .left)
 
 pub lengths-ok-spec : {M : Type 1} → statement M
-lengths-ok-spec = tie.close (tie.spec add-result returns returns-2)
+lengths-ok-spec = tie.close (tie.spec (λ c. search needs) returns returns-2)

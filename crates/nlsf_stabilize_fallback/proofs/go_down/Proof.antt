@@ -18,7 +18,8 @@ use Rattle.nlsf_stabilize_fallback.proofs.go_down.Statement.{statement}
 use Rattle.nlsf_stabilize_fallback.proofs.go_down.Tie as tie
 
 abbrev Inv-loop : tie.InvT-loop
-Inv-loop v₀ g k₀ next₀ v k next = (k ≤ length v₀) × (Down (lowered (drop 1 g) v₀) v₀ v k × (toZ w32 next ≡ behind (lowered (drop 1 g) v₀) k))
+Inv-loop v₀ g k₀ next₀ v k next =
+    (k ≤ length v₀) × (Down (lowered (drop 1 g) v₀) v₀ v k × (toZ w32 next ≡ behind (lowered (drop 1 g) v₀) k))
 
 abbrev μ-loop : tie.MeasureT-loop
 μ-loop v₀ g k₀ next₀ v k next = k
@@ -29,17 +30,8 @@ loop-holds c =
     let f = lowered (drop 1 (c .args .g .now)) v in
     (omega arith, (down-start f v, sym (subst (λ (n : ℕ). behind f n ≡ top) (length-lowered (drop 1 (c .args .g .now)) v) (behind-end f))))
 
-sub-j : tie.Need-sub-j Inv-loop μ-loop
-sub-j c = search needs
-
-mul-lower-one : tie.Need-mul-lower-one Inv-loop μ-loop
-mul-lower-one c = search needs
-
 slice-copy-out-lower-one : tie.Need-slice-copy-out-lower-one Inv-loop μ-loop
 slice-copy-out-lower-one c = omega (arith, c .before .loop .inv .1 .0 .long)
-
-mul-lower-one-2 : tie.Need-mul-lower-one-2 Inv-loop μ-loop
-mul-lower-one-2 c = search needs
 
 shared-slice-copy-out-lower-one : tie.Need-shared-slice-copy-out-lower-one Inv-loop μ-loop
 shared-slice-copy-out-lower-one c = omega (arith, c .before .before .before .pre .0)
@@ -55,18 +47,12 @@ lower-one-requires c κs =
     let t = down-turn g v (b .loop .k) (b .loop .k - 1) (omega arith) (b .loop .inv .0) (b .before .pre .0) (b .before .pre .1) in
     rw (toZ-ofZ k, b .loop .inv .1 .1) (omega (arith, m .1), (omega (arith, m .0), omega (arith, t .1)))
 
-mul-x : tie.Need-mul-x Inv-loop μ-loop
-mul-x c = search needs
-
 slice-set-from-x : tie.Need-slice-set-from-x Inv-loop μ-loop
 slice-set-from-x c = omega (arith, c .before .before .before .before .loop .inv .1 .0 .long)
 
 cast-next : tie.Need-cast-next Inv-loop μ-loop
 cast-next c =
     let f : SFits w16 (c .lower-one .result) = sfits-of (c .lower-one .ok) in rw (toZ-ofZ f) (sfits-widen {w = w16} tt f)
-
-loop-less : tie.Need-loop-less Inv-loop μ-loop
-loop-less c = search needs
 
 loop-again : tie.Need-loop-again Inv-loop μ-loop
 loop-again c =
@@ -80,13 +66,12 @@ loop-again c =
     let k : SFits w16 (at g (b .loop .k)) = sfits-of (c .before .lower-one-arg2 .given) in
     let r : SFits w16 (c .lower-one .result) = sfits-of (c .lower-one .ok) in
     let t = down-turn g v (b .loop .k) j (omega arith) (b .loop .inv .0) (b .before .pre .0) (b .before .pre .1) in
-    let e : c .lower-one .result ≡ minZ (at (b .loop .v) j) (behind f (b .loop .k) -ℤ at g (b .loop .k)) = rw (toZ-ofZ x, toZ-ofZ k, b .loop .inv .1 .1) at (c .lower-one .ensures) in
-    let q : c .lower-one .result ≡ at f j = e ∙ ap (λ (z : ℤ). minZ z (behind f (b .loop .k) -ℤ at g (b .loop .k))) (d .old j (omega arith)) ∙ sym (t .0) in
+    let e : c .lower-one .result ≡ minZ (at (b .loop .v) j) (behind f (b .loop .k) -ℤ at g (b .loop .k)) =
+    rw (toZ-ofZ x, toZ-ofZ k, b .loop .inv .1 .1) at (c .lower-one .ensures) in
+    let q : c .lower-one .result ≡ at f j =
+    e ∙ ap (λ (z : ℤ). minZ z (behind f (b .loop .k) -ℤ at g (b .loop .k))) (d .old j (omega arith)) ∙ sym (t .0) in
     rw (toZ-ofZ r, toZ-ofZ {w = w32} (sfits-widen {w = w16} tt r))
     (omega arith, (down-step f v (b .loop .v) (b .loop .k) j (c .lower-one .result) (omega arith) (b .loop .inv .0) q d, q ∙ sym (behind-at f j (omega (arith, length-lowered (drop 1 g) v)))))
-
-same-length : tie.Need-same-length Inv-loop μ-loop
-same-length c = search needs
 
 returns : tie.Need-returns Inv-loop μ-loop
 returns c =
@@ -94,7 +79,8 @@ returns c =
     let g = b .before .args .g .now in
     let v = b .before .args .v .now in
     let e : b .loop .k ≡ 0 = omega arith in
-    down-end (lowered (drop 1 g) v) v (b .loop .v) (length-lowered (drop 1 g) v) (subst (Down (lowered (drop 1 g) v) v (b .loop .v)) e (b .loop .inv .1 .0))
+    down-end (lowered (drop 1 g) v) v (b .loop .v) (length-lowered (drop 1 g) v)
+    (subst (Down (lowered (drop 1 g) v) v (b .loop .v)) e (b .loop .inv .1 .0))
 
 pub go-down-spec : {M : Type 1} → statement M
 go-down-spec =
@@ -103,16 +89,16 @@ go-down-spec =
     Inv-loop
     μ-loop
     loop-holds
-    sub-j
-    mul-lower-one
+    (λ c. search needs)
+    (λ c. search needs)
     slice-copy-out-lower-one
-    mul-lower-one-2
+    (λ c. search needs)
     shared-slice-copy-out-lower-one
     lower-one-requires
-    mul-x
+    (λ c. search needs)
     slice-set-from-x
     cast-next
-    loop-less
+    (λ c. search needs)
     loop-again
-    same-length
+    (λ c. search needs)
     returns)

@@ -28,15 +28,6 @@ abbrev μ-loop : tie.MeasureT-loop
 loop-holds : tie.Need-loop-holds Inv-loop μ-loop
 loop-holds c = (omega arith, (up-start (raised (c .args .g .now) (c .args .v .now)) (c .args .v .now), refl))
 
-mul-raise-one : tie.Need-mul-raise-one Inv-loop μ-loop
-mul-raise-one c = search needs
-
-slice-copy-out-raise-one : tie.Need-slice-copy-out-raise-one Inv-loop μ-loop
-slice-copy-out-raise-one c = search needs
-
-mul-raise-one-2 : tie.Need-mul-raise-one-2 Inv-loop μ-loop
-mul-raise-one-2 c = search needs
-
 shared-slice-copy-out-raise-one : tie.Need-shared-slice-copy-out-raise-one Inv-loop μ-loop
 shared-slice-copy-out-raise-one c =
     let b = c .before .before in omega (arith, b .loop .inv .1 .0 .long, b .before .pre .1 .0)
@@ -46,15 +37,6 @@ raise-one-requires c κs =
     let b = c .before .before .before in
     let k : SFits w16 (at (b .before .args .g .now) (b .loop .i)) = sfits-of (c .raise-one-arg2 .given) in
     rw (toZ-ofZ k) (b .before .pre .1 .1 .none (b .loop .i))
-
-mul-x : tie.Need-mul-x Inv-loop μ-loop
-mul-x c = search needs
-
-slice-set-from-x : tie.Need-slice-set-from-x Inv-loop μ-loop
-slice-set-from-x c = search needs
-
-add-i : tie.Need-add-i Inv-loop μ-loop
-add-i c = search needs
 
 loop-less : tie.Need-loop-less Inv-loop μ-loop
 loop-less c =
@@ -71,9 +53,12 @@ loop-again c =
     let k : SFits w16 (at g i) = sfits-of (c .before .raise-one-arg2 .given) in
     let r : SFits w16 (c .raise-one .result) = sfits-of (c .raise-one .ok) in
     let h : i < length v = omega (arith, u .long) in
-    let e : c .raise-one .result ≡ maxZ (at (b .loop .v) i) (sat16 (at (pos 0 ∷ raised g v) i +ℤ at g i)) = rw (toZ-ofZ x, toZ-ofZ k, b .loop .inv .1 .1) at (c .raise-one .ensures) in
+    let e : c .raise-one .result ≡ maxZ (at (b .loop .v) i) (sat16 (at (pos 0 ∷ raised g v) i +ℤ at g i)) =
+    rw (toZ-ofZ x, toZ-ofZ k, b .loop .inv .1 .1) at (c .raise-one .ensures) in
     let p = b .before .pre .1 in
-    let q : c .raise-one .result ≡ at (raised g v) i = e ∙ ap (λ (z : ℤ). maxZ z (sat16 (at (pos 0 ∷ raised g v) i +ℤ at g i))) (u .old i (omega arith)) ∙ sym (raised-at g v i h (p .0) (p .1 .none 0) (p .1 .first)) in
+    let q : c .raise-one .result ≡ at (raised g v) i =
+    e ∙ ap (λ (z : ℤ). maxZ z (sat16 (at (pos 0 ∷ raised g v) i +ℤ at g i))) (u .old i (omega arith))
+    ∙ sym (raised-at g v i h (p .0) (p .1 .none 0) (p .1 .first)) in
     rw (toZ-ofZ r) (omega arith, (up-step (raised g v) v (b .loop .v) i (c .raise-one .result) h q u, q ∙ ap (at (pos 0 ∷ raised g v)) (sym (add-one i))))
 
 same-length : tie.Need-same-length Inv-loop μ-loop
@@ -93,14 +78,14 @@ go-up-spec =
     Inv-loop
     μ-loop
     loop-holds
-    mul-raise-one
-    slice-copy-out-raise-one
-    mul-raise-one-2
+    (λ c. search needs)
+    (λ c. search needs)
+    (λ c. search needs)
     shared-slice-copy-out-raise-one
     raise-one-requires
-    mul-x
-    slice-set-from-x
-    add-i
+    (λ c. search needs)
+    (λ c. search needs)
+    (λ c. search needs)
     loop-less
     loop-again
     same-length

@@ -17,7 +17,8 @@ use Rattle.spectrum.proofs.Widened.{wide}
 use Rattle.nlsf_stabilize_fallback.proofs.lower_one.Statement.{statement}
 use Rattle.nlsf_stabilize_fallback.proofs.lower_one.Tie as tie
 
-module _ (x n g : ℤ) (fx : SFits w16 x) (fn : SFits w32 n) (fg : SFits w16 g) (b : (up n ≤ 32768) × ((down n ≤ 32768) × (down (n -ℤ g) ≤ 32768))) where
+module _ (x n g : ℤ) (fx : SFits w16 x) (fn : SFits w32 n) (fg : SFits w16 g)
+    (b : (up n ≤ 32768) × ((down n ≤ 32768) × (down (n -ℤ g) ≤ 32768))) where
   y-fits : SFits w32 (n -ℤ g)
   y-fits =
       parts-fit (n -ℤ g) (omega (arith, b, up-diff n g, fits-up g fg, fits-down g fg)) (omega (arith, b))
@@ -35,7 +36,8 @@ cast-y c = rw (toZ-ofZ (c .fits .gap)) (wide (c .fits .gap))
 
 sub-y : tie.Need-sub-y
 sub-y c =
-    rw (takes _ _ _ (c .fits .x) (c .fits .next) (c .fits .gap) (c .pre)) (y-fits _ _ _ (c .fits .x) (c .fits .next) (c .fits .gap) (c .pre))
+    rw (takes _ _ _ (c .fits .x) (c .fits .next) (c .fits .gap) (c .pre))
+    (y-fits _ _ _ (c .fits .x) (c .fits .next) (c .fits .gap) (c .pre))
 
 cast-if1 : tie.Need-cast-if1
 cast-if1 c = rw (toZ-ofZ (c .fits .x)) (wide (c .fits .x))
@@ -60,7 +62,8 @@ returns-2 : tie.Need-returns-2
 returns-2 c =
     let s = c .before in
     let f = s .fits in
-    let e : leZ (s .args .x) (s .args .next -ℤ s .args .gap) ≡ false = rw (takes _ _ _ (f .x) (f .next) (f .gap) (s .pre), toZ-ofZ (y-fits _ _ _ (f .x) (f .next) (f .gap) (s .pre)), toZ-ofZ (f .x), toZ-ofZ (wide (f .x))) at (c .if1 .left) in
+    let e : leZ (s .args .x) (s .args .next -ℤ s .args .gap) ≡ false =
+    rw (takes _ _ _ (f .x) (f .next) (f .gap) (s .pre), toZ-ofZ (y-fits _ _ _ (f .x) (f .next) (f .gap) (s .pre)), toZ-ofZ (f .x), toZ-ofZ (wide (f .x))) at (c .if1 .left) in
     rw (takes _ _ _ (f .x) (f .next) (f .gap) (s .pre), toZ-ofZ (y-fits _ _ _ (f .x) (f .next) (f .gap) (s .pre)), toZ-ofZ (narrow _ _ _ (f .x) (f .next) (f .gap) (s .pre) e))
     (sym (min-no (s .args .x) (s .args .next -ℤ s .args .gap) e))
 

@@ -22,7 +22,8 @@ use Rattle.nlsf_stabilize_fallback.proofs.raise_one.Tie as tie
 module _ (x p g : ℤ) (fx : SFits w16 x) (fp : SFits w16 p) (fg : SFits w16 g) (d : down g ≡ 0) where
   y-fits : SFits w32 (p +ℤ g)
   y-fits =
-      parts-fit (p +ℤ g) (omega (arith, up-sum p g, fits-up p fp, fits-up g fg)) (omega (arith, down-sum p g, fits-down p fp, fits-down g fg))
+      parts-fit (p +ℤ g) (omega (arith, up-sum p g, fits-up p fp, fits-up g fg))
+      (omega (arith, down-sum p g, fits-down p fp, fits-down g fg))
 
   adds : toZ w32 (ofZ w32 (toZ w16 (ofZ w16 p))) +ℤ toZ w32 (ofZ w32 (toZ w16 (ofZ w16 g))) ≡ p +ℤ g
   adds = simp (toZ-ofZ fp, toZ-ofZ fg, toZ-ofZ {w = w32} (sfits-widen {w = w16} tt fp), toZ-ofZ {w = w32} (sfits-widen {w = w16} tt fg))
@@ -36,11 +37,13 @@ module _ (x p g : ℤ) (fx : SFits w16 x) (fp : SFits w16 p) (fg : SFits w16 g) 
 
   narrow : ltZ (pos 32767) (p +ℤ g) ≡ false → SFits w16 (p +ℤ g)
   narrow e =
-      parts-fit (p +ℤ g) (omega (arith, ltZ-false (pos 32767) (p +ℤ g) e, parts-alone (p +ℤ g))) (omega (arith, down-sum p g, fits-down p fp, d))
+      parts-fit (p +ℤ g) (omega (arith, ltZ-false (pos 32767) (p +ℤ g) e, parts-alone (p +ℤ g)))
+      (omega (arith, down-sum p g, fits-down p fp, d))
 
   sat : ltZ (pos 32767) (p +ℤ g) ≡ false → sat16 (p +ℤ g) ≡ p +ℤ g
   sat e =
-      let n = narrow e in sat-same (p +ℤ g) (omega (arith, ltZ-false (pos 32767) (p +ℤ g) e)) (omega (arith, fits-down (p +ℤ g) n, parts-alone (p +ℤ g)))
+      let n = narrow e in
+      sat-same (p +ℤ g) (omega (arith, ltZ-false (pos 32767) (p +ℤ g) e)) (omega (arith, fits-down (p +ℤ g) n, parts-alone (p +ℤ g)))
 
   at-top : ltZ (pos 32767) (p +ℤ g) ≡ true → pos 32767 ≡ maxZ x (sat16 (p +ℤ g))
   at-top e =

@@ -16,11 +16,13 @@ use Rattle.nlsf_stabilize_move.proofs.middle.Tie as tie
 module _ (a b : ℤ) (fa : SFits w16 a) (fb : SFits w16 b) where
   s-fits : SFits w32 (a +ℤ b)
   s-fits =
-      parts-fit (a +ℤ b) (omega (arith, up-sum a b, fits-up a fa, fits-up b fb)) (omega (arith, down-sum a b, fits-down a fa, fits-down b fb))
+      parts-fit (a +ℤ b) (omega (arith, up-sum a b, fits-up a fa, fits-up b fb))
+      (omega (arith, down-sum a b, fits-down a fa, fits-down b fb))
 
   t-fits : SFits w32 (a +ℤ b +ℤ pos 1)
   t-fits =
-      parts-fit (a +ℤ b +ℤ pos 1) (omega (arith, up-sum (a +ℤ b) (pos 1), up-sum a b, fits-up a fa, fits-up b fb)) (omega (arith, down-sum (a +ℤ b) (pos 1), down-sum a b, fits-down a fa, fits-down b fb))
+      parts-fit (a +ℤ b +ℤ pos 1) (omega (arith, up-sum (a +ℤ b) (pos 1), up-sum a b, fits-up a fa, fits-up b fb))
+      (omega (arith, down-sum (a +ℤ b) (pos 1), down-sum a b, fits-down a fa, fits-down b fb))
 
   adds : toZ w32 (ofZ w32 (toZ w16 (ofZ w16 a))) +ℤ toZ w32 (ofZ w32 (toZ w16 (ofZ w16 b))) ≡ a +ℤ b
   adds = simp (toZ-ofZ fa, toZ-ofZ fb, toZ-ofZ {w = w32} (sfits-widen {w = w16} tt fa), toZ-ofZ {w = w32} (sfits-widen {w = w16} tt fb))

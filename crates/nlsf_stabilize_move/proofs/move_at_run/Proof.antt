@@ -24,29 +24,15 @@ behind-is r =
     let g = b .args .g .now in
     let i = b .args .i in
     let k : SFits w16 (at g i) = sfits-of (r .before .rest-arg .given) in
-    let e : r .rest .result ≡ (total g -ℤ total (take i g)) -ℤ at g i = rw (toZ-ofZ (b .fits .sum), toZ-ofZ (b .fits .before), b .pre .1 .0, b .pre .1 .1, toZ-ofZ k) at (r .rest .ensures) in
+    let e : r .rest .result ≡ (total g -ℤ total (take i g)) -ℤ at g i =
+    rw (toZ-ofZ (b .fits .sum), toZ-ofZ (b .fits .before), b .pre .1 .0, b .pre .1 .1, toZ-ofZ k) at (r .rest .ensures) in
     toZ-ofZ {w = w32} (sfits-of (r .rest .ok)) ∙ e ∙ part-behind g (b .args .v .now) i (b .pre .0) (d .if2 .left)
-
-shared-slice-copy-out-v : tie.Need-shared-slice-copy-out-v
-shared-slice-copy-out-v c = search needs
-
-slice-set-from-v : tie.Need-slice-set-from-v
-slice-set-from-v c = search needs
-
-same-length : tie.Need-same-length
-same-length c = search needs
 
 returns : tie.Need-returns
 returns c =
     let b = c .before .before in
     let k : SFits w16 (at (b .args .g .now) 0) = sfits-of (c .v .given) in
     rw (toZ-ofZ k) (move-first (b .args .g .now) (b .args .v .now) (b .args .i) (c .before .if1 .taken) (b .pre .0))
-
-mul-v : tie.Need-mul-v
-mul-v c = search needs
-
-shared-slice-copy-out-v-2 : tie.Need-shared-slice-copy-out-v-2
-shared-slice-copy-out-v-2 c = search needs
 
 cast-v : tie.Need-cast-v
 cast-v c =
@@ -66,57 +52,20 @@ cast-v-2 c =
     let o = last-fits (b .args .g .now) (b .args .v .now) (b .args .i) (c .before .if2 .taken) (b .pre .0) in
     rw (toZ-ofZ k, toZ-ofZ (wide k), toZ-ofZ (wide o)) o
 
-sub-t20 : tie.Need-sub-t20
-sub-t20 c = search needs
-
-mul-t21 : tie.Need-mul-t21
-mul-t21 c = search needs
-
-slice-set-from-v-2 : tie.Need-slice-set-from-v-2
-slice-set-from-v-2 c = search needs
-
-same-length-2 : tie.Need-same-length-2
-same-length-2 c = search needs
-
 returns-2 : tie.Need-returns-2
 returns-2 c =
     let b = c .before .before .before in
     let k : SFits w16 (at (b .args .g .now) (b .args .i)) = sfits-of (c .v2 .given) in
     let o = last-fits (b .args .g .now) (b .args .v .now) (b .args .i) (c .before .if2 .taken) (b .pre .0) in
-    rw (toZ-ofZ k, toZ-ofZ (wide k), toZ-ofZ (wide o), toZ-ofZ o) (move-last (b .args .g .now) (b .args .v .now) (b .args .i) (c .before .if2 .taken) (omega arith) (b .pre .0))
-
-mul-rest : tie.Need-mul-rest
-mul-rest c = search needs
-
-shared-slice-copy-out-rest : tie.Need-shared-slice-copy-out-rest
-shared-slice-copy-out-rest c = search needs
+    rw (toZ-ofZ k, toZ-ofZ (wide k), toZ-ofZ (wide o), toZ-ofZ o)
+    (move-last (b .args .g .now) (b .args .v .now) (b .args .i) (c .before .if2 .taken) (omega arith) (b .pre .0))
 
 rest-requires : tie.Need-rest-requires
 rest-requires c κs =
     let d = c .before in
     let b = d .before .before in
-    rw (toZ-ofZ (b .fits .sum), toZ-ofZ (b .fits .before), b .pre .1 .0, b .pre .1 .1) (sums-near (b .args .g .now) (b .args .v .now) (b .args .i) (b .pre .0) (d .if2 .left))
-
-sub-pair-low : tie.Need-sub-pair-low
-sub-pair-low c = search needs
-
-mul-pair-low : tie.Need-mul-pair-low
-mul-pair-low c = search needs
-
-slice-copy-out-pair-low : tie.Need-slice-copy-out-pair-low
-slice-copy-out-pair-low c = search needs
-
-mul-pair-low-2 : tie.Need-mul-pair-low-2
-mul-pair-low-2 c = search needs
-
-slice-copy-out-pair-low-2 : tie.Need-slice-copy-out-pair-low-2
-slice-copy-out-pair-low-2 c = search needs
-
-mul-pair-low-3 : tie.Need-mul-pair-low-3
-mul-pair-low-3 c = search needs
-
-shared-slice-copy-out-pair-low : tie.Need-shared-slice-copy-out-pair-low
-shared-slice-copy-out-pair-low c = search needs
+    rw (toZ-ofZ (b .fits .sum), toZ-ofZ (b .fits .before), b .pre .1 .0, b .pre .1 .1)
+    (sums-near (b .args .g .now) (b .args .v .now) (b .args .i) (b .pre .0) (d .if2 .left))
 
 pair-low-requires : tie.Need-pair-low-requires
 pair-low-requires c κs =
@@ -126,36 +75,13 @@ pair-low-requires c κs =
     let v = b .args .v .now in
     let i = b .args .i in
     let k : SFits w16 (at g i) = sfits-of (c .pair-low-arg3 .given) in
-    rw (toZ-ofZ k, toZ-ofZ (b .fits .before), b .pre .1 .1, behind-is (c .before .before .before)) (pair-ok g v i (b .pre .0) (d .if2 .left))
-
-mul-add16 : tie.Need-mul-add16
-mul-add16 c = search needs
-
-shared-slice-copy-out-add16 : tie.Need-shared-slice-copy-out-add16
-shared-slice-copy-out-add16 c = search needs
-
-add16-requires : tie.Need-add16-requires
-add16-requires c κs = search needs
-
-sub-a : tie.Need-sub-a
-sub-a c = search needs
-
-mul-a : tie.Need-mul-a
-mul-a c = search needs
-
-slice-set-from-a : tie.Need-slice-set-from-a
-slice-set-from-a c = search needs
-
-mul-b : tie.Need-mul-b
-mul-b c = search needs
+    rw (toZ-ofZ k, toZ-ofZ (b .fits .before), b .pre .1 .1, behind-is (c .before .before .before))
+    (pair-ok g v i (b .pre .0) (d .if2 .left))
 
 slice-set-from-b : tie.Need-slice-set-from-b
 slice-set-from-b c =
     let d = c .before .before .before .before .before .before .before .before in
     let b = d .before .before in rw length-set (omega (arith, b .pre .0 .place))
-
-same-length-3 : tie.Need-same-length-3
-same-length-3 c = search needs
 
 returns-3 : tie.Need-returns-3
 returns-3 c =
@@ -171,7 +97,8 @@ returns-3 c =
     let f0 : SFits w16 (at v (i - 1)) = sfits-of (p .before .before .before .pair-low-arg .given) in
     let x : SFits w16 (p .pair-low .result) = sfits-of (p .pair-low .ok) in
     let y : SFits w16 (c .add16 .result) = sfits-of (c .add16 .ok) in
-    let e : p .pair-low .result ≡ held (total (take i g) +ℤ half (at g i)) ((top -ℤ total (drop (suc i) g)) -ℤ half (at g i)) (half (at v (i - 1) +ℤ at v i +ℤ pos 1)) -ℤ half (at g i) = rw (toZ-ofZ k, toZ-ofZ f0, toZ-ofZ f1, toZ-ofZ (b .fits .before), b .pre .1 .1, behind-is (p .before .before .before .before)) at (p .pair-low .ensures) in
+    let e : p .pair-low .result ≡ held (total (take i g) +ℤ half (at g i)) ((top -ℤ total (drop (suc i) g)) -ℤ half (at g i)) (half (at v (i - 1) +ℤ at v i +ℤ pos 1)) -ℤ half (at g i) =
+    rw (toZ-ofZ k, toZ-ofZ f0, toZ-ofZ f1, toZ-ofZ (b .fits .before), b .pre .1 .1, behind-is (p .before .before .before .before)) at (p .pair-low .ensures) in
     let w : c .add16 .result ≡ wrap16 (p .pair-low .result +ℤ at g i) = rw (toZ-ofZ x, toZ-ofZ k2) at (c .add16 .ensures) in
     rw (toZ-ofZ x, toZ-ofZ y) (move-between g v i (p .pair-low .result) (c .add16 .result) (d .if2 .left) (omega arith) (b .pre .0) e w)
 
@@ -179,38 +106,38 @@ pub move-at-run-spec : {M : Type 1} → statement M
 move-at-run-spec =
     tie.close
     (tie.spec
-    shared-slice-copy-out-v
-    slice-set-from-v
-    same-length
+    (λ c. search needs)
+    (λ c. search needs)
+    (λ c. search needs)
     returns
-    mul-v
-    shared-slice-copy-out-v-2
+    (λ c. search needs)
+    (λ c. search needs)
     cast-v
     sub-v
     cast-v-2
-    sub-t20
-    mul-t21
-    slice-set-from-v-2
-    same-length-2
+    (λ c. search needs)
+    (λ c. search needs)
+    (λ c. search needs)
+    (λ c. search needs)
     returns-2
-    mul-rest
-    shared-slice-copy-out-rest
+    (λ c. search needs)
+    (λ c. search needs)
     rest-requires
-    sub-pair-low
-    mul-pair-low
-    slice-copy-out-pair-low
-    mul-pair-low-2
-    slice-copy-out-pair-low-2
-    mul-pair-low-3
-    shared-slice-copy-out-pair-low
+    (λ c. search needs)
+    (λ c. search needs)
+    (λ c. search needs)
+    (λ c. search needs)
+    (λ c. search needs)
+    (λ c. search needs)
+    (λ c. search needs)
     pair-low-requires
-    mul-add16
-    shared-slice-copy-out-add16
-    add16-requires
-    sub-a
-    mul-a
-    slice-set-from-a
-    mul-b
+    (λ c. search needs)
+    (λ c. search needs)
+    (λ c κs. search needs)
+    (λ c. search needs)
+    (λ c. search needs)
+    (λ c. search needs)
+    (λ c. search needs)
     slice-set-from-b
-    same-length-3
+    (λ c. search needs)
     returns-3)

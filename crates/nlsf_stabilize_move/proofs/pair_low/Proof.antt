@@ -39,9 +39,6 @@ sub-hi-2 : tie.Need-sub-hi-2
 sub-hi-2 c =
     rw (h-is _ _ _ (c .pre) (c .fits .gap), toZ-ofZ (c .fits .behind), toZ-ofZ (less-fits _ _ _ (c .pre))) (hi-fits _ _ _ (c .pre))
 
-middle-requires : tie.Need-middle-requires
-middle-requires c κs = search needs
-
 -- what is answered, as a number
 is : (c : tie.After-middle)
     → c .middle .result ≡ held (c .before .args .before +ℤ half (c .before .args .gap)) ((top -ℤ c .before .args .behind) -ℤ half (c .before .args .gap)) (half (c .before .args .a +ℤ c .before .args .b +ℤ pos 1))
@@ -52,7 +49,8 @@ is c =
 
 less : (c : tie.After-middle)
     → toZ w32 (ofZ w32 (c .middle .result)) -ℤ toZ w32 (ofZ w32 (shrZ (toZ w32 (ofZ w32 (toZ w16 (ofZ w16 (c .before .args .gap))))) 2))
-    ≡ held (c .before .args .before +ℤ half (c .before .args .gap)) ((top -ℤ c .before .args .behind) -ℤ half (c .before .args .gap)) (half (c .before .args .a +ℤ c .before .args .b +ℤ pos 1)) -ℤ half (c .before .args .gap)
+    ≡ held (c .before .args .before +ℤ half (c .before .args .gap)) ((top -ℤ c .before .args .behind) -ℤ half (c .before .args .gap))
+    (half (c .before .args .a +ℤ c .before .args .b +ℤ pos 1)) -ℤ half (c .before .args .gap)
 less c =
     let s = c .before in
     rw (toZ-ofZ {w = w32} (sfits-of (c .middle .ok)), h-is _ _ _ (s .pre) (s .fits .gap)) (ap (λ (z : ℤ). z -ℤ half (s .args .gap)) (is c))
@@ -76,4 +74,4 @@ returns c =
 pub pair-low-spec : {M : Type 1} → statement M
 pair-low-spec =
     tie.close
-    (tie.spec cast-h add-lo sub-hi sub-hi-2 middle-requires sub-result cast-result returns)
+    (tie.spec cast-h add-lo sub-hi sub-hi-2 (λ c κs. search needs) sub-result cast-result returns)

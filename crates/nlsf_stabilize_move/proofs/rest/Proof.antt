@@ -29,13 +29,15 @@ module _ (s b g : ℤ) (fs : SFits w32 s) (fb : SFits w32 b) (fg : SFits w16 g) 
   takes-both = rw (takes, toZ-ofZ first, toZ-ofZ fg, toZ-ofZ (wide fg))
 
 sub-result : tie.Need-sub-result
-sub-result c = let f = c .fits in rw (takes _ _ _ (f .sum) (f .before) (f .gap) (c .pre)) (first _ _ _ (f .sum) (f .before) (f .gap) (c .pre))
+sub-result c =
+    let f = c .fits in rw (takes _ _ _ (f .sum) (f .before) (f .gap) (c .pre)) (first _ _ _ (f .sum) (f .before) (f .gap) (c .pre))
 
 cast-result : tie.Need-cast-result
 cast-result c = rw (toZ-ofZ (c .fits .gap)) (wide (c .fits .gap))
 
 sub-result-2 : tie.Need-sub-result-2
-sub-result-2 c = let f = c .fits in rw (takes-both _ _ _ (f .sum) (f .before) (f .gap) (c .pre)) (both _ _ _ (f .sum) (f .before) (f .gap) (c .pre))
+sub-result-2 c =
+    let f = c .fits in rw (takes-both _ _ _ (f .sum) (f .before) (f .gap) (c .pre)) (both _ _ _ (f .sum) (f .before) (f .gap) (c .pre))
 
 returns : tie.Need-returns
 returns c =

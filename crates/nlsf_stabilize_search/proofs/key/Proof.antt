@@ -16,10 +16,12 @@ use Rattle.nlsf_stabilize_search.specs.Asked.{keyed}
 use Rattle.nlsf_stabilize_search.proofs.key.Statement.{statement}
 use Rattle.nlsf_stabilize_search.proofs.key.Tie as tie
 
-module _ (x p g : ℤ) (i : ℕ) (fx : SFits w32 x) (fp : SFits w16 p) (fg : SFits w16 g) (b : ((up x ≤ 32768) × (down x ≤ 32768)) × (i ≤ 16)) where
+module _ (x p g : ℤ) (i : ℕ) (fx : SFits w32 x) (fp : SFits w16 p) (fg : SFits w16 g)
+    (b : ((up x ≤ 32768) × (down x ≤ 32768)) × (i ≤ 16)) where
   sum-fits : SFits w32 (p +ℤ g)
   sum-fits =
-      parts-fit (p +ℤ g) (omega (arith, up-sum p g, fits-up p fp, fits-up g fg)) (omega (arith, down-sum p g, fits-down p fp, fits-down g fg))
+      parts-fit (p +ℤ g) (omega (arith, up-sum p g, fits-up p fp, fits-up g fg))
+      (omega (arith, down-sum p g, fits-down p fp, fits-down g fg))
 
   near : Mag 98304 (x -ℤ (p +ℤ g))
   near = (
@@ -69,9 +71,6 @@ sub-result c = let f = c .fits in rw (takes _ _ _ _ (f .x) (f .p) (f .g) (c .pre
 mul-result : tie.Need-mul-result
 mul-result c = let f = c .fits in rw (multiplies _ _ _ _ (f .x) (f .p) (f .g) (c .pre)) (times _ _ _ _ (f .x) (f .p) (f .g) (c .pre))
 
-cast-result-3 : tie.Need-cast-result-3
-cast-result-3 c = search needs
-
 add-result-2 : tie.Need-add-result-2
 add-result-2 c = let f = c .fits in rw (keys _ _ _ _ (f .x) (f .p) (f .g) (c .pre)) (all _ _ _ _ (f .x) (f .p) (f .g) (c .pre))
 
@@ -90,6 +89,6 @@ key-spec =
     add-result
     sub-result
     mul-result
-    cast-result-3
+    (λ c. search needs)
     add-result-2
     returns)

@@ -15,36 +15,16 @@ use Rattle.spectrum.proofs.Widened.{wide}
 use Rattle.nlsf_stabilize_search.proofs.key_between.Statement.{statement}
 use Rattle.nlsf_stabilize_search.proofs.key_between.Tie as tie
 
-mul-key : tie.Need-mul-key
-mul-key c = search needs
-
-shared-slice-copy-out-key : tie.Need-shared-slice-copy-out-key
-shared-slice-copy-out-key c = search needs
-
 cast-key : tie.Need-cast-key
 cast-key c =
     let f : SFits w16 (at (c .before .args .v .now) (c .before .args .i)) = sfits-of (c .key-arg .given) in rw (toZ-ofZ f) (wide f)
-
-sub-key : tie.Need-sub-key
-sub-key c = search needs
-
-mul-key-2 : tie.Need-mul-key-2
-mul-key-2 c = search needs
-
-shared-slice-copy-out-key-2 : tie.Need-shared-slice-copy-out-key-2
-shared-slice-copy-out-key-2 c = search needs
-
-mul-key-3 : tie.Need-mul-key-3
-mul-key-3 c = search needs
-
-shared-slice-copy-out-key-3 : tie.Need-shared-slice-copy-out-key-3
-shared-slice-copy-out-key-3 c = search needs
 
 key-requires : tie.Need-key-requires
 key-requires c κs =
     let a = c .before .before .before .args in
     let f : SFits w16 (at (a .v .now) (a .i)) = sfits-of (c .before .before .key-arg .given) in
-    rw (toZ-ofZ f, toZ-ofZ (wide f)) ((omega (arith, fits-up _ f), omega (arith, fits-down _ f)), omega (arith, c .before .before .before .pre))
+    rw (toZ-ofZ f, toZ-ofZ (wide f))
+    ((omega (arith, fits-up _ f), omega (arith, fits-down _ f)), omega (arith, c .before .before .before .pre))
 
 returns : tie.Need-returns
 returns c =
@@ -55,20 +35,22 @@ returns c =
     let f : SFits w16 (at v i) = sfits-of (c .before .before .before .key-arg .given) in
     let h : SFits w16 (at v (i - 1)) = sfits-of (c .before .before .key-arg2 .given) in
     let k : SFits w16 (at g i) = sfits-of (c .before .key-arg3 .given) in
-    let e : c .key .result ≡ keyed (at v i -ℤ (at v (i - 1) +ℤ at g i)) i = rw (toZ-ofZ f, toZ-ofZ (wide f), toZ-ofZ h, toZ-ofZ k) at (c .key .ensures) in
-    toZ-ofZ {w = w32} (sfits-of (c .key .ok)) ∙ e ∙ ap (λ (z : ℤ). keyed z i) (sym (at-between v g i (b .pre .1 .0) (b .pre .1 .1) (b .pre .0 .0)))
+    let e : c .key .result ≡ keyed (at v i -ℤ (at v (i - 1) +ℤ at g i)) i =
+    rw (toZ-ofZ f, toZ-ofZ (wide f), toZ-ofZ h, toZ-ofZ k) at (c .key .ensures) in
+    toZ-ofZ {w = w32} (sfits-of (c .key .ok)) ∙ e
+    ∙ ap (λ (z : ℤ). keyed z i) (sym (at-between v g i (b .pre .1 .0) (b .pre .1 .1) (b .pre .0 .0)))
 
 pub key-between-spec : {M : Type 1} → statement M
 key-between-spec =
     tie.close
     (tie.spec
-    mul-key
-    shared-slice-copy-out-key
+    (λ c. search needs)
+    (λ c. search needs)
     cast-key
-    sub-key
-    mul-key-2
-    shared-slice-copy-out-key-2
-    mul-key-3
-    shared-slice-copy-out-key-3
+    (λ c. search needs)
+    (λ c. search needs)
+    (λ c. search needs)
+    (λ c. search needs)
+    (λ c. search needs)
     key-requires
     returns)

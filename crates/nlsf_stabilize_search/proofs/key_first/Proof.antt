@@ -14,14 +14,8 @@ use Rattle.spectrum.proofs.Widened.{wide}
 use Rattle.nlsf_stabilize_search.proofs.key_first.Statement.{statement}
 use Rattle.nlsf_stabilize_search.proofs.key_first.Tie as tie
 
-shared-slice-copy-out-key : tie.Need-shared-slice-copy-out-key
-shared-slice-copy-out-key c = search needs
-
 cast-key : tie.Need-cast-key
 cast-key c = let f : SFits w16 (at (c .before .args .v .now) 0) = sfits-of (c .key-arg .given) in rw (toZ-ofZ f) (wide f)
-
-shared-slice-copy-out-key-2 : tie.Need-shared-slice-copy-out-key-2
-shared-slice-copy-out-key-2 c = search needs
 
 key-requires : tie.Need-key-requires
 key-requires c κs =
@@ -41,4 +35,4 @@ returns c =
 pub key-first-spec : {M : Type 1} → statement M
 key-first-spec =
     tie.close
-    (tie.spec shared-slice-copy-out-key cast-key shared-slice-copy-out-key-2 key-requires returns)
+    (tie.spec (λ c. search needs) cast-key (λ c. search needs) key-requires returns)

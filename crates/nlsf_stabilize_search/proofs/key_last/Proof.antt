@@ -13,24 +13,6 @@ use Rattle.nlsf_stabilize_search.proofs.DiffLaws.{at-last}
 use Rattle.nlsf_stabilize_search.proofs.key_last.Statement.{statement}
 use Rattle.nlsf_stabilize_search.proofs.key_last.Tie as tie
 
-sub-key : tie.Need-sub-key
-sub-key c = search needs
-
-mul-key : tie.Need-mul-key
-mul-key c = search needs
-
-shared-slice-copy-out-key : tie.Need-shared-slice-copy-out-key
-shared-slice-copy-out-key c = search needs
-
-mul-key-2 : tie.Need-mul-key-2
-mul-key-2 c = search needs
-
-shared-slice-copy-out-key-2 : tie.Need-shared-slice-copy-out-key-2
-shared-slice-copy-out-key-2 c = search needs
-
-key-requires : tie.Need-key-requires
-key-requires c κs = search needs
-
 returns : tie.Need-returns
 returns c =
     let b = c .before .before .before in
@@ -46,10 +28,10 @@ pub key-last-spec : {M : Type 1} → statement M
 key-last-spec =
     tie.close
     (tie.spec
-    sub-key
-    mul-key
-    shared-slice-copy-out-key
-    mul-key-2
-    shared-slice-copy-out-key-2
-    key-requires
+    (λ c. search needs)
+    (λ c. search needs)
+    (λ c. search needs)
+    (λ c. search needs)
+    (λ c. search needs)
+    (λ c κs. search needs)
     returns)

@@ -58,11 +58,13 @@ sub-result c = rw (takes (c .args .k) (c .fits .k)) (left (c .args .k) (c .fits 
 cast-result : tie.Need-cast-result
 cast-result c =
     let n = few (c .args .k) (c .fits .k) in
-    rw (takes (c .args .k) (c .fits .k), toZ-ofZ (left (c .args .k) (c .fits .k))) (as-natural (c .args .k -ℤ shrZ (c .args .k) 32 *ℤ pos 32) (n .0) (n .1))
+    rw (takes (c .args .k) (c .fits .k), toZ-ofZ (left (c .args .k) (c .fits .k)))
+    (as-natural (c .args .k -ℤ shrZ (c .args .k) 32 *ℤ pos 32) (n .0) (n .1))
 
 returns : tie.Need-returns
 returns c =
-    rw (takes (c .args .k) (c .fits .k), toZ-ofZ (left (c .args .k) (c .fits .k))) (same (c .args .k -ℤ shrZ (c .args .k) 32 *ℤ pos 32) (few (c .args .k) (c .fits .k) .0))
+    rw (takes (c .args .k) (c .fits .k), toZ-ofZ (left (c .args .k) (c .fits .k)))
+    (same (c .args .k -ℤ shrZ (c .args .k) 32 *ℤ pos 32) (few (c .args .k) (c .fits .k) .0))
 
 pub place-of-run-spec : {M : Type 1} → statement M
 place-of-run-spec = tie.close (tie.spec mul-result sub-result cast-result returns)

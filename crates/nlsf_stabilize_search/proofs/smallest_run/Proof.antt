@@ -21,7 +21,8 @@ use Rattle.nlsf_stabilize_search.proofs.smallest_run.Tie as tie
 
 abbrev Inv-loop : tie.InvT-loop
 Inv-loop v g least₀ before₀ sum₀ i₀ least before sum i =
-    ((1 ≤ i) × (i ≤ length v)) × Best (diffs (pos 0) v g) g i (toZ w32 least) (toZ w32 before) × Near i (toZ w32 sum) × (toZ w32 sum ≡ total (take i g))
+    ((1 ≤ i) × (i ≤ length v)) × Best (diffs (pos 0) v g) g i (toZ w32 least) (toZ w32 before) × Near i
+    (toZ w32 sum) × (toZ w32 sum ≡ total (take i g))
 
 abbrev μ-loop : tie.MeasureT-loop
 μ-loop v g least₀ before₀ sum₀ i₀ least before sum i = length v - i
@@ -41,16 +42,14 @@ loop-holds c =
     let g = b .args .g .now in
     let f : SFits w16 (at g 0) = sfits-of (c .sum .given) in (
       (omega arith, omega (arith, b .pre)),
-      best-one (diffs (pos 0) (b .args .v .now) g) g _ (toZ-ofZ {w = w32} (sfits-of (c .before .key-first .ok)) ∙ c .before .key-first .ensures),
+      best-one (diffs (pos 0) (b .args .v .now) g) g _
+          (toZ-ofZ {w = w32} (sfits-of (c .before .key-first .ok)) ∙ c .before .key-first .ensures),
       rw (toZ-ofZ f, toZ-ofZ (wide f)) (near-one (at g 0) f),
       rw (toZ-ofZ f, toZ-ofZ (wide f)) (sym (sum-one g (omega (arith, b .pre)))),
     )
 
 key-between-requires : tie.Need-key-between-requires Inv-loop μ-loop
 key-between-requires c κs = let p = c .before .before .before .before .pre in (p .1, (omega arith, omega arith))
-
-mul-sum : tie.Need-mul-sum Inv-loop μ-loop
-mul-sum c = search needs
 
 shared-slice-copy-out-sum-2 : tie.Need-shared-slice-copy-out-sum-2 Inv-loop μ-loop
 shared-slice-copy-out-sum-2 c = omega (arith, c .before .before .before .before .before .before .pre)
@@ -66,13 +65,8 @@ add-sum c =
     let x = at (b .before .before .before .args .g .now) (b .loop .i) in
     let f : SFits w16 x = sfits-of (c .sum2 .given) in
     let h : b .loop .i < 17 = omega (arith, b .before .before .before .pre) in
-    rw (read (b .loop .i) (toZ w32 (b .loop .sum)) x (b .loop .inv .2) h f) (fits (b .loop .i) (toZ w32 (b .loop .sum)) x (b .loop .inv .2) h f)
-
-add-i : tie.Need-add-i Inv-loop μ-loop
-add-i c = search needs
-
-loop-less : tie.Need-loop-less Inv-loop μ-loop
-loop-less c = search needs
+    rw (read (b .loop .i) (toZ w32 (b .loop .sum)) x (b .loop .inv .2) h f)
+    (fits (b .loop .i) (toZ w32 (b .loop .sum)) x (b .loop .inv .2) h f)
 
 loop-again : tie.Need-loop-again Inv-loop μ-loop
 loop-again c =
@@ -144,12 +138,12 @@ smallest-run-spec =
     cast-sum
     loop-holds
     key-between-requires
-    mul-sum
+    (λ c. search needs)
     shared-slice-copy-out-sum-2
     cast-sum-2
     add-sum
-    add-i
-    loop-less
+    (λ c. search needs)
+    (λ c. search needs)
     loop-again
     key-last-requires
     returns

@@ -28,128 +28,81 @@ abbrev μ-loop : tie.MeasureT-loop
 loop-holds : tie.Need-loop-holds Inv-loop μ-loop
 loop-holds c = (omega arith, parts-fit (pos 0) (omega arith) (omega arith), refl, λ k h. absurd (omega arith))
 
-add-loop : tie.Need-add-loop Inv-loop μ-loop
-add-loop c = search needs
-
-mul-x : tie.Need-mul-x Inv-loop μ-loop
-mul-x c = search needs
-
-shared-slice-copy-out-x : tie.Need-shared-slice-copy-out-x Inv-loop μ-loop
-shared-slice-copy-out-x c = search needs
-
 -- the values read
 value : (c : tie.After-x Inv-loop μ-loop) → SFits w16 (at (c .before .before .before .args .v .now) (c .before .before .loop .i))
 value c = sfits-of (c .x .given)
 
-value-2 : (c : tie.After-y Inv-loop μ-loop) → SFits w16 (at (c .before .before .before .before .args .v .now) (c .before .before .before .loop .i + 1))
+value-2 : (c : tie.After-y Inv-loop μ-loop)
+    → SFits w16 (at (c .before .before .before .before .args .v .now) (c .before .before .before .loop .i + 1))
 value-2 c = sfits-of (c .y .given)
 
-value-3 : (c : tie.After-x2 Inv-loop μ-loop) → SFits w16 (at (c .before .before .before .before .args .v .now) (c .before .before .before .loop .i))
+value-3 : (c : tie.After-x2 Inv-loop μ-loop)
+    → SFits w16 (at (c .before .before .before .before .args .v .now) (c .before .before .before .loop .i))
 value-3 c = sfits-of (c .x2 .given)
 
 cast-x : tie.Need-cast-x Inv-loop μ-loop
 cast-x c = rw (toZ-ofZ (value c)) (wide (value c))
 
-add-y : tie.Need-add-y Inv-loop μ-loop
-add-y c = search needs
-
-mul-y : tie.Need-mul-y Inv-loop μ-loop
-mul-y c = search needs
-
-shared-slice-copy-out-y : tie.Need-shared-slice-copy-out-y Inv-loop μ-loop
-shared-slice-copy-out-y c = search needs
-
 cast-y : tie.Need-cast-y Inv-loop μ-loop
 cast-y c = rw (toZ-ofZ (value-2 c)) (wide (value-2 c))
-
-mul-lost : tie.Need-mul-lost Inv-loop μ-loop
-mul-lost c = search needs
-
-shared-slice-copy-out-lost : tie.Need-shared-slice-copy-out-lost Inv-loop μ-loop
-shared-slice-copy-out-lost c = search needs
 
 lost-requires : tie.Need-lost-requires Inv-loop μ-loop
 lost-requires c κs = near (c .before .before .before .before .loop .inv .1)
 
-add-lost : tie.Need-add-lost Inv-loop μ-loop
-add-lost c = search needs
-
-mul-lost-2 : tie.Need-mul-lost-2 Inv-loop μ-loop
-mul-lost-2 c = search needs
-
-shared-slice-copy-out-lost-2 : tie.Need-shared-slice-copy-out-lost-2 Inv-loop μ-loop
-shared-slice-copy-out-lost-2 c = search needs
-
 lost-requires-2 : tie.Need-lost-requires-2 Inv-loop μ-loop
 lost-requires-2 c κs = rw (read16 (value (c .before .before .before .before))) (near (value (c .before .before .before .before)))
 
+-- the turn's start, behind the first test and behind the second, and where the second value is read
+abbrev turn : tie.After-lost Inv-loop μ-loop → tie.At-loop Inv-loop μ-loop
+turn c = c .before .before .before .before .before
+
+abbrev turn-2 : tie.After-lost2 Inv-loop μ-loop → tie.At-loop Inv-loop μ-loop
+turn-2 c = turn (c .before .before)
+
+abbrev next : tie.After-lost2 Inv-loop μ-loop → tie.After-y Inv-loop μ-loop
+next c = c .before .before .before .before
+
 -- the tests as the laws have them
-first : (c : tie.After-lost Inv-loop μ-loop) → let b = c .before .before .before .before .before in
+first : (c : tie.After-lost Inv-loop μ-loop) → let b = turn c in
     c .lost .result ≡ lostAt (b .before .args .g .now) (b .before .args .v .now) (b .loop .i)
 first c =
-    let b = c .before .before .before .before .before in
+    let b = turn c in
     let h : SFits w16 (at (b .before .args .g .now) (b .loop .i)) = sfits-of (c .before .lost-arg .given) in
     rw (read16 (value (c .before .before .before)), toZ-ofZ h, b .loop .inv .2) at (c .lost .ensures)
 
-second : (c : tie.After-lost2 Inv-loop μ-loop) → let b = c .before .before .before .before .before .before .before in
+second : (c : tie.After-lost2 Inv-loop μ-loop) → let b = turn-2 c in
     c .lost2 .result ≡ lostAt (b .before .args .g .now) (b .before .args .v .now) (suc (b .loop .i))
 second c =
-    let b = c .before .before .before .before .before .before .before in
+    let b = turn-2 c in
     let h : SFits w16 (at (b .before .args .g .now) (b .loop .i + 1)) = sfits-of (c .before .lost-arg2 .given) in
-    let y = c .before .before .before .before in
+    let y = next c in
     rw (read16 (value (y .before)), read16 (value-2 y), toZ-ofZ h, add-one (b .loop .i)) at (c .lost2 .ensures)
 
 both : (c : tie.After-lost2 Inv-loop μ-loop) (t : Bool) → c .before .before .lost .result || c .lost2 .result ≡ t
-    → let b = c .before .before .before .before .before .before .before in let g = b .before .args .g .now in let v = b .before .args .v .now in
+    → let b = turn-2 c in let g = b .before .args .g .now in let v = b .before .args .v .now in
     lostAt g v (b .loop .i) || lostAt g v (suc (b .loop .i)) ≡ t
 both c t e = rw (first (c .before .before), second c) at e
 
 returns : tie.Need-returns Inv-loop μ-loop
 returns c =
-    let b = c .before .before .before .before .before .before .before .before in
-    stays-not (b .before .args .g .now) (b .before .args .v .now) (b .before .pre) (b .loop .i) (omega arith) (both (c .before) true (c .if1 .taken))
-
-add-i : tie.Need-add-i Inv-loop μ-loop
-add-i c = search needs
-
-loop-less : tie.Need-loop-less Inv-loop μ-loop
-loop-less c = search needs
+    let b = turn-2 (c .before) in
+    stays-not (b .before .args .g .now) (b .before .args .v .now) (b .before .pre) (b .loop .i) (omega arith)
+    (both (c .before) true (c .if1 .taken))
 
 loop-again : tie.Need-loop-again Inv-loop μ-loop
 loop-again c =
-    let b = c .before .before .before .before .before .before .before .before in
+    let b = turn-2 (c .before) in
     let v = b .before .args .v .now in
     let i = b .loop .i in
-    let f = value-2 (c .before .before .before .before .before) in
+    let f = value-2 (next (c .before)) in
     let p = passed-two (b .before .args .g .now) v i (b .loop .inv .3) (both (c .before) false (c .if1 .left)) in
     rw (read16 f) (omega arith, f, ap (at v) (add-one i) ∙ ap (at (pos 0 ∷ v)) (sym (add-two i)), λ k h. p k (omega arith))
-
-mul-x-2 : tie.Need-mul-x-2 Inv-loop μ-loop
-mul-x-2 c = search needs
-
-shared-slice-copy-out-x-2 : tie.Need-shared-slice-copy-out-x-2 Inv-loop μ-loop
-shared-slice-copy-out-x-2 c = search needs
 
 cast-x-2 : tie.Need-cast-x-2 Inv-loop μ-loop
 cast-x-2 c = rw (toZ-ofZ (value-3 c)) (wide (value-3 c))
 
-mul-lost-3 : tie.Need-mul-lost-3 Inv-loop μ-loop
-mul-lost-3 c = search needs
-
-shared-slice-copy-out-lost-3 : tie.Need-shared-slice-copy-out-lost-3 Inv-loop μ-loop
-shared-slice-copy-out-lost-3 c = search needs
-
 lost-requires-3 : tie.Need-lost-requires-3 Inv-loop μ-loop
 lost-requires-3 c κs = near (c .before .before .before .before .loop .inv .1)
-
-add-ends : tie.Need-add-ends Inv-loop μ-loop
-add-ends c = search needs
-
-mul-ends : tie.Need-mul-ends Inv-loop μ-loop
-mul-ends c = search needs
-
-shared-slice-copy-out-ends : tie.Need-shared-slice-copy-out-ends Inv-loop μ-loop
-shared-slice-copy-out-ends c = search needs
 
 ends-requires : tie.Need-ends-requires Inv-loop μ-loop
 ends-requires c κs = rw (read16 (value-3 (c .before .before .before))) (near (value-3 (c .before .before .before)))
@@ -163,15 +116,10 @@ returns-2 c =
     let x = value-3 (c .before .before .before .before) in
     let k : SFits w16 (at g i) = sfits-of (c .before .before .before .lost-arg3 .given) in
     let l : SFits w16 (at g (i + 1)) = sfits-of (c .before .ends-arg .given) in
-    let e : c .before .before .lost3 .result ≡ lostAt g v i = rw (read16 x, toZ-ofZ k, b .loop .inv .2) at (c .before .before .lost3 .ensures) in
+    let e : c .before .before .lost3 .result ≡ lostAt g v i =
+    rw (read16 x, toZ-ofZ k, b .loop .inv .2) at (c .before .before .lost3 .ensures) in
     let d : c .ends .result ≡ endsAt g v (suc i) = rw (read16 x, toZ-ofZ l, add-one i) at (c .ends .ensures) in
     rw (e, d) (stays-odd g v (b .before .pre) i (omega arith) (b .loop .inv .3))
-
-mul-ends-2 : tie.Need-mul-ends-2 Inv-loop μ-loop
-mul-ends-2 c = search needs
-
-shared-slice-copy-out-ends-2 : tie.Need-shared-slice-copy-out-ends-2 Inv-loop μ-loop
-shared-slice-copy-out-ends-2 c = search needs
 
 ends-requires-2 : tie.Need-ends-requires-2 Inv-loop μ-loop
 ends-requires-2 c κs = near (c .before .before .before .loop .inv .1)
@@ -193,37 +141,37 @@ stays-run-spec =
     Inv-loop
     μ-loop
     loop-holds
-    add-loop
-    mul-x
-    shared-slice-copy-out-x
+    (λ c. search needs)
+    (λ c. search needs)
+    (λ c. search needs)
     cast-x
-    add-y
-    mul-y
-    shared-slice-copy-out-y
+    (λ c. search needs)
+    (λ c. search needs)
+    (λ c. search needs)
     cast-y
-    mul-lost
-    shared-slice-copy-out-lost
+    (λ c. search needs)
+    (λ c. search needs)
     lost-requires
-    add-lost
-    mul-lost-2
-    shared-slice-copy-out-lost-2
+    (λ c. search needs)
+    (λ c. search needs)
+    (λ c. search needs)
     lost-requires-2
     returns
-    add-i
-    loop-less
+    (λ c. search needs)
+    (λ c. search needs)
     loop-again
-    mul-x-2
-    shared-slice-copy-out-x-2
+    (λ c. search needs)
+    (λ c. search needs)
     cast-x-2
-    mul-lost-3
-    shared-slice-copy-out-lost-3
+    (λ c. search needs)
+    (λ c. search needs)
     lost-requires-3
-    add-ends
-    mul-ends
-    shared-slice-copy-out-ends
+    (λ c. search needs)
+    (λ c. search needs)
+    (λ c. search needs)
     ends-requires
     returns-2
-    mul-ends-2
-    shared-slice-copy-out-ends-2
+    (λ c. search needs)
+    (λ c. search needs)
     ends-requires-2
     returns-3)

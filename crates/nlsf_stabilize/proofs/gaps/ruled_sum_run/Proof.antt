@@ -32,18 +32,6 @@ loop-holds : tie.Need-loop-holds Inv-loop μ-loop
 unfolding total
 loop-holds c = ((omega arith, omega (arith, c .pre)), refl, record { high = omega arith; low = omega arith }, refl)
 
-mul-none : tie.Need-mul-none Inv-loop μ-loop
-mul-none c = search needs
-
-shared-slice-copy-out-none : tie.Need-shared-slice-copy-out-none Inv-loop μ-loop
-shared-slice-copy-out-none c = search needs
-
-mul-sum : tie.Need-mul-sum Inv-loop μ-loop
-mul-sum c = search needs
-
-shared-slice-copy-out-sum : tie.Need-shared-slice-copy-out-sum Inv-loop μ-loop
-shared-slice-copy-out-sum c = search needs
-
 cast-sum : tie.Need-cast-sum Inv-loop μ-loop
 cast-sum c =
     let b = c .before .before .before in
@@ -55,13 +43,8 @@ add-sum c =
     let x = at (b .before .args .g .now) (b .loop .i) in
     let f : SFits w16 x = sfits-of (c .sum .given) in
     let l : b .loop .i < 17 = omega arith in
-    rw (read (b .loop .i) (toZ w32 (b .loop .sum)) x (b .loop .inv .2) l f) (fits (b .loop .i) (toZ w32 (b .loop .sum)) x (b .loop .inv .2) l f)
-
-add-i : tie.Need-add-i Inv-loop μ-loop
-add-i c = search needs
-
-loop-less : tie.Need-loop-less Inv-loop μ-loop
-loop-less c = search needs
+    rw (read (b .loop .i) (toZ w32 (b .loop .sum)) x (b .loop .inv .2) l f)
+    (fits (b .loop .i) (toZ w32 (b .loop .sum)) x (b .loop .inv .2) l f)
 
 loop-again : tie.Need-loop-again Inv-loop μ-loop
 loop-again c =
@@ -81,12 +64,6 @@ loop-again c =
       rw (e, s) (ap (λ (z : ℤ). z +ℤ x) (b .loop .inv .3) ∙ sym (sum-more g i (omega arith))),
     )
 
-mul-if1 : tie.Need-mul-if1 Inv-loop μ-loop
-mul-if1 c = search needs
-
-shared-slice-copy-out-if1 : tie.Need-shared-slice-copy-out-if1 Inv-loop μ-loop
-shared-slice-copy-out-if1 c = search needs
-
 -- past the last gap, the sum is the whole one
 whole-sum : (g : List ℤ) (i : ℕ) (s : ℤ) → i ≡ length g → s ≡ total (take i g) → s ≡ total g
 whole-sum g i s e q = q ∙ ap (λ (n : ℕ). total (take n g)) e ∙ ap total (take-length g)
@@ -96,7 +73,8 @@ whole-test : (g : List ℤ) (n i : ℕ) (none : Bool) (s : ℤ) → i ≡ length
     → (none && (leZ (pos 1) (at g n) && leZ s top)) ≡ goodGaps n g
 unfolding goodGaps
 whole-test g n i none s e p q =
-    ap₂ (λ (t : Bool) (z : ℤ). t && (leZ (pos 1) (at g n) && leZ z top)) (p ∙ ap (λ (k : ℕ). every (leZ (pos 0)) (take k g)) e ∙ ap (every (leZ (pos 0))) (take-length g))
+    ap₂ (λ (t : Bool) (z : ℤ). t && (leZ (pos 1) (at g n) && leZ z top))
+    (p ∙ ap (λ (k : ℕ). every (leZ (pos 0)) (take k g)) e ∙ ap (every (leZ (pos 0))) (take-length g))
     (whole-sum g i s e q)
 
 returns : tie.Need-returns Inv-loop μ-loop
@@ -108,7 +86,8 @@ returns c =
     let l = b .loop in
     let f : SFits w16 (at g n) = sfits-of (c .before .if12 .given) in
     let e : l .i ≡ length g = omega arith in
-    let t : goodGaps n g ≡ true = sym (whole-test g n (l .i) (l .none) (toZ w32 (l .sum)) e (l .inv .1) (l .inv .3)) ∙ (rw (toZ-ofZ f) at (c .if1 .taken)) in
+    let t : goodGaps n g ≡ true =
+    sym (whole-test g n (l .i) (l .none) (toZ w32 (l .sum)) e (l .inv .1) (l .inv .3)) ∙ (rw (toZ-ofZ f) at (c .if1 .taken)) in
     whole-sum g (l .i) (toZ w32 (l .sum)) e (l .inv .3) ∙ sym (ap (λ (x : Bool). cond x (total g) (negsuc 0)) t)
 
 returns-2 : tie.Need-returns-2 Inv-loop μ-loop
@@ -120,7 +99,8 @@ returns-2 c =
     let l = b .loop in
     let f : SFits w16 (at g n) = sfits-of (c .before .if12 .given) in
     let e : l .i ≡ length g = omega arith in
-    let t : goodGaps n g ≡ false = sym (whole-test g n (l .i) (l .none) (toZ w32 (l .sum)) e (l .inv .1) (l .inv .3)) ∙ (rw (toZ-ofZ f) at (c .if1 .left)) in
+    let t : goodGaps n g ≡ false =
+    sym (whole-test g n (l .i) (l .none) (toZ w32 (l .sum)) e (l .inv .1) (l .inv .3)) ∙ (rw (toZ-ofZ f) at (c .if1 .left)) in
     sym (ap (λ (x : Bool). cond x (total g) (negsuc 0)) t)
 
 pub ruled-sum-run-spec : {M : Type 1} → statement M
@@ -130,16 +110,16 @@ ruled-sum-run-spec =
     Inv-loop
     μ-loop
     loop-holds
-    mul-none
-    shared-slice-copy-out-none
-    mul-sum
-    shared-slice-copy-out-sum
+    (λ c. search needs)
+    (λ c. search needs)
+    (λ c. search needs)
+    (λ c. search needs)
     cast-sum
     add-sum
-    add-i
-    loop-less
+    (λ c. search needs)
+    (λ c. search needs)
     loop-again
-    mul-if1
-    shared-slice-copy-out-if1
+    (λ c. search needs)
+    (λ c. search needs)
     returns
     returns-2)
