@@ -1,19 +1,23 @@
 -- `decode` meets its contract: either arm is the book of its rate. Assumes nothing.
-use Prim.Native.Nat.{_≤_}
+use Prim.Native.Nat.{ℕ, _≤_}
 use mathlib.Core.Path.{_≡_, _∙_}
 use native.Mathlib.Omega.{arith}
 use borrow.Author.Needs.{needs, sfits-of}
 use lib.Dec.{T}
 use lib.IntN.{ℤ, pos, negsuc, natAbs}
 use lib.Signed.{nonNeg}
-use lib.ListN.{length}
+use lib.ListN.{length, take, drop}
 use mir.Syntax.{w8, w64}
-use mir.Val.{SFits, Fits}
+use mir.Val.{SFits, Fits, toZ, ofZ}
 use mir.Facts.{toZ-ofZ}
 use Rattle.ints.specs.Parts.{up, down}
+use Rattle.sheet.specs.Books.{Book}
 use Rattle.spectrum.proofs.CallLaws.{Accepted, decode-accepted}
+use Rattle.spectrum.specs.Calls.{bookOf, decoded}
+use Rattle.spectrum.specs.Stabilising.{Stable, kept16}
 use Rattle.spectrum.specs.Values.{at}
-use Rattle.nlsf_decode.proofs.RowLaws.{wide-under, narrow-under, indexed, decoded-as}
+use Rattle.nlsf_decode.specs.Asked.{Indexed, spectrumOf}
+use Rattle.nlsf_decode.proofs.RowLaws.{Under, wide-under, narrow-under, indexed, decoded-as}
 use Rattle.nlsf_decode.proofs.decode.Statement.{statement}
 use Rattle.nlsf_decode.proofs.decode.Tie as tie
 
@@ -35,33 +39,17 @@ taken b = let a = b .before .args in decode-accepted (a .vector .now) (a .t2) (a
 cast-v : tie.Need-cast-v
 cast-v c = rw (toZ-ofZ (first-fits c)) (as-natural (at (c .before .args .t2) 0) (taken c .first0) (taken c .first))
 
-wide-asks : tie.Need-wide-run-requires
-wide-asks c κs =
-    let t = c .before .before .before in
-    let b = t .before in
+-- what the arm of a book asks, and that its answer is the call's
+asks : (b : tie.After-v) {k : Book} {n : ℕ} → let a = b .before .args in Under (a .khz) k n
+    → Indexed n (a .vector .now) (natAbs (toZ w8 (ofZ w8 (at (a .t2) 0)))) (take n (drop 1 (a .t2)))
+asks b u =
     let a = b .before .args in
-    rw (toZ-ofZ (first-fits b)) (indexed (wide-under (a .khz) (t .if1 .taken)) (a .t2) (a .vector .now) (all-there b) (taken b))
+    rw (toZ-ofZ (first-fits b)) (indexed u (a .t2) (a .vector .now) (all-there b) (taken b))
 
-wide-answers : tie.Need-returns
-wide-answers c =
-    let t = c .before .before .before .before .before in
-    let b = t .before in
-    (rw (toZ-ofZ (first-fits b)) at (c .before .wide-run .ensures))
-    ∙ decoded-as (wide-under (b .before .args .khz) (t .if1 .taken)) (b .before .args .t2) (taken b .first0)
-
-narrow-asks : tie.Need-narrow-run-requires
-narrow-asks c κs =
-    let t = c .before .before .before in
-    let b = t .before in
-    let a = b .before .args in
-    rw (toZ-ofZ (first-fits b)) (indexed (narrow-under (a .khz) (t .if1 .left)) (a .t2) (a .vector .now) (all-there b) (taken b))
-
-narrow-answers : tie.Need-returns-2
-narrow-answers c =
-    let t = c .before .before .before .before .before in
-    let b = t .before in
-    (rw (toZ-ofZ (first-fits b)) at (c .before .narrow-run .ensures))
-    ∙ decoded-as (narrow-under (b .before .args .khz) (t .if1 .left)) (b .before .args .t2) (taken b .first0)
+answers : (b : tie.After-v) {k : Book} {n : ℕ} {s : Stable} → let a = b .before .args in Under (a .khz) k n
+    → s ≡ spectrumOf k (natAbs (toZ w8 (ofZ w8 (at (a .t2) 0)))) (take n (drop 1 (a .t2)))
+    → s ≡ decoded kept16 (bookOf (a .khz)) (a .t2)
+answers b u e = (rw (toZ-ofZ (first-fits b)) at e) ∙ decoded-as u (b .before .args .t2) (taken b .first0)
 
 pub decode-spec : {M : Type 1} → statement M
 decode-spec =
@@ -72,12 +60,16 @@ decode-spec =
     (λ c. search needs)
     (λ c. search needs)
     (λ c. search needs)
-    wide-asks
+    (λ c κs. let t = c .before .before .before in asks (t .before) (wide-under (t .before .before .args .khz) (t .if1 .taken)))
     (λ c. search needs)
-    wide-answers
+    (λ c.
+    let t = c .before .before .before .before .before in
+    answers (t .before) (wide-under (t .before .before .args .khz) (t .if1 .taken)) (c .before .wide-run .ensures))
     (λ c. search needs)
     (λ c. search needs)
     (λ c. search needs)
-    narrow-asks
+    (λ c κs. let t = c .before .before .before in asks (t .before) (narrow-under (t .before .before .args .khz) (t .if1 .left)))
     (λ c. search needs)
-    narrow-answers)
+    (λ c.
+    let t = c .before .before .before .before .before in
+    answers (t .before) (narrow-under (t .before .before .args .khz) (t .if1 .left)) (c .before .narrow-run .ensures)))

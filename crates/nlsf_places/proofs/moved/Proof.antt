@@ -36,21 +36,16 @@ divides : (c : tie.Start) → quotZ (toZ w32 (ofZ w32 (toZ w32 (ofZ w32 (c .args
     ≡ quotZ (c .args .r *ℤ pos 16384) (pos (c .args .weight))
 divides c = rw (toZ-ofZ (c .fits .r), toZ-ofZ (product c), toZ-pos w32 {n = c .args .weight} (omega arith))
 
-sums : (c : tie.Start) → toZ w32 (ofZ w32 (quotZ (toZ w32 (ofZ w32 (toZ w32 (ofZ w32 (c .args .r)) *ℤ pos 16384))) (toZ w32 (c .args .weight)))) +ℤ toZ w32 (ofZ w32 (toZ w32 (c .args .value) *ℤ pos 128))
+sums : (c : tie.Start)
+    → toZ w32 (ofZ w32 (quotZ (toZ w32 (ofZ w32 (toZ w32 (ofZ w32 (c .args .r)) *ℤ pos 16384))) (toZ w32 (c .args .weight)))) +ℤ toZ w32 (ofZ w32 (toZ w32 (c .args .value) *ℤ pos 128))
     ≡ quotZ (c .args .r *ℤ pos 16384) (pos (c .args .weight)) +ℤ pos (c .args .value * 128)
 sums c = rw (divides c, toZ-ofZ (quotient c), toZ-pos w32 {n = c .args .value} (omega arith), toZ-ofZ (base c))
 
 mul-result : tie.Need-mul-result
 mul-result c = rw (toZ-ofZ (c .fits .r)) (product c)
 
-cast-result : tie.Need-cast-result
-cast-result c = search needs
-
 div-result : tie.Need-div-result
 div-result c = (omega arith, rw (divides c) (quotient c))
-
-cast-result-2 : tie.Need-cast-result-2
-cast-result-2 c = search needs
 
 mul-result-2 : tie.Need-mul-result-2
 mul-result-2 c = rw (toZ-pos w32 {n = c .args .value} (omega arith)) (base c)
@@ -64,4 +59,4 @@ returns c = rw (sums c) (toZ-ofZ (fits c))
 pub moved-spec : {M : Type 1} → statement M
 moved-spec =
     tie.close
-    (tie.spec mul-result cast-result div-result cast-result-2 mul-result-2 add-result returns)
+    (tie.spec mul-result (λ c. search needs) div-result (λ c. search needs) mul-result-2 add-result returns)

@@ -67,9 +67,6 @@ cast-result c = rw (toZ-ofZ (c .fits .x)) (wide (c .args .x) (c .fits .x))
 mul-result : tie.Need-mul-result
 mul-result c = rw (reads (c .args .x) (c .fits .x)) (times (c .args .x) (c .fits .x))
 
-toward-zero-requires : tie.Need-toward-zero-requires
-toward-zero-requires c κs = search needs
-
 add-result : tie.Need-add-result
 add-result c = rw (sums c) (sum (c .before .args .x) (c .before .fits .x))
 
@@ -79,4 +76,4 @@ returns c =
     rw (sums c, toZ-ofZ (sum x (c .before .fits .x))) (summed x)
 
 pub nudge-spec : {M : Type 1} → statement M
-nudge-spec = tie.close (tie.spec cast-result mul-result toward-zero-requires add-result returns)
+nudge-spec = tie.close (tie.spec cast-result mul-result (λ c κs. search needs) add-result returns)

@@ -22,19 +22,19 @@ abbrev number : ℕ → ℕ → ℤ → ℤ
 number value weight r = quotZ (r *ℤ pos 16384) (pos weight) +ℤ pos (value * 128)
 
 -- what the machine holds
-reads : (c : tie.After-moved) → toZ w32 (ofZ w32 (c .moved .result)) ≡ number (c .before .args .value) (c .before .args .weight) (c .before .args .r)
+reads : (c : tie.After-moved)
+    → toZ w32 (ofZ w32 (c .moved .result)) ≡ number (c .before .args .value) (c .before .args .weight) (c .before .args .r)
 reads c = toZ-ofZ {w = w32} (sfits-of (c .moved .ok)) ∙ (rw (toZ-ofZ (c .before .fits .r)) at (c .moved .ensures))
 
 inside : (z : ℤ) → ltZ (pos 32767) z ≡ false → ltZ z (pos 0) ≡ false → SFits w16 z
 inside z e f =
     parts-fit z (omega (arith, parts-alone z, ltZ-false (pos 32767) z e)) (omega (arith, parts-alone z, ltZ-false z (pos 0) f))
 
-moved-requires : tie.Need-moved-requires
-moved-requires c κs = search needs
-
 returns : tie.Need-returns
 unfolding placed
-returns c = let a = c .before .before .args in held-hi (pos 0) (pos 32767) (number (a .value) (a .weight) (a .r)) (rw (reads (c .before)) at (c .if1 .taken))
+returns c =
+    let a = c .before .before .args in
+    held-hi (pos 0) (pos 32767) (number (a .value) (a .weight) (a .r)) (rw (reads (c .before)) at (c .if1 .taken))
 
 returns-2 : tie.Need-returns-2
 unfolding placed
@@ -60,4 +60,4 @@ returns-3 c =
     rw (e, toZ-ofZ (inside z o u)) (held-own (pos 0) (pos 32767) z o u)
 
 pub place-spec : {M : Type 1} → statement M
-place-spec = tie.close (tie.spec moved-requires returns returns-2 cast-result returns-3)
+place-spec = tie.close (tie.spec (λ c κs. search needs) returns returns-2 cast-result returns-3)

@@ -98,16 +98,10 @@ loop-holds c =
     let n = sym (s .pre .book) in
     (omega (arith, s .pre .book), subst (λ (k : ℕ). Down f v v k) n (down-start f v), sym (subst (λ (k : ℕ). at (residualsBy (lent s) (s .args .xs .now)) k ≡ pos 0) n (none-behind (lent s) v (s .args .xs .now) (s .pre))))
 
-sub-j : tie.Need-sub-j Inv-loop μ-loop
-sub-j c = search needs
-
 predictor-requires : tie.Need-predictor-requires Inv-loop μ-loop
 predictor-requires c κs =
     let s = c .before .before .before .before .before .before in
     (omega (arith, s .pre .pairs, c .before .loop .inv .0), omega (arith, s .pre .lists, c .before .loop .inv .0))
-
-shared-slice-copy-out-residual : tie.Need-shared-slice-copy-out-residual Inv-loop μ-loop
-shared-slice-copy-out-residual c = search needs
 
 residual-requires : tie.Need-residual-requires Inv-loop μ-loop
 residual-requires c κs =
@@ -119,15 +113,6 @@ residual-requires c κs =
     let n : Mag 29200 (toZ w32 (b .loop .r)) = rw (b .loop .inv .2) (fitting (b .before) (b .loop .k)) in
     rw (toZ-ofZ f) (((w .1, w .0), s .pre .small), n)
 
-shared-slice-read-place : tie.Need-shared-slice-read-place Inv-loop μ-loop
-shared-slice-read-place c = search needs
-
-mul-place : tie.Need-mul-place Inv-loop μ-loop
-mul-place c = search needs
-
-shared-slice-read-place-2 : tie.Need-shared-slice-read-place-2 Inv-loop μ-loop
-shared-slice-read-place-2 c = search needs
-
 place-requires : tie.Need-place-requires Inv-loop μ-loop
 place-requires c κs =
     let b = c .before .before .before .before .before .before in
@@ -135,15 +120,6 @@ place-requires c κs =
       rw (residual-is (c .before .before)) (fitting (b .before) (b .loop .k - 1)),
       s .pre .heavy (b .loop .k - 1) (omega arith),
     )
-
-mul-t21 : tie.Need-mul-t21 Inv-loop μ-loop
-mul-t21 c = search needs
-
-slice-set-from-vector : tie.Need-slice-set-from-vector Inv-loop μ-loop
-slice-set-from-vector c = search needs
-
-loop-less : tie.Need-loop-less Inv-loop μ-loop
-loop-less c = search needs
 
 loop-again : tie.Need-loop-again Inv-loop μ-loop
 loop-again c =
@@ -156,9 +132,6 @@ loop-again c =
     let e : suc j ≡ b .loop .k = omega arith in
     let z : toZ w16 (ofZ w16 (c .place .result)) ≡ at (placesBy (lent s) xs) j = toZ-ofZ {w = w16} (sfits-of (c .place .ok)) ∙ (rw r at (c .place .ensures)) ∙ puts (lent s) v xs (s .pre) j (omega arith) in
     (omega arith, down-step (placesBy (lent s) xs) v (b .loop .vector) (b .loop .k) j (toZ w16 (ofZ w16 (c .place .result))) e (b .loop .inv .0) z (b .loop .inv .1), r)
-
-same-length : tie.Need-same-length Inv-loop μ-loop
-same-length c = search needs
 
 returns : tie.Need-returns Inv-loop μ-loop
 returns c =
@@ -175,17 +148,17 @@ places-run-spec =
     Inv-loop
     μ-loop
     loop-holds
-    sub-j
+    (λ c. search needs)
     predictor-requires
-    shared-slice-copy-out-residual
+    (λ c. search needs)
     residual-requires
-    shared-slice-read-place
-    mul-place
-    shared-slice-read-place-2
+    (λ c. search needs)
+    (λ c. search needs)
+    (λ c. search needs)
     place-requires
-    mul-t21
-    slice-set-from-vector
-    loop-less
+    (λ c. search needs)
+    (λ c. search needs)
+    (λ c. search needs)
     loop-again
-    same-length
+    (λ c. search needs)
     returns)

@@ -19,9 +19,6 @@ product c = times-fits (c .args .r) (c .args .p) 29200 256 (c .pre .0) (c .pre .
 reads : (c : tie.Start) → toZ w32 (ofZ w32 (c .args .r)) *ℤ toZ w32 (c .args .p) ≡ c .args .r *ℤ pos (c .args .p)
 reads c = rw (toZ-ofZ (c .fits .r), toZ-pos w32 {n = c .args .p} (omega arith))
 
-cast-result : tie.Need-cast-result
-cast-result c = search needs
-
 mul-result : tie.Need-mul-result
 mul-result c = rw (reads c) (product c)
 
@@ -30,4 +27,4 @@ unfolding predicted
 returns c = rw (reads c, toZ-ofZ (product c)) (toZ-ofZ {w = w32} (shr-fits (c .args .r *ℤ pos (c .args .p)) 256 (product c)))
 
 pub predict-spec : {M : Type 1} → statement M
-predict-spec = tie.close (tie.spec cast-result mul-result returns)
+predict-spec = tie.close (tie.spec (λ c. search needs) mul-result returns)

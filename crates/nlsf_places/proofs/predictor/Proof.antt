@@ -28,15 +28,6 @@ inside c =
     let b : c .list-of .result < 2 = omega (arith, c .list-of .ensures, list-below (getD (a .selectors .now) (a .i / 2) 0) (a .i)) in
     omega (arith, entry-below (c .list-of .result) (length (a .lists .now) / 2) (a .i) b (s .pre .1))
 
-shared-slice-read-list-of : tie.Need-shared-slice-read-list-of
-shared-slice-read-list-of c = search needs
-
-list-of-requires : tie.Need-list-of-requires
-list-of-requires c κs = search needs
-
-cast-result : tie.Need-cast-result
-cast-result c = search needs
-
 mul-result : tie.Need-mul-result
 mul-result c = omega (arith, inside c)
 
@@ -56,9 +47,9 @@ pub predictor-spec : {M : Type 1} → statement M
 predictor-spec =
     tie.close
     (tie.spec
-    shared-slice-read-list-of
-    list-of-requires
-    cast-result
+    (λ c. search needs)
+    (λ c κs. search needs)
+    (λ c. search needs)
     mul-result
     add-result
     shared-slice-read-result

@@ -23,19 +23,14 @@ fits c =
 
 -- what the machine adds
 sums : (c : tie.After-scale) → toZ w32 (ofZ w32 (c .before .predict .result)) +ℤ toZ w32 (ofZ w32 (c .scale .result))
-    ≡ predicted (c .before .before .args .p) (c .before .before .args .behind) +ℤ scaled (c .before .before .args .step) (c .before .before .args .x)
+    ≡ predicted (c .before .before .args .p) (c .before .before .args .behind) +ℤ scaled (c .before .before .args .step)
+    (c .before .before .args .x)
 sums c =
     let a = c .before .before .args in
     let f = c .before .before .fits in
     let e : c .before .predict .result ≡ predicted (a .p) (a .behind) = rw (toZ-ofZ (f .behind)) at (c .before .predict .ensures) in
     let g : c .scale .result ≡ scaled (a .step) (a .x) = rw (toZ-ofZ (f .x)) at (c .scale .ensures) in
     rw (toZ-ofZ {w = w32} (sfits-of (c .before .predict .ok)), toZ-ofZ {w = w32} (sfits-of (c .scale .ok)), e, g)
-
-predict-requires : tie.Need-predict-requires
-predict-requires c κs = search needs
-
-scale-requires : tie.Need-scale-requires
-scale-requires c κs = search needs
 
 add-result : tie.Need-add-result
 add-result c = rw (sums c) (fits (c .before .before))
@@ -44,4 +39,4 @@ returns : tie.Need-returns
 returns c = rw (sums c) (toZ-ofZ (fits (c .before .before)))
 
 pub residual-spec : {M : Type 1} → statement M
-residual-spec = tie.close (tie.spec predict-requires scale-requires add-result returns)
+residual-spec = tie.close (tie.spec (λ c κs. search needs) (λ c κs. search needs) add-result returns)

@@ -19,16 +19,11 @@ product c =
     times-fits (nudged (c .args .x)) (c .args .step) 10138 11796 (n .0) (n .1) (c .pre .1) (lit< tt)
 
 -- what the machine multiplies
-reads : (c : tie.After-nudge) → toZ w32 (ofZ w32 (c .nudge .result)) *ℤ toZ w32 (c .before .args .step) ≡ nudged (c .before .args .x) *ℤ pos (c .before .args .step)
+reads : (c : tie.After-nudge)
+    → toZ w32 (ofZ w32 (c .nudge .result)) *ℤ toZ w32 (c .before .args .step) ≡ nudged (c .before .args .x) *ℤ pos (c .before .args .step)
 reads c =
     let e : c .nudge .result ≡ nudged (c .before .args .x) = rw (toZ-ofZ (c .before .fits .x)) at (c .nudge .ensures) in
     rw (toZ-ofZ {w = w32} (sfits-of (c .nudge .ok)), e, toZ-pos w32 {n = c .before .args .step} (omega arith))
-
-nudge-requires : tie.Need-nudge-requires
-nudge-requires c κs = search needs
-
-cast-result : tie.Need-cast-result
-cast-result c = search needs
 
 mul-result : tie.Need-mul-result
 mul-result c = rw (reads c) (product (c .before))
@@ -40,4 +35,4 @@ returns c =
     rw (reads c, toZ-ofZ p) (toZ-ofZ {w = w32} (shr-fits (nudged (c .before .args .x) *ℤ pos (c .before .args .step)) 65536 p))
 
 pub scale-spec : {M : Type 1} → statement M
-scale-spec = tie.close (tie.spec nudge-requires cast-result mul-result returns)
+scale-spec = tie.close (tie.spec (λ c κs. search needs) (λ c. search needs) mul-result returns)
