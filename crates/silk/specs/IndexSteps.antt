@@ -1,5 +1,6 @@
--- Reading side indices part by part; a field that is coded or fixed; one turn of each loop over the side indices: the rest of its tree, run on what a turn left, gives what it gave before. Counted as code counts,
--- by k + 1. For residuals also how much of their selectors matters, read or written. Assumes nothing.
+-- Reading side indices part by part; a field that is coded or fixed; one turn of each loop over the side indices: the rest of its tree,
+-- run on what a turn left, gives what it gave before. Counted as code counts, by k + 1. For residuals also how much of their selectors
+-- matters, read or written. Assumes nothing.
 use Prim.Native.Nat.{ℕ, zero, suc, _+_, _-_, _≤_, _<_}
 use mathlib.Core.Path.{_≡_, refl, ap₂, fun-ext, _∙_}
 use mathlib.Core.List.{List}
