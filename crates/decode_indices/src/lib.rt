@@ -1,5 +1,5 @@
-// The call that reads a frame's side indices (document 01; RFC 6716, section 4.2.7), as the crate's decode_indices.rs: it tests packet, state and
-// numbers once, and hands the record in and out by value.
+// The call that reads a frame's side indices (document 01; RFC 6716, section 4.2.7), as the crate's decode_indices.rs: it tests packet,
+// state and numbers once, and hands the record in and out by value.
 ghost use mathlib.Core.Path.{_≡_};
 ghost use Prim.Native.Nat.{_^_, _<_};
 ghost use Rattle.tree.specs.Asks.{got};

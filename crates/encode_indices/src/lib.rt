@@ -1,5 +1,5 @@
-// The call that writes a frame's side indices (document 01, "Side indices"; RFC 6716, section 4.2.7): it tests buffer, state, numbers and fields
-// once, and writes each field by the row that its reader reads.
+// The call that writes a frame's side indices (document 01, "Side indices"; RFC 6716, section 4.2.7): it tests buffer, state, numbers and
+// fields once, and writes each field by the row that its reader reads.
 ghost use mathlib.Core.Path.{_≡_};
 ghost use Prim.Native.Nat.{_^_, _<_};
 ghost use lib.IntN.{natAbs};

@@ -1,5 +1,5 @@
-// Whether the fields of a record lie in their ranges, so that a frame may be written (document 01, "Side indices", refusal 8). The pitch of an
-// unvoiced frame is not looked at.
+// Whether the fields of a record lie in their ranges, so that a frame may be written (document 01, "Side indices", refusal 8). The pitch
+// of an unvoiced frame is not looked at.
 ghost use mathlib.Core.Path.{_≡_};
 ghost use Prim.Native.Nat.{_<_};
 ghost use lib.IntN.{pos};

@@ -1,5 +1,5 @@
-// Whether the pitch of a voiced frame lies in its ranges, so that it may be written (document 01, "Side indices", refusal 8; RFC 6716, section
-// 4.2.7.6).
+// Whether the pitch of a voiced frame lies in its ranges, so that it may be written (document 01, "Side indices", refusal 8; RFC 6716,
+// section 4.2.7.6).
 ghost use mathlib.Core.Path.{_≡_};
 ghost use Prim.Native.Nat.{ℕ, _-_, _*_, _^_, _<_};
 ghost use lib.IntN.{pos, natAbs};

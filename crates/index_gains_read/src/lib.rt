@@ -1,11 +1,16 @@
-// The gains of a frame read (RFC 6716, section 4.2.7.4), as in the crate's decode_indices.rs. The rows are lent by the caller; the record goes in
-// and out by value.
+// The gains of a frame read (RFC 6716, section 4.2.7.4), as in the crate's decode_indices.rs. The rows are lent by the caller; the record
+// goes in and out by value.
 ghost use Prim.Native.Nat.{_-_, _^_, _<_};
 ghost use Rattle.tree.specs.Ran.{Ran};
 ghost use Rattle.silk.specs.IndexRows.{Reading, Subframes};
 ghost use Rattle.silk.specs.IndexSyntax.{firstGain, moreGains, gains};
 use entcode::Dec;
 use entdec_run::ec_dec_icdf8_run;
+use index_layout::DELTA_GAIN;
+use index_layout::DELTA_GAIN_END;
+use index_layout::GAIN;
+use index_layout::GAIN_LOW;
+use index_layout::GAIN_LOW_END;
 use silk::Indices;
 use silk::IndicesPart;
 
@@ -17,7 +22,7 @@ fn first_gain(packet: &[u8], d: Dec, rows: &[u8], x: Indices, mode: u32, signal:
 {
     let mut out = x;
     if mode == 2 {
-        let a = ec_dec_icdf8_run(packet, d, &rows[30..71]);
+        let a = ec_dec_icdf8_run(packet, d, &rows[DELTA_GAIN..DELTA_GAIN_END]);
         out.gains[0] = a.value as i8;
         let state = a.state;
         return IndicesPart {
@@ -25,10 +30,10 @@ fn first_gain(packet: &[u8], d: Dec, rows: &[u8], x: Indices, mode: u32, signal:
             state,
         };
     }
-    let start = 6 + (signal as usize) * 8;
+    let start = GAIN + (signal as usize) * 8;
     let end = start + 8;
     let h = ec_dec_icdf8_run(packet, d, &rows[start..end]);
-    let l = ec_dec_icdf8_run(packet, h.state, &rows[548..556]);
+    let l = ec_dec_icdf8_run(packet, h.state, &rows[GAIN_LOW..GAIN_LOW_END]);
     out.gains[0] = (h.value * 8 + l.value) as i8;
     let state = l.state;
     IndicesPart {
@@ -47,7 +52,7 @@ fn more_gains(packet: &[u8], d: Dec, rows: &[u8], x: Indices, n: usize) -> Indic
     let mut r = d;
     let mut k: usize = 1;
     while k < n {
-        let a = ec_dec_icdf8_run(packet, r, &rows[30..71]);
+        let a = ec_dec_icdf8_run(packet, r, &rows[DELTA_GAIN..DELTA_GAIN_END]);
         out.gains[k] = a.value as i8;
         r = a.state;
         k += 1;

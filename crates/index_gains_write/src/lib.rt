@@ -1,5 +1,5 @@
-// The gains of a frame written (RFC 6716, section 4.2.7.4): what a record whose fields lie in their ranges says of them, each by the row that its
-// reader reads. The rows are lent by the caller.
+// The gains of a frame written (RFC 6716, section 4.2.7.4): what a record whose fields lie in their ranges says of them, each by the row
+// that its reader reads. The rows are lent by the caller.
 ghost use Prim.Native.Nat.{ℕ, _-_, _^_, _≤_, _<_};
 ghost use lib.IntN.{pos};
 ghost use lib.ListN.{getD};
@@ -11,6 +11,11 @@ ghost use Rattle.silk.specs.IndexParts.{Upto, firstMost};
 ghost use Rattle.silk.specs.IndexSays.{WritesGains};
 use entcode::Enc;
 use entenc_run::ec_enc_icdf8_run;
+use index_layout::DELTA_GAIN;
+use index_layout::DELTA_GAIN_END;
+use index_layout::GAIN;
+use index_layout::GAIN_LOW;
+use index_layout::GAIN_LOW_END;
 use silk::Indices;
 
 // The first gain.
@@ -21,12 +26,12 @@ fn first_gain_tell(buf: &mut [u8], w: Enc, rows: &[u8], x: Indices, mode: u32, s
 {
     let gain = x.gains[0] as u32;
     if mode == 2 {
-        return ec_enc_icdf8_run(buf, w, gain, &rows[30..71]);
+        return ec_enc_icdf8_run(buf, w, gain, &rows[DELTA_GAIN..DELTA_GAIN_END]);
     }
-    let start = 6 + (signal as usize) * 8;
+    let start = GAIN + (signal as usize) * 8;
     let end = start + 8;
     let h = ec_enc_icdf8_run(buf, w, gain / 8, &rows[start..end]);
-    ec_enc_icdf8_run(buf, h, gain % 8, &rows[548..556])
+    ec_enc_icdf8_run(buf, h, gain % 8, &rows[GAIN_LOW..GAIN_LOW_END])
 }
 
 // The gains past the first.
@@ -38,7 +43,7 @@ fn more_gains_tell(buf: &mut [u8], w: Enc, rows: &[u8], x: Indices, n: usize) ->
     let mut q = w;
     let mut k: usize = 1;
     while k < n {
-        q = ec_enc_icdf8_run(buf, q, x.gains[k] as u32, &rows[30..71]);
+        q = ec_enc_icdf8_run(buf, q, x.gains[k] as u32, &rows[DELTA_GAIN..DELTA_GAIN_END]);
         k += 1;
     }
     q

@@ -1,5 +1,5 @@
-// Lag, contour, filters and scale of a voiced frame read (RFC 6716, section 4.2.7.6), as in the crate's decode_indices.rs. The rows are lent by the
-// caller; the record goes in and out by value.
+// Lag, contour, filters and scale of a voiced frame read (RFC 6716, section 4.2.7.6), as in the crate's decode_indices.rs. The rows are
+// lent by the caller; the record goes in and out by value.
 ghost use mathlib.Core.Path.{_≡_};
 ghost use Prim.Native.Nat.{_^_, _<_};
 ghost use Rattle.tree.specs.Ran.{Ran};
@@ -7,6 +7,14 @@ ghost use Rattle.silk.specs.IndexRows.{Reading, Rate, Subframes};
 ghost use Rattle.silk.specs.IndexSyntax.{absoluteLag, lagAfter, lag, contour, filters, period, scale, pitch};
 use entcode::Dec;
 use entdec_run::ec_dec_icdf8_run;
+use index_layout::DELTA_LAG;
+use index_layout::DELTA_LAG_END;
+use index_layout::LAG;
+use index_layout::LAG_END;
+use index_layout::PERIOD;
+use index_layout::PERIOD_END;
+use index_layout::SCALE;
+use index_layout::SCALE_END;
 use index_layout::contour_size;
 use index_layout::contour_start;
 use index_layout::lag_low_start;
@@ -24,7 +32,7 @@ fn absolute_lag(packet: &[u8], d: Dec, rows: &[u8], x: Indices, khz: u32) -> Ind
     let half = khz / 2;
     let start = lag_low_start(khz);
     let end = start + (half as usize);
-    let h = ec_dec_icdf8_run(packet, d, &rows[355..387]);
+    let h = ec_dec_icdf8_run(packet, d, &rows[LAG..LAG_END]);
     let l = ec_dec_icdf8_run(packet, h.state, &rows[start..end]);
     let mut out = x;
     out.lag = (h.value * half + l.value) as i16;
@@ -59,7 +67,7 @@ fn lag_index(
     ensures { λ a. ⌜ Ran (now (packet .entry)) d (lag relative khz before x) 48 (a .indices) (a .state) ⌝ }
 {
     if relative {
-        let a = ec_dec_icdf8_run(packet, d, &rows[387..408]);
+        let a = ec_dec_icdf8_run(packet, d, &rows[DELTA_LAG..DELTA_LAG_END]);
         if a.value == 0 {
             return absolute_lag(packet, a.state, rows, x, khz);
         }
@@ -132,7 +140,7 @@ fn period_index(packet: &[u8], d: Dec, rows: &[u8], x: Indices, subframes: u32) 
     requires { ⌜ Subframes subframes ⌝ }
     ensures { λ a. ⌜ Ran (now (packet .entry)) d (period subframes x) 80 (a .indices) (a .state) ⌝ }
 {
-    let a = ec_dec_icdf8_run(packet, d, &rows[468..471]);
+    let a = ec_dec_icdf8_run(packet, d, &rows[PERIOD..PERIOD_END]);
     let mut out = x;
     out.period = a.value as i8;
     filter_indices(packet, a.state, rows, out, a.value, subframes as usize)
@@ -145,7 +153,7 @@ fn scale_index(packet: &[u8], d: Dec, rows: &[u8], x: Indices, mode: u32) -> Ind
 {
     let mut out = x;
     if mode == 0 {
-        let a = ec_dec_icdf8_run(packet, d, &rows[527..530]);
+        let a = ec_dec_icdf8_run(packet, d, &rows[SCALE..SCALE_END]);
         out.scale = a.value as i8;
         let state = a.state;
         return IndicesPart {

@@ -1,5 +1,5 @@
-// Lag, contour, filters and scale of a voiced frame written (RFC 6716, section 4.2.7.6): what a record whose fields lie in their ranges says of them,
-// each by the row that its reader reads. The rows are lent by the caller.
+// Lag, contour, filters and scale of a voiced frame written (RFC 6716, section 4.2.7.6): what a record whose fields lie in their ranges
+// says of them, each by the row that its reader reads. The rows are lent by the caller.
 ghost use Prim.Native.Nat.{ℕ, _-_, _*_, _^_, _<_};
 ghost use lib.IntN.{ℤ, pos, natAbs};
 ghost use lib.ListN.{getD};
@@ -11,6 +11,14 @@ ghost use Rattle.silk.specs.IndexParts.{Upto};
 ghost use Rattle.silk.specs.IndexSays.{WritesPitch};
 use entcode::Enc;
 use entenc_run::ec_enc_icdf8_run;
+use index_layout::DELTA_LAG;
+use index_layout::DELTA_LAG_END;
+use index_layout::LAG;
+use index_layout::LAG_END;
+use index_layout::PERIOD;
+use index_layout::PERIOD_END;
+use index_layout::SCALE;
+use index_layout::SCALE_END;
 use index_layout::contour_size;
 use index_layout::contour_start;
 use index_layout::lag_low_start;
@@ -29,7 +37,7 @@ fn absolute_lag_tell(buf: &mut [u8], w: Enc, rows: &[u8], x: Indices, khz: u32) 
     let start = lag_low_start(khz);
     let end = start + (half as usize);
     let value = x.lag as u32;
-    let h = ec_enc_icdf8_run(buf, w, value / half, &rows[355..387]);
+    let h = ec_enc_icdf8_run(buf, w, value / half, &rows[LAG..LAG_END]);
     ec_enc_icdf8_run(buf, h, value % half, &rows[start..end])
 }
 
@@ -39,7 +47,7 @@ fn delta_tell(buf: &mut [u8], w: Enc, rows: &[u8], relative: bool) -> Enc
     ensures { λ r. ⌜ ((khz : ℕ) (before : ℤ) (x : Indices) → Midway (out (now (buf .entry)) w) x (lag relative khz before x) 16 (out (now (buf .exit)) r) x (absoluteLag khz x)) ⌝ }
 {
     if relative {
-        return ec_enc_icdf8_run(buf, w, 0, &rows[387..408]);
+        return ec_enc_icdf8_run(buf, w, 0, &rows[DELTA_LAG..DELTA_LAG_END]);
     }
     w
 }
@@ -94,7 +102,7 @@ fn period_tell(buf: &mut [u8], w: Enc, rows: &[u8], x: Indices, subframes: u32) 
     ensures { λ r. ⌜ Told (out (now (buf .entry)) w) x (period subframes x) 80 (out (now (buf .exit)) r) ⌝ }
 {
     let p = x.period as u32;
-    let q = ec_enc_icdf8_run(buf, w, p, &rows[468..471]);
+    let q = ec_enc_icdf8_run(buf, w, p, &rows[PERIOD..PERIOD_END]);
     filters_tell(buf, q, rows, x, p, subframes as usize)
 }
 
@@ -105,7 +113,7 @@ fn scale_tell(buf: &mut [u8], w: Enc, rows: &[u8], x: Indices, mode: u32) -> Enc
     ensures { λ r. ⌜ Told (out (now (buf .entry)) w) x (scale mode x) 16 (out (now (buf .exit)) r) ⌝ }
 {
     if mode == 0 {
-        return ec_enc_icdf8_run(buf, w, x.scale as u32, &rows[527..530]);
+        return ec_enc_icdf8_run(buf, w, x.scale as u32, &rows[SCALE..SCALE_END]);
     }
     w
 }

@@ -7,6 +7,10 @@ ghost use Rattle.silk.specs.IndexSyntax.{kind, interpolation, seed};
 use entcode::Dec;
 use entcode::Decoded;
 use entdec_run::ec_dec_icdf8_run;
+use index_layout::INTERPOLATION;
+use index_layout::INTERPOLATION_END;
+use index_layout::SEED;
+use index_layout::SEED_END;
 use silk::Indices;
 use silk::IndicesPart;
 
@@ -43,7 +47,7 @@ pub fn interpolation_run(
 {
     let mut out = x;
     if subframes == 4 {
-        let a = ec_dec_icdf8_run(packet, d, &rows[350..355]);
+        let a = ec_dec_icdf8_run(packet, d, &rows[INTERPOLATION..INTERPOLATION_END]);
         out.interp = a.value as i8;
         let state = a.state;
         return IndicesPart {
@@ -62,7 +66,7 @@ pub fn seed_run(packet: &[u8], d: Dec, rows: &[u8], x: Indices) -> IndicesPart
     requires { ⌜ Reading (now packet) d (now rows) (2 ^ 29) ⌝ }
     ensures { λ a. ⌜ Ran (now (packet .entry)) d (seed x) 16 (a .indices) (a .state) ⌝ }
 {
-    let a = ec_dec_icdf8_run(packet, d, &rows[533..537]);
+    let a = ec_dec_icdf8_run(packet, d, &rows[SEED..SEED_END]);
     let mut out = x;
     out.seed = a.value as i8;
     let state = a.state;

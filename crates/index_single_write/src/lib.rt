@@ -1,5 +1,5 @@
-// Type, interpolation and seed of a frame written, a symbol each (RFC 6716, sections 4.2.7.3, 4.2.7.5.5 and 4.2.7.7): what a record whose fields
-// lie in their ranges says of them, each by the row that its reader reads. The rows are lent by the caller.
+// Type, interpolation and seed of a frame written, a symbol each (RFC 6716, sections 4.2.7.3, 4.2.7.5.5 and 4.2.7.7): what a record whose
+// fields lie in their ranges says of them, each by the row that its reader reads. The rows are lent by the caller.
 ghost use Prim.Native.Nat.{_^_, _<_};
 ghost use Rattle.entcode.specs.Flat.{out};
 ghost use Rattle.tree.specs.Told.{Told};
@@ -8,6 +8,10 @@ ghost use Rattle.silk.specs.IndexSyntax.{kindOf, kind, interpolation, seed};
 ghost use Rattle.silk.specs.IndexParts.{Upto, Kind};
 use entcode::Enc;
 use entenc_run::ec_enc_icdf8_run;
+use index_layout::INTERPOLATION;
+use index_layout::INTERPOLATION_END;
+use index_layout::SEED;
+use index_layout::SEED_END;
 use silk::Indices;
 
 // Type and offset as one number.
@@ -37,7 +41,12 @@ pub fn interpolation_tell_run(
     ensures { λ r. ⌜ Told (out (now (buf .entry)) w) x (interpolation subframes x) 16 (out (now (buf .exit)) r) ⌝ }
 {
     if subframes == 4 {
-        return ec_enc_icdf8_run(buf, w, x.interp as u32, &rows[350..355]);
+        return ec_enc_icdf8_run(
+            buf,
+            w,
+            x.interp as u32,
+            &rows[INTERPOLATION..INTERPOLATION_END],
+        );
     }
     w
 }
@@ -47,5 +56,5 @@ pub fn seed_tell_run(buf: &mut [u8], w: Enc, rows: &[u8], x: Indices) -> Enc
     requires { ⌜ Upto 3 (x .seed) ⌝ }
     ensures { λ r. ⌜ Told (out (now (buf .entry)) w) x (seed x) 16 (out (now (buf .exit)) r) ⌝ }
 {
-    ec_enc_icdf8_run(buf, w, x.seed as u32, &rows[533..537])
+    ec_enc_icdf8_run(buf, w, x.seed as u32, &rows[SEED..SEED_END])
 }

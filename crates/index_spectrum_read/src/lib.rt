@@ -1,5 +1,5 @@
-// First index and residuals of a frame's line spectrum read (RFC 6716, section 4.2.7.5), as in the crate's decode_indices.rs. The rows are lent by the
-// caller; the record goes in and out by value.
+// First index and residuals of a frame's line spectrum read (RFC 6716, section 4.2.7.5), as in the crate's decode_indices.rs. The rows
+// are lent by the caller; the record goes in and out by value.
 ghost use mathlib.Core.Path.{_≡_};
 ghost use Prim.Native.Nat.{_+_, _*_, _^_, _≤_, _<_};
 ghost use lib.IntN.{pos, negsuc, _-ℤ_};
@@ -10,6 +10,10 @@ ghost use Rattle.silk.specs.IndexRows.{Reading, Rate};
 ghost use Rattle.silk.specs.IndexSyntax.{residual, residuals, spectrum};
 use entcode::Dec;
 use entdec_run::ec_dec_icdf8_run;
+use index_layout::EXTENSION;
+use index_layout::EXTENSION_END;
+use index_layout::FIRST_INDEX;
+use index_layout::RESIDUAL;
 use index_layout::order_of;
 use nlsf_unpack::residual_pick_run;
 use nlsf_unpack::selectors_run;
@@ -54,17 +58,17 @@ fn residual_index(packet: &[u8], d: Dec, rows: &[u8], k: usize) -> ResidualRead
     requires { ⌜ k < 16 ⌝ }
     ensures { λ a. ⌜ Ran (now (packet .entry)) d (residual (rowOf (12 + k))) 32 (a .value) (a .state) ⌝ }
 {
-    let start = 199 + k * 9;
+    let start = RESIDUAL + k * 9;
     let end = start + 9;
     let a = ec_dec_icdf8_run(packet, d, &rows[start..end]);
     if a.value == 0 {
-        let e = ec_dec_icdf8_run(packet, a.state, &rows[343..350]);
+        let e = ec_dec_icdf8_run(packet, a.state, &rows[EXTENSION..EXTENSION_END]);
         let value = lowered(e.value);
         let state = e.state;
         return ResidualRead { state, value };
     }
     if a.value == 8 {
-        let e = ec_dec_icdf8_run(packet, a.state, &rows[343..350]);
+        let e = ec_dec_icdf8_run(packet, a.state, &rows[EXTENSION..EXTENSION_END]);
         let value = raised(e.value);
         let state = e.state;
         return ResidualRead { state, value };
@@ -121,7 +125,7 @@ pub fn spectrum_run(
     ensures { λ a. ⌜ Ran (now (packet .entry)) d (spectrum khz signal x) 528 (a .indices) (a .state) ⌝ }
 {
     let k = (khz / 16 * 2 + signal / 2) as usize;
-    let start = 71 + k * 32;
+    let start = FIRST_INDEX + k * 32;
     let end = start + 32;
     let a = ec_dec_icdf8_run(packet, d, &rows[start..end]);
     let mut out = x;

@@ -1,5 +1,5 @@
-// First index and residuals of a frame's line spectrum written (RFC 6716, section 4.2.7.5): what a record whose fields lie in their ranges says of them, each by the row that its
-// reader reads. The rows are lent by the caller.
+// First index and residuals of a frame's line spectrum written (RFC 6716, section 4.2.7.5): what a record whose fields lie in their
+// ranges says of them, each by the row that its reader reads. The rows are lent by the caller.
 ghost use mathlib.Core.Path.{_≡_};
 ghost use mathlib.Core.Bool.{false};
 ghost use Prim.Native.Nat.{ℕ, _+_, _*_, _^_, _≤_, _<_};
@@ -14,6 +14,10 @@ ghost use Rattle.silk.specs.IndexSyntax.{extensionSaid, residual, residuals, sp
 ghost use Rattle.silk.specs.IndexSays.{WritesSpectrum};
 use entcode::Enc;
 use entenc_run::ec_enc_icdf8_run;
+use index_layout::EXTENSION;
+use index_layout::EXTENSION_END;
+use index_layout::FIRST_INDEX;
+use index_layout::RESIDUAL;
 use index_layout::order_of;
 use nlsf_unpack::residual_pick_run;
 use nlsf_unpack::selectors_run;
@@ -47,15 +51,15 @@ fn residual_tell(buf: &mut [u8], w: Enc, rows: &[u8], z: i8, k: usize) -> Enc
     requires { ⌜ (k < 16) × (natAbs z ≤ 10) ⌝ }
     ensures { λ r. ⌜ Told (out (now (buf .entry)) w) z (residual (rowOf (12 + k))) 32 (out (now (buf .exit)) r) ⌝ }
 {
-    let start = 199 + k * 9;
+    let start = RESIDUAL + k * 9;
     let end = start + 9;
     if z <= -4 {
         let q = ec_enc_icdf8_run(buf, w, 0, &rows[start..end]);
-        return ec_enc_icdf8_run(buf, q, extension_said(z), &rows[343..350]);
+        return ec_enc_icdf8_run(buf, q, extension_said(z), &rows[EXTENSION..EXTENSION_END]);
     }
     if 4 <= z {
         let q = ec_enc_icdf8_run(buf, w, 8, &rows[start..end]);
-        return ec_enc_icdf8_run(buf, q, extension_said(z), &rows[343..350]);
+        return ec_enc_icdf8_run(buf, q, extension_said(z), &rows[EXTENSION..EXTENSION_END]);
     }
     ec_enc_icdf8_run(buf, w, centred_said(z), &rows[start..end])
 }
@@ -101,7 +105,7 @@ pub fn spectrum_tell_run(
     ensures { λ r. ⌜ Told (out (now (buf .entry)) w) x (spectrum khz signal x) 528 (out (now (buf .exit)) r) ⌝ }
 {
     let k = (khz / 16 * 2 + signal / 2) as usize;
-    let start = 71 + k * 32;
+    let start = FIRST_INDEX + k * 32;
     let end = start + 32;
     let v = x.nlsf[0] as u32;
     let q = ec_enc_icdf8_run(buf, w, v, &rows[start..end]);

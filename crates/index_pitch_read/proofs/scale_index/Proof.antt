@@ -20,7 +20,8 @@ returns c =
     let a = c .before .before in
     let z = a .before .before .before .before .before in
     let t = scale-row (z .pre .rows) in
-    coded-read (z .args .mode) 0 scaleRow (λ y. said (y .scale)) (putScale (z .args .x)) 0 (a .before .before .if1 .taken) (t .is) (a .ec-dec-icdf8-run .ensures) (omega (arith, t .size))
+    coded-read (z .args .mode) 0 scaleRow (λ y. said (y .scale)) (putScale (z .args .x)) 0
+    (a .before .before .if1 .taken) (t .is) (a .ec-dec-icdf8-run .ensures) (omega (arith, t .size))
 
 returns-2 : tie.Need-returns-2
 unfolding scale

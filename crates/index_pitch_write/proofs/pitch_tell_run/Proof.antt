@@ -77,7 +77,8 @@ returns c =
     let x = z .args .x in
     let s = z .args .s in
     let t = z .pre .1 in
-    told-then _ (says-means (lag-says (relativeLag s) (s .khz) (s .prevlag) x (t .0) (t .2 .lag))) (l .lag-tell .ensures (s .prevlag))
+    told-then _ (says-means (lag-says (relativeLag s) (s .khz) (s .prevlag) x (t .0) (t .2 .lag)))
+    (l .lag-tell .ensures (s .prevlag))
     (told-then _ (says-means (contour-says s x (t .0) (t .1) (shape z) (t .2))) (k .contour-tell .ensures)
     (told-then _ (says-means (period-says s x (t .0) (t .1) (shape z) (t .2))) (p .period-tell .ensures) (c .before .before .scale-tell .ensures)))
 

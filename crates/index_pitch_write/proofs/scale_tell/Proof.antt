@@ -34,13 +34,15 @@ returns c =
     let a = c .before .before in
     let b = a .before .before .before .before .before in
     let z = b .before .before .before in
-    coded-told (z .args .mode) 0 scaleRow (λ y. said (y .scale)) (putScale (z .args .x)) 0 (z .args .x) (b .if1 .taken) (scale-row (z .pre .0 .rows) .is) (ap natAbs (scale-is z)) (a .ec-enc-icdf8-run .ensures)
+    coded-told (z .args .mode) 0 scaleRow (λ y. said (y .scale)) (putScale (z .args .x)) 0 (z .args .x)
+    (b .if1 .taken) (scale-row (z .pre .0 .rows) .is) (ap natAbs (scale-is z)) (a .ec-enc-icdf8-run .ensures)
 
 returns-2 : tie.Need-returns-2
 unfolding scale
 returns-2 c =
     let z = c .before .before .before in
-    fixed-told (z .args .mode) 0 scaleRow (λ y. said (y .scale)) (putScale (z .args .x)) 0 (z .args .x) (c .if1 .left) (z .pre .0 .core)
+    fixed-told (z .args .mode) 0 scaleRow (λ y. said (y .scale)) (putScale (z .args .x)) 0 (z .args .x)
+    (c .if1 .left) (z .pre .0 .core)
 
 pub scale-tell-spec : {M : Type 1} → statement M
 scale-tell-spec =

@@ -34,13 +34,15 @@ returns c =
     let a = c .before .before in
     let b = a .before .before .before .before .before in
     let z = b .before .before .before in
-    coded-told (z .args .subframes) 4 interpolationRow (λ y. said (y .interp)) (putInterp (z .args .x)) 4 (z .args .x) (b .if1 .taken) (interpolation-row (z .pre .0 .rows) .is) (ap natAbs (interp-is z)) (a .ec-enc-icdf8-run .ensures)
+    coded-told (z .args .subframes) 4 interpolationRow (λ y. said (y .interp)) (putInterp (z .args .x)) 4 (z .args .x)
+    (b .if1 .taken) (interpolation-row (z .pre .0 .rows) .is) (ap natAbs (interp-is z)) (a .ec-enc-icdf8-run .ensures)
 
 returns-2 : tie.Need-returns-2
 unfolding interpolation
 returns-2 c =
     let z = c .before .before .before in
-    fixed-told (z .args .subframes) 4 interpolationRow (λ y. said (y .interp)) (putInterp (z .args .x)) 4 (z .args .x) (c .if1 .left) (z .pre .0 .core)
+    fixed-told (z .args .subframes) 4 interpolationRow (λ y. said (y .interp)) (putInterp (z .args .x)) 4 (z .args .x)
+    (c .if1 .left) (z .pre .0 .core)
 
 pub interpolation-tell-run-spec : {M : Type 1} → statement M
 interpolation-tell-run-spec =
