@@ -1,54 +1,38 @@
-// Replays recorded inputs of the two programs: each record of standard input has an input and the text that the program prints by the crate's
-// answers (docs/RECORDED.md has the layout). Prints how many inputs of each program agreed, and then that all did, or the number of the first
-// that did not.
-ghost use Prim.Native.Nat.{_+_, _<_, _≤_};
-ghost use lib.ListN.{length};
-ghost use Rattle.records.specs.Places.{Placed, Within};
+// Replays recorded inputs of the two programs: each record of standard input has an input and the text that the
+// program prints by the crate's answers (docs/RECORDED.md has the layout). Prints how many inputs of each program
+// agreed, and then that all did, or the number of the first that did not.
+ghost use Rattle.records.specs.Places.{Placed, Parted};
 use libc::STDIN_FILENO;
-use records::Head;
+use records::PROGRAM_NUMBERS;
+use records::Parts;
 use records::Place;
-use records::begins;
-use records::differs_run;
+use records::calls::FRAME_LISTER;
+use records::calls::NLSF_STABILISER;
+use records::slices::fill_up;
 
 // ---- one input
 
-fn same(a: &[u8], b: &[u8]) -> bool {
-    (a.len() == b.len()) & begins(a, b)
+fn same(printed: &mut [u8], text: &[u8]) -> bool {
+    (printed.len() == text.len()) & fill_up(printed, text, 0)
 }
 
 fn lists(input: &[u8], text: &[u8]) -> bool {
     let mut out = [0u8; 4096];
     let n = lister_text::lister_text(input, &mut out);
-    same(text, &out[..n])
+    same(&mut out[..n], text)
 }
 
 fn stabilises(input: &[u8], text: &[u8]) -> bool {
     let mut out = [0u8; 256];
     let n = stabiliser_text::stabiliser_text(input, &mut out);
-    same(text, &out[..n])
+    same(&mut out[..n], text)
 }
 
 fn prints(call: u8, input: &[u8], text: &[u8]) -> bool {
-    if call == 1 {
+    if call == FRAME_LISTER {
         return lists(input, text);
     }
     stabilises(input, text)
-}
-
-fn byte_or(bytes: &[u8], i: usize, filler: u8) -> u8 {
-    if i < bytes.len() {
-        return bytes[i];
-    }
-    filler
-}
-
-// As many of the given bytes as there is room for, and behind them the filler.
-fn fill_up(room: &mut [u8], given: &[u8], filler: u8) {
-    let mut i = 0;
-    while i < room.len() {
-        room[i] = byte_or(given, i, filler);
-        i += 1;
-    }
 }
 
 fn prints_in(call: u8, room: &mut [u8], given: &[u8], filler: u8, text: &[u8]) -> bool {
@@ -58,8 +42,8 @@ fn prints_in(call: u8, room: &mut [u8], given: &[u8], filler: u8, text: &[u8]) -
 
 // ---- one record
 
-// Whether the program prints the record's text; its input has at most as many bytes as the lister reads.
-fn agrees(size: u32, call: u8, given: &[u8], filler: u8, text: &[u8]) -> bool {
+// Whether the program prints the text; its input has at most as many bytes as the lister reads.
+fn prints_of(size: u32, call: u8, given: &[u8], filler: u8, text: &[u8]) -> bool {
     if 65546 < size {
         return false;
     }
@@ -68,86 +52,33 @@ fn agrees(size: u32, call: u8, given: &[u8], filler: u8, text: &[u8]) -> bool {
     prints_in(call, &mut space[0..n], given, filler, text)
 }
 
-// The record of an input.
-fn run(buf: &[u8], p: Place, h: Head) -> Place
-    requires { ⌜ Placed (now buf) p × Within (now buf) (p .at) h × (h .at + 4 ≤ h .end) ⌝ }
-    ensures { λ q. ⌜ Placed (now (buf .entry)) q × (p .at < q .at) ⌝ }
+// Whether the program prints the record's text.
+fn agrees(buf: &[u8], p: Place, s: Parts) -> bool
+    requires { ⌜ Placed (now buf) p × Parted (now buf) s ⌝ }
 {
+    if buf.len() - s.at < PROGRAM_NUMBERS {
+        return false;
+    }
     let from = p.from;
     let to = p.to;
-    let at = h.at;
-    let end = h.end;
-    let call = h.call;
-    let size = records::word_run(buf, at);
-    if agrees(size, call, &buf[from..to], h.how, &buf[at + 4..end]) {
-        let mut q = p;
-        q.at = end;
-        q.call = call;
-        return q;
-    }
-    differs_run(buf, p)
+    let rest = s.rest;
+    let end = s.end;
+    let size = records::numbers::word_run(buf, s.at);
+    prints_of(size, s.call, &buf[from..to], s.how, &buf[rest..end])
 }
 
-// The record at p.
-fn record(buf: &[u8], p: Place) -> Place
-    requires { ⌜ Placed (now buf) p × (p .at < length (now buf)) ⌝ }
-    ensures { λ q. ⌜ Placed (now (buf .entry)) q × (p .at < q .at) ⌝ }
-{
-    let h = records::head_run(buf, p.at);
-    if h.call == 0 {
-        return records::given_run(buf, p, h);
-    }
-    if 2 < h.call {
-        return differs_run(buf, p);
-    }
-    if h.end - h.at < 4 {
-        return differs_run(buf, p);
-    }
-    run(buf, p, h)
-}
-
-// ---- the whole file
-
-// How many inputs there were, and how many of each program agreed.
-struct Tally {
-    calls: u32,
-    lister: u32,
-    stabiliser: u32,
-}
-
-fn counted(t: Tally, call: u8, agrees: bool) -> Tally {
-    Tally {
-        calls: records::more(t.calls, call != 0),
-        lister: records::more(t.lister, agrees & (call == 1)),
-        stabiliser: records::more(t.stabiliser, agrees & (call == 2)),
-    }
-}
-
-fn report(t: Tally, all: bool) {
-    records::line(b"frame_lister ", t.lister, b"\n");
-    records::line(b"nlsf_stabiliser ", t.stabiliser, b"\n");
-    records::verdict(all, t.calls);
+fn report(p: Place) {
+    records::report(b"frame_lister\nnlsf_stabiliser\n", p);
 }
 
 fn replay(buf: &[u8]) {
-    let mut t = Tally {
-        calls: 0,
-        lister: 0,
-        stabiliser: 0,
-    };
-    let mut p = Place {
-        at: 0,
-        from: 0,
-        to: 0,
-        last: 0,
-        call: 0,
-        agrees: true,
-    };
+    let mut p = records::start();
     while p.at < buf.len() {
-        p = record(buf, p);
-        t = counted(t, p.call, p.agrees);
+        let s = records::parts_run(buf, p, NLSF_STABILISER, PROGRAM_NUMBERS);
+        let ok = agrees(buf, p, s);
+        p = records::after_run(buf, p, s, ok);
     }
-    report(t, p.agrees);
+    report(p);
 }
 
 fn main() {

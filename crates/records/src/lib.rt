@@ -1,248 +1,66 @@
-// Records one after the other, as docs/RECORDED.md lays them out: what the programs that replay them share.
-ghost use Prim.Native.Nat.{_+_, _*_, _<_, _≤_};
+// Records one after the other, as docs/RECORDED.md lays them out: where the parts of each stand, and what is counted
+// and printed of them. What the programs that replay them share.
+ghost use Prim.Native.Nat.{_+_, _<_, _≤_};
 ghost use mathlib.Core.Path.{_≡_};
 ghost use lib.ListN.{length};
-ghost use Rattle.records.specs.Places.{Placed, Within};
-use entcode::Dec;
-use entcode::Decoded;
-use entcode::Enc;
-use entcode::Encoded;
+ghost use Rattle.records.specs.Places.{Started, Placed, Within, Parted};
 use libc::STDOUT_FILENO;
+use numbers::half;
 
-// ---- numbers, low byte first
+pub mod calls; // calls.rt: the numbers of calls
+pub mod numbers; // numbers.rt: numbers by their bytes
+pub mod slices; // slices.rt: slices filled and compared
+pub mod states; // states.rt: states and answers
 
-fn wide(x: u8) -> u32
-    ensures { λ r. ⌜ r < 256 ⌝ }
-{
-    x as u32
-}
+// ---- the layout
 
-fn half(low: u8, high: u8) -> usize {
-    (wide(low) + 256 * wide(high)) as usize
-}
+// How many bytes a record begins with: its size, its call, how the call is given.
+const HEAD_BYTES: usize = 4;
+// A state, eleven numbers; and an answer: refusal, value and the state handed back.
+pub const STATE_BYTES: usize = 44;
 
-pub fn word_run(buf: &[u8], at: usize) -> u32
-    requires { ⌜ at + 4 ≤ length (now buf) ⌝ }
-{
-    wide(buf[at]) | (wide(buf[at + 1]) << 8) | (wide(buf[at + 2]) << 16) | (wide(buf[at + 3]) << 24)
-}
+pub const ANSWER_BYTES: usize = 52;
+// An answer and the numbers behind it: of a reader and of line spectra one, of a writer two, of frames five. Of the
+// programs, the input's length alone.
+pub const READER_NUMBERS: usize = 56;
 
-// ---- numbers with a sign, by their bits
+pub const WRITER_NUMBERS: usize = 60;
 
-pub fn small(bits: u8) -> i8 {
-    if bits < 128 {
-        bits as i8
-    } else {
-        !((255 - bits) as i8)
-    }
-}
+pub const FRAME_NUMBERS: usize = 72;
 
-fn middle(bits: u32) -> i16
-    requires { ⌜ bits < 65536 ⌝ }
-{
-    if bits < 32768 {
-        bits as i16
-    } else {
-        !((65535 - bits) as i16)
-    }
-}
+pub const PROGRAM_NUMBERS: usize = 4;
 
-pub fn value(low: u8, high: u8) -> i16 {
-    middle(wide(low) + 256 * wide(high))
-}
+// The call of a record of bytes, and of one that breaks the layout.
+const BYTES: u8 = 0;
 
-pub fn signed(bits: u32) -> i32 {
-    if bits < 0x80000000 {
-        bits as i32
-    } else {
-        !((0xFFFFFFFF - bits) as i32)
-    }
-}
-
-// ---- slices
-
-// The values that the bytes hold, as many as there is room for.
-pub fn fill_run(values: &mut [i16], bytes: &[u8])
-    requires { ⌜ 2 * length (now values) ≤ length (now bytes) ⌝ }
-{
-    let mut i = 0;
-    while i < values.len() {
-        let x = value(bytes[2 * i], bytes[2 * i + 1]);
-        values[i] = x;
-        i += 1;
-    }
-}
-
-pub fn same_run(values: &[i16], bytes: &[u8]) -> bool
-    requires { ⌜ 2 * length (now values) ≤ length (now bytes) ⌝ }
-{
-    let mut ok = true;
-    let mut i = 0;
-    while i < values.len() {
-        let x = value(bytes[2 * i], bytes[2 * i + 1]);
-        ok = (values[i] == x) & ok;
-        i += 1;
-    }
-    ok
-}
-
-// The same, of values of one byte.
-pub fn fill_small_run(values: &mut [i8], bytes: &[u8])
-    requires { ⌜ length (now values) ≤ length (now bytes) ⌝ }
-{
-    let mut i = 0;
-    while i < values.len() {
-        let x = small(bytes[i]);
-        values[i] = x;
-        i += 1;
-    }
-}
-
-pub fn copy_run(from: &[u8], to: &mut [u8])
-    requires { ⌜ length (now from) ≤ length (now to) ⌝ }
-{
-    let mut i = 0;
-    while i < from.len() {
-        to[i] = from[i];
-        i += 1;
-    }
-}
-
-// Whether b begins with a.
-pub fn begins(a: &[u8], b: &[u8]) -> bool {
-    let mut i = 0;
-    while i < a.len() {
-        if i < b.len() {
-            if a[i] != b[i] {
-                return false;
-            }
-        } else {
-            return false;
-        }
-        i += 1;
-    }
-    true
-}
-
-// ---- states, eleven numbers each, and answers, thirteen
-
-pub fn reader_run(buf: &[u8], at: usize) -> Dec
-    requires { ⌜ at + 44 ≤ length (now buf) ⌝ }
-{
-    Dec {
-        storage: word_run(buf, at),
-        endoffs: word_run(buf, at + 4),
-        window: word_run(buf, at + 8),
-        wbits: word_run(buf, at + 12),
-        total: word_run(buf, at + 16),
-        offs: word_run(buf, at + 20),
-        rng: word_run(buf, at + 24),
-        val: word_run(buf, at + 28),
-        ext: word_run(buf, at + 32),
-        rem: word_run(buf, at + 36),
-        error: word_run(buf, at + 40),
-    }
-}
-
-fn same_reader(a: Dec, b: Dec) -> bool {
-    (a.storage == b.storage)
-        & (a.endoffs == b.endoffs)
-        & (a.window == b.window)
-        & (a.wbits == b.wbits)
-        & (a.total == b.total)
-        & (a.offs == b.offs)
-        & (a.rng == b.rng)
-        & (a.val == b.val)
-        & (a.ext == b.ext)
-        & (a.rem == b.rem)
-        & (a.error == b.error)
-}
-
-pub fn decoded_run(buf: &[u8], at: usize) -> Decoded
-    requires { ⌜ at + 52 ≤ length (now buf) ⌝ }
-{
-    let s = reader_run(buf, at + 8);
-    Decoded {
-        refusal: word_run(buf, at),
-        value: word_run(buf, at + 4),
-        state: s,
-    }
-}
-
-pub fn same_decoded(a: Decoded, b: Decoded) -> bool {
-    (a.refusal == b.refusal) & (a.value == b.value) & same_reader(a.state, b.state)
-}
-
-pub fn writer_run(buf: &[u8], at: usize) -> Enc
-    requires { ⌜ at + 44 ≤ length (now buf) ⌝ }
-{
-    Enc {
-        storage: word_run(buf, at),
-        endoffs: word_run(buf, at + 4),
-        window: word_run(buf, at + 8),
-        wbits: word_run(buf, at + 12),
-        total: word_run(buf, at + 16),
-        offs: word_run(buf, at + 20),
-        rng: word_run(buf, at + 24),
-        val: word_run(buf, at + 28),
-        ext: word_run(buf, at + 32),
-        rem: signed(word_run(buf, at + 36)),
-        error: signed(word_run(buf, at + 40)),
-    }
-}
-
-fn same_writer(a: Enc, b: Enc) -> bool {
-    (a.storage == b.storage)
-        & (a.endoffs == b.endoffs)
-        & (a.window == b.window)
-        & (a.wbits == b.wbits)
-        & (a.total == b.total)
-        & (a.offs == b.offs)
-        & (a.rng == b.rng)
-        & (a.val == b.val)
-        & (a.ext == b.ext)
-        & (a.rem == b.rem)
-        & (a.error == b.error)
-}
-
-pub fn encoded_run(buf: &[u8], at: usize) -> Encoded
-    requires { ⌜ at + 52 ≤ length (now buf) ⌝ }
-{
-    let s = writer_run(buf, at + 8);
-    Encoded {
-        refusal: word_run(buf, at),
-        value: word_run(buf, at + 4),
-        state: s,
-    }
-}
-
-pub fn same_encoded(a: Encoded, b: Encoded) -> bool {
-    (a.refusal == b.refusal) & (a.value == b.value) & same_writer(a.state, b.state)
-}
+const BROKEN: u8 = 255;
 
 // ---- where a replay stands
 
-// The next record, the two ends of the bytes that calls are given, the state that the last call handed back; then the call of the
-// record just read (0 for bytes) and whether it agreed.
+// The next record, the two ends of the bytes that calls are given, the state that the last call handed back; whether
+// all agreed so far, how many calls there were, and how many of each number agreed.
 pub struct Place {
     pub at: usize,
     pub from: usize,
     pub to: usize,
     pub last: usize,
-    pub call: u8,
     pub agrees: bool,
+    pub calls: u32,
+    pub agreed: [u32; 8],
 }
 
-// The replay ends at a record that differs, or breaks the layout.
-pub fn differs_run(buf: &[u8], p: Place) -> Place
-    requires { ⌜ Placed (now buf) p ⌝ }
-    ensures { λ q. ⌜ Placed (now (buf .entry)) q × (q .at ≡ length (now (buf .entry))) ⌝ }
+pub fn start() -> Place
+    ensures { λ p. ⌜ Started p ⌝ }
 {
-    let mut q = p;
-    q.at = buf.len();
-    q.call = 255;
-    q.agrees = false;
-    q
+    Place {
+        at: 0,
+        from: 0,
+        to: 0,
+        last: 0,
+        agrees: true,
+        calls: 0,
+        agreed: [0u32; 8],
+    }
 }
 
 // ---- a record
@@ -255,23 +73,23 @@ pub struct Head {
     pub end: usize,
 }
 
-// The record at a place; call 255 and nothing more where it is cut short.
-pub fn head_run(buf: &[u8], place: usize) -> Head
+// The record at a place; nothing where it is cut short.
+fn head_run(buf: &[u8], place: usize) -> Head
     requires { ⌜ place < length (now buf) ⌝ }
     ensures { λ h. ⌜ Within (now (buf .entry)) place h ⌝ }
 {
     let n = buf.len();
     let mut h = Head {
-        call: 255,
+        call: BROKEN,
         how: 0,
         at: n,
         end: n,
     };
-    if n - place < 4 {
+    if n - place < HEAD_BYTES {
         return h;
     }
     let size = half(buf[place], buf[place + 1]);
-    let at = place + 4;
+    let at = place + HEAD_BYTES;
     if n - at < size {
         return h;
     }
@@ -282,40 +100,198 @@ pub fn head_run(buf: &[u8], place: usize) -> Head
     h
 }
 
-// After a record of bytes.
-pub fn given_run(buf: &[u8], p: Place, h: Head) -> Place
-    requires { ⌜ Placed (now buf) p × Within (now buf) (p .at) h ⌝ }
+// Where the parts of a record stand: its answer and numbers up to what it is given besides, that up to its end, its
+// state, the state that it hands back, the two ends of the bytes after it, and the next record. Of bytes, and of a
+// record that breaks the layout, the first three are empty.
+pub struct Parts {
+    pub call: u8,
+    pub how: u8,
+    pub at: usize,
+    pub rest: usize,
+    pub end: usize,
+    pub state: usize,
+    pub last: usize,
+    pub from: usize,
+    pub to: usize,
+    pub next: usize,
+}
+
+fn broken_run(buf: &[u8], p: Place) -> Parts
+    requires { ⌜ Placed (now buf) p × (p .at < length (now buf)) ⌝ }
+    ensures { λ s. ⌜ Parted (now (buf .entry)) s × (p .at < s .next) ⌝ }
+{
+    let n = buf.len();
+    Parts {
+        call: BROKEN,
+        how: 0,
+        at: n,
+        rest: n,
+        end: n,
+        state: n,
+        last: n,
+        from: p.from,
+        to: p.to,
+        next: n,
+    }
+}
+
+// The record at p, whose answer and numbers have so many bytes, of a program with so many calls.
+pub fn parts_run(buf: &[u8], p: Place, calls: u8, numbers: usize) -> Parts
+    requires { ⌜ Placed (now buf) p × (p .at < length (now buf)) ⌝ }
+    ensures { λ s. ⌜ Parted (now (buf .entry)) s × (p .at < s .next) ⌝ }
+{
+    let h = head_run(buf, p.at);
+    let mut s = broken_run(buf, p);
+    if h.call == BYTES {
+        s.call = BYTES;
+        s.from = h.at;
+        s.to = h.end;
+        s.next = h.end;
+        return s;
+    }
+    if calls < h.call {
+        return s;
+    }
+    if h.end - h.at < numbers {
+        return s;
+    }
+    s.call = h.call;
+    s.how = h.how;
+    s.at = h.at;
+    s.rest = h.at + numbers;
+    s.end = h.end;
+    s.last = p.last;
+    s.next = h.end;
+    s
+}
+
+// The state of a call: what the last call handed back, or what stands behind the numbers.
+fn with_state_run(buf: &[u8], p: Place, given: Parts) -> Parts
+    requires { ⌜ Placed (now buf) p × (p .at < length (now buf)) × Parted (now buf) given × (p .at < given .next) ⌝ }
+    ensures { λ s. ⌜ Parted (now (buf .entry)) s × (p .at < s .next) ⌝ }
+{
+    let mut s = given;
+    if s.rest - s.at < ANSWER_BYTES {
+        return s;
+    }
+    s.last = s.at + 8;
+    if s.how % 2 == 1 {
+        s.state = p.last;
+        return s;
+    }
+    if s.end - s.rest < STATE_BYTES {
+        return broken_run(buf, p);
+    }
+    s.state = s.rest;
+    s.rest = s.rest + STATE_BYTES;
+    s
+}
+
+// The bytes after a call that changes them, as long as before, stand last.
+fn with_bytes_run(buf: &[u8], p: Place, given: Parts) -> Parts
+    requires { ⌜ Placed (now buf) p × (p .at < length (now buf)) × Parted (now buf) given × (p .at < given .next) ⌝ }
+    ensures { λ s. ⌜ Parted (now (buf .entry)) s × (p .at < s .next) ⌝ }
+{
+    let mut s = given;
+    if s.how < 2 {
+        return s;
+    }
+    let n = p.to - p.from;
+    if s.end - s.rest < n {
+        return broken_run(buf, p);
+    }
+    s.to = s.end;
+    s.end = s.end - n;
+    s.from = s.end;
+    s
+}
+
+// The same of a call that is given a state and may change its bytes.
+pub fn coded_run(buf: &[u8], p: Place, calls: u8, numbers: usize) -> Parts
+    requires { ⌜ Placed (now buf) p × (p .at < length (now buf)) ⌝ }
+    ensures { λ s. ⌜ Parted (now (buf .entry)) s × (p .at < s .next) ⌝ }
+{
+    let s = parts_run(buf, p, calls, numbers);
+    let s = with_state_run(buf, p, s);
+    with_bytes_run(buf, p, s)
+}
+
+// ---- behind a record
+
+// One call more of this number, which agreed.
+fn counted(p: Place, call: u8) -> Place
+    ensures { λ q. ⌜ (q .at ≡ p .at) × (q .from ≡ p .from) × (q .to ≡ p .to) × (q .last ≡ p .last) ⌝ }
+{
+    let mut q = p;
+    let k = call as usize;
+    if k < 8 {
+        q.agreed[k] = std::num::wrapping_add_u32(q.agreed[k], 1);
+    }
+    q
+}
+
+// The replay goes on behind a record whose call agrees, and ends at one that differs or breaks the layout.
+pub fn after_run(buf: &[u8], p: Place, s: Parts, agrees: bool) -> Place
+    requires { ⌜ Placed (now buf) p × (p .at < length (now buf)) × Parted (now buf) s × (p .at < s .next) ⌝ }
     ensures { λ q. ⌜ Placed (now (buf .entry)) q × (p .at < q .at) ⌝ }
 {
     let mut q = p;
-    q.at = h.end;
-    q.from = h.at;
-    q.to = h.end;
-    q.call = 0;
+    q.at = s.next;
+    q.from = s.from;
+    q.to = s.to;
+    if s.call == BYTES {
+        return q;
+    }
+    q.calls = std::num::wrapping_add_u32(q.calls, 1);
+    q.last = s.last;
+    if agrees {
+        return counted(q, s.call);
+    }
+    q.at = buf.len();
+    q.agrees = false;
     q
 }
 
 // ---- what is printed
 
-pub fn more(count: u32, counts: bool) -> u32 {
-    if counts {
-        std::num::wrapping_add_u32(count, 1)
-    } else {
-        count
-    }
-}
-
-pub fn line(before: &[u8], number: u32, behind: &[u8]) {
-    io::write_all(STDOUT_FILENO, before);
+fn line(word: &[u8], number: u32, behind: &[u8]) {
+    io::write_all(STDOUT_FILENO, word);
+    io::write_all(STDOUT_FILENO, b" ");
     io::print_decimal(STDOUT_FILENO, number as u64);
     io::write_all(STDOUT_FILENO, behind);
 }
 
-// The last line, when so many calls were replayed.
-pub fn verdict(all: bool, calls: u32) {
-    if all {
-        line(b"all ", calls, b" agree\n");
-    } else {
-        line(b"call ", calls, b" differs\n");
+// The line of a name with so many names before it; calls are numbered from 1.
+fn agreed_line_run(names: &[u8], from: usize, to: usize, agreed: &[u32; 8], passed: usize)
+    requires { ⌜ (from ≤ to) × (to ≤ length (now names)) ⌝ }
+{
+    if passed < 7 {
+        line(&names[from..to], agreed[passed + 1], b"\n");
     }
+}
+
+// That all calls agreed, or the number of the first that did not.
+fn verdict(p: Place) {
+    if p.agrees {
+        line(b"all", p.calls, b" agree\n");
+    } else {
+        line(b"call", p.calls, b" differs\n");
+    }
+}
+
+// How many calls of each number agreed, by their names in order, each with a newline behind it; then the verdict.
+pub fn report(names: &[u8], p: Place) {
+    let agreed = p.agreed;
+    let mut from = 0;
+    let mut passed = 0;
+    let mut i = 0;
+    while i < names.len() {
+        if names[i] == 10 {
+            agreed_line_run(names, from, i, &agreed, passed);
+            from = i + 1;
+            passed += 1;
+        }
+        i += 1;
+    }
+    verdict(p);
 }

@@ -1,13 +1,19 @@
-// Replays recorded calls on line spectra: each record of standard input has a call and the crate's answer (docs/RECORDED.md has the layout).
-// Prints how many calls of each kind agreed, and then that all did, or the number of the first that did not.
-ghost use Prim.Native.Nat.{_+_, _*_, _<_, _≤_};
+// Replays recorded calls on line spectra: each record of standard input has a call and the crate's answer
+// (docs/RECORDED.md has the layout). Prints how many calls of each kind agreed, and then that all did, or the number
+// of the first that did not.
+ghost use Prim.Native.Nat.{_+_, _*_, _≤_};
 ghost use mathlib.Core.Path.{_≡_};
 ghost use lib.ListN.{length};
-ghost use Rattle.records.specs.Places.{Placed};
+ghost use Rattle.records.specs.Places.{Parted};
 use libc::STDIN_FILENO;
+use records::ANSWER_BYTES;
+use records::Parts;
 use records::Place;
-use records::fill_run;
-use records::word_run;
+use records::READER_NUMBERS;
+use records::STATE_BYTES;
+use records::calls::DECODE;
+use records::numbers::word_run;
+use records::slices::fill_run;
 use spectrum::Moves;
 use spectrum::Spectrum;
 
@@ -18,7 +24,7 @@ fn indices(bytes: &[u8]) -> Spectrum
     requires { ⌜ 17 ≤ length (now bytes) ⌝ }
 {
     let mut index = [0i8; 17];
-    records::fill_small_run(&mut index, bytes);
+    records::slices::fill_small_run(&mut index, bytes);
     Spectrum { index: index }
 }
 
@@ -37,11 +43,11 @@ fn stabilise(vector: &mut [i16], tail: &[u8]) -> Moves
     stabilise_in(vector, &mut space[0..m], tail)
 }
 
-// Calls 1, whose record has 17 indices, and 2.
+// Decoding has 17 indices.
 fn ask(call: u8, vector: &mut [i16], khz: u32, tail: &[u8]) -> Moves
     requires { ⌜ length (now tail) ≤ 36 ⌝ }
 {
-    if call == 1 {
+    if call == DECODE {
         if tail.len() == 17 {
             let s = indices(tail);
             return nlsf_decode::silk_NLSF_decode(vector, s, khz);
@@ -51,7 +57,7 @@ fn ask(call: u8, vector: &mut [i16], khz: u32, tail: &[u8]) -> Moves
 }
 
 // Whether the call on the vector `before` answers what it should, and leaves `after`.
-fn agrees_in(
+fn leaves(
     call: u8,
     vector: &mut [i16],
     khz: u32,
@@ -65,142 +71,82 @@ fn agrees_in(
 {
     fill_run(vector, before);
     let a = ask(call, vector, khz, tail);
-    let left = records::same_run(vector, after);
+    let left = fill_run(vector, after);
     (a.refusal == should.refusal) & ((a.moves == should.moves) & left)
 }
 
-fn agrees(call: u8, khz: u32, should: Moves, before: &[u8], after: &[u8], tail: &[u8]) -> bool
+fn leaves_in(call: u8, khz: u32, should: Moves, before: &[u8], after: &[u8], tail: &[u8]) -> bool
     requires { ⌜ length (now tail) ≤ 36 ⌝ }
     requires { ⌜ (length (now before) ≤ 34) × (length (now after) ≡ length (now before)) ⌝ }
 {
     let mut space = [0i16; 17];
     let n = before.len() / 2;
-    agrees_in(call, &mut space[0..n], khz, should, before, after, tail)
+    leaves(call, &mut space[0..n], khz, should, before, after, tail)
 }
 
 // ---- one record
 
-// The call whose record's numbers start at `at`, its indices or gaps at `tail`; its vector stands at `before`.
-fn run(buf: &[u8], p: Place, call: u8, at: usize, before: usize, tail: usize, end: usize) -> Place
-    requires { ⌜ Placed (now buf) p ⌝ }
-    requires { ⌜ (p .at < at) × (at + 56 ≤ length (now buf)) × (before + 44 ≤ length (now buf)) ⌝ }
-    requires { ⌜ (at ≤ tail) × (tail ≤ end) × (end ≤ length (now buf)) ⌝ }
-    ensures { λ q. ⌜ Placed (now (buf .entry)) q × (p .at < q .at) ⌝ }
+// The call of a record with vectors of m bytes and at most 36 bytes behind its state.
+fn leaves_at(buf: &[u8], s: Parts, m: usize) -> bool
+    requires { ⌜ (s .at + 56 ≤ length (now buf)) × (s .state + 44 ≤ length (now buf)) × (m ≤ 34) ⌝ }
+    requires { ⌜ (s .rest ≤ s .end) × (s .end ≤ length (now buf)) × (s .end ≤ s .rest + 36) ⌝ }
 {
-    let count = word_run(buf, before);
-    let size = end - tail;
-    if 17 < count {
-        return records::differs_run(buf, p);
-    }
-    if 36 < size {
-        return records::differs_run(buf, p);
-    }
-    if (word_run(buf, at + 8) != count) | ((call == 1) & (size != 17)) {
-        return records::differs_run(buf, p);
-    }
-    let n = 2 * (count as usize);
-    let given = before + 4;
-    let left = at + 12;
-    let khz = word_run(buf, at + 52);
+    let given = s.state + 4;
+    let left = s.at + 12;
+    let rest = s.rest;
+    let end = s.end;
     let should = Moves {
-        refusal: word_run(buf, at),
-        moves: word_run(buf, at + 4),
+        refusal: word_run(buf, s.at),
+        moves: word_run(buf, s.at + 4),
     };
-    if agrees(
-        call,
+    let khz = word_run(buf, s.at + ANSWER_BYTES);
+    leaves_in(
+        s.call,
         khz,
         should,
-        &buf[given..given + n],
-        &buf[left..left + n],
-        &buf[tail..end],
-    ) {
-        let mut q = p;
-        q.at = end;
-        q.last = at + 8;
-        q.call = call;
-        return q;
-    }
-    records::differs_run(buf, p)
+        &buf[given..given + m],
+        &buf[left..left + m],
+        &buf[rest..end],
+    )
 }
 
-// The record at p.
-fn record(buf: &[u8], p: Place) -> Place
-    requires { ⌜ Placed (now buf) p × (p .at < length (now buf)) ⌝ }
-    ensures { λ q. ⌜ Placed (now (buf .entry)) q × (p .at < q .at) ⌝ }
+// Whether the record's call answers and leaves what it should.
+fn agrees(buf: &[u8], s: Parts) -> bool
+    requires { ⌜ Parted (now buf) s ⌝ }
 {
     let n = buf.len();
-    let place = p.at;
-    let h = records::head_run(buf, place);
-    let call = h.call;
-    let at = h.at;
-    let end = h.end;
-    let size = end - at;
-    if call == 0 {
-        return records::given_run(buf, p, h);
+    if n - s.at < READER_NUMBERS {
+        return false;
     }
-    if 2 < call {
-        return records::differs_run(buf, p);
+    if n - s.state < STATE_BYTES {
+        return false;
     }
-    if size < 56 {
-        return records::differs_run(buf, p);
+    let count = word_run(buf, s.state);
+    if 17 < count {
+        return false;
     }
-    if h.how == 0 {
-        // its vector stands in the record
-        if size < 100 {
-            return records::differs_run(buf, p);
-        }
-        return run(buf, p, call, at, at + 56, at + 100, end);
+    let size = s.end - s.rest;
+    if 36 < size {
+        return false;
     }
-    // its vector is what the call before left
-    let last = p.last;
-    if n - last < 44 {
-        return records::differs_run(buf, p);
+    if (word_run(buf, s.at + 8) != count) | ((s.call == DECODE) & (size != 17)) {
+        return false;
     }
-    run(buf, p, call, at, last, at + 56, end)
+    leaves_at(buf, s, 2 * (count as usize))
 }
 
-// ---- the whole file
-
-// How many calls there were, and how many of each kind agreed.
-struct Tally {
-    calls: u32,
-    decode: u32,
-    stabilise: u32,
-}
-
-fn counted(t: Tally, call: u8, agrees: bool) -> Tally {
-    Tally {
-        calls: records::more(t.calls, call != 0),
-        decode: records::more(t.decode, agrees & (call == 1)),
-        stabilise: records::more(t.stabilise, agrees & (call == 2)),
-    }
-}
-
-fn report(t: Tally, all: bool) {
-    records::line(b"decode ", t.decode, b"\n");
-    records::line(b"stabilise ", t.stabilise, b"\n");
-    records::verdict(all, t.calls);
+fn report(p: Place) {
+    records::report(b"decode\nstabilise\n", p);
 }
 
 fn replay(buf: &[u8]) {
-    let mut t = Tally {
-        calls: 0,
-        decode: 0,
-        stabilise: 0,
-    };
-    let mut p = Place {
-        at: 0,
-        from: 0,
-        to: 0,
-        last: 0,
-        call: 0,
-        agrees: true,
-    };
+    let mut p = records::start();
     while p.at < buf.len() {
-        p = record(buf, p);
-        t = counted(t, p.call, p.agrees);
+        let s = records::coded_run(buf, p, records::calls::STABILISE, READER_NUMBERS);
+        let ok = agrees(buf, s);
+        p = records::after_run(buf, p, s, ok);
     }
-    report(t, p.agrees);
+    report(p);
 }
 
 fn main() {

@@ -1,0 +1,10 @@
+-- How many bytes the parts of a recorded call have (docs/RECORDED.md, "Layout"). Assumes nothing.
+use Prim.Native.Nat.{ℕ}
+
+-- eleven numbers
+abbrev pub stateBytes : ℕ
+stateBytes = 44
+
+-- refusal, value and the state handed back
+abbrev pub answerBytes : ℕ
+answerBytes = 52
