@@ -1,12 +1,11 @@
-// The call that reads a frame's side indices (document 01; RFC 6716, section 4.2.7), as the crate's decode_indices.rs: it tests packet,
-// state and numbers once, and hands the record in and out by value.
+// The call that reads a frame's side indices (document 01; RFC 6716, section 4.2.7), as the crate's
+// decode_indices.rs: it tests packet, state and numbers once, and hands the record in and out by value.
 ghost use mathlib.Core.Path.{_≡_};
 ghost use Prim.Native.Nat.{_^_, _<_};
 ghost use Rattle.tree.specs.Asks.{got};
-ghost use Rattle.tree.specs.Ran.{Ran};
-ghost use Rattle.silk.specs.IndexRows.{Reading, Rate, Subframes};
+ghost use Rattle.tree.specs.Inner.Ran.{Ran};
+ghost use Rattle.silk.specs.Inner.Indices.{Reading, Rate, Subframes, Upto};
 ghost use Rattle.silk.specs.IndexSyntax.{voicing, indices};
-ghost use Rattle.silk.specs.IndexParts.{Upto};
 ghost use Rattle.silk.specs.FrameCalls.{indicesGot, decodeIndices};
 use entcode::Dec;
 use index_gains_read::gains_run;

@@ -8,14 +8,14 @@ use Rattle.sheet.specs.Directory.{rateRow}
 use Rattle.entcode.specs.declared.Dec.{Dec}
 use Rattle.entcode.specs.declared.Decoded.{Decoded}
 use Rattle.entcode.specs.Models.{tab}
-use Rattle.entcode.specs.ReadLaws.{Took}
-use Rattle.tree.specs.Ran.{Ran, ran-ask, ran-bind, ran-done, ran-within}
-use Rattle.tree.specs.Through.{ran-of}
-use Rattle.silk.specs.PulseSyntax.{counts, blockLows, blockSigns, excitation}
-use Rattle.silk.specs.PulseSteps.{blocksFrom}
-use Rattle.silk.specs.PulsePlaces.{mags}
-use Rattle.silk.specs.PulseBlocks.{Small, Sixteen, rows16, turned-rows, Split, Lowered, Signed}
-use Rattle.decode_pulses_run.specs.Excited.{Excited}
+use Rattle.entcode.specs.Inner.Reading.{Took}
+use Rattle.tree.specs.Inner.Ran.{Ran}
+use Rattle.tree.proofs.Ran.{ran-ask, ran-bind, ran-done, ran-within}
+use Rattle.tree.proofs.Through.{ran-of}
+use Rattle.silk.specs.PulseSyntax.{counts, blockLows, blockSigns, excitation, rows16}
+use Rattle.silk.specs.Inner.Pulses.{blocksFrom, mags, Small, Sixteen, Split, Lowered, Signed}
+use Rattle.silk.proofs.PulseBlocks.{turned-rows}
+use Rattle.decode_pulses_run.specs.Inner.{Excited}
 
 module _ (b r : List ℕ) (d : Dec) (a : Decoded) (signal offset n : ℕ) (c l : List ℕ) (p q s : List ℤ) (z₁ z₂ z₃ z₄ : Dec) (few : n ≤ 20) where
   pub chain : r ≡ rateRow signal → Took b (tab 8 r) d a → Ran b (a .state) (counts (a .value) n) 3520 (blocksFrom c l 0 n) z₁ → Split b z₁ c l n p z₂

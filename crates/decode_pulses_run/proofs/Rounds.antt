@@ -6,15 +6,14 @@ use native.Mathlib.Omega.{arith}
 use lib.IntN.{ℤ, pos}
 use lib.ListN.{length, length-map}
 use Rattle.entcode.specs.declared.Dec.{Dec}
-use Rattle.entcode.specs.ReaderLaws.{Core}
+use Rattle.entcode.specs.Inner.Reading.{Core}
 use Rattle.tree.specs.Asks.{Asks, got, run}
-use Rattle.tree.specs.Ran.{Ran}
-use Rattle.tree.specs.Through.{before}
-use Rattle.silk.specs.PulseSyntax.{Block}
-use Rattle.silk.specs.PulseSteps.{blockAt, blocksFrom}
-use Rattle.silk.specs.PulsePlaces.{mags, mags-pos, Natural, natural}
-use Rattle.silk.specs.PulseBlocks.{Sixteen, Turned, Held, rows16, held-flat, held-counted}
-use Rattle.silk.specs.PulseRounds.{Working, AtHand, blockOf, withBlock, working-start, working-here, working-next, working-size, working-ended, working-end}
+use Rattle.tree.specs.Inner.Ran.{Ran}
+use Rattle.tree.proofs.Through.{before}
+use Rattle.silk.specs.PulseSyntax.{Block, rows16}
+use Rattle.silk.specs.Inner.Pulses.{blockAt, blocksFrom, mags, mags-pos, Natural, natural, Sixteen, Turned, Held}
+use Rattle.silk.proofs.PulseBlocks.{held-flat, held-counted}
+use Rattle.silk.proofs.PulseRounds.{Working, AtHand, blockOf, withBlock, working-start, working-here, working-next, working-size, working-ended, working-end}
 
 module _ {Q T A : Type 0} {f : A → ℤ} {P : List ℕ → Type 0} {wide : (v : List ℕ) → P v → length v ≡ 16} {t : Block → List ℕ → Asks T (List A)}
     {tree : List Block → List (List ℕ) → Asks Q (List (List A))} {w : ℕ}

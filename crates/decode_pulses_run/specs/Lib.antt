@@ -1,1 +1,1 @@
-pub mod Excited
+pub mod Inner

@@ -1,14 +1,13 @@
-// The excitation of a frame (RFC 6716, section 4.2.7.8), read into one slice of blocks of 16 places: rate level, counts, splits, low
-// bits, signs. The loops over blocks of the crate's decode_pulses.rs and code_signs.rs.
+// The excitation of a frame (RFC 6716, section 4.2.7.8), read into one slice of blocks of 16 places: rate level,
+// counts, splits, low bits, signs. The loops over blocks of the crate's decode_pulses.rs and code_signs.rs.
 ghost use mathlib.Core.Path.{_≡_};
 ghost use Prim.Native.Nat.{_*_, _^_, _<_, _≤_};
 ghost use lib.ListN.{length};
 ghost use Rattle.lists.specs.AtMost.{AtMost};
-ghost use Rattle.entcode.specs.ReaderLaws.{Core};
-ghost use Rattle.silk.specs.PulseSteps.{PulseRows};
-ghost use Rattle.silk.specs.PulsePlaces.{mags};
-ghost use Rattle.silk.specs.PulseBlocks.{Small, Sixteen, Held, rows16, Split, Lowered, Signed};
-ghost use Rattle.decode_pulses_run.specs.Excited.{Excited};
+ghost use Rattle.entcode.specs.Inner.Reading.{Core};
+ghost use Rattle.silk.specs.Inner.Pulses.{PulseRows, mags, Small, Sixteen, Held, Split, Lowered, Signed};
+ghost use Rattle.silk.specs.PulseSyntax.{rows16};
+ghost use Rattle.decode_pulses_run.specs.Inner.{Excited};
 use entcode::Dec;
 use pulse_counts_read::BlocksRead;
 use pulse_numbers::FrameNumbers;

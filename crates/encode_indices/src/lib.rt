@@ -1,15 +1,12 @@
-// The call that writes a frame's side indices (document 01, "Side indices"; RFC 6716, section 4.2.7): it tests buffer, state, numbers and
-// fields once, and writes each field by the row that its reader reads.
+// The call that writes a frame's side indices (document 01, "Side indices"; RFC 6716, section 4.2.7): it tests
+// buffer, state, numbers and fields once, and writes each field by the row that its reader reads.
 ghost use mathlib.Core.Path.{_≡_};
 ghost use Prim.Native.Nat.{_^_, _<_};
 ghost use lib.IntN.{natAbs};
 ghost use Rattle.entcode.specs.Flat.{out};
-ghost use Rattle.tree.specs.Told.{Told};
-ghost use Rattle.silk.specs.IndexRows.{Writing, Rate, Subframes};
+ghost use Rattle.tree.specs.Inner.Told.{Told};
+ghost use Rattle.silk.specs.Inner.Indices.{Writing, Rate, Subframes, Upto, WritesPitch, Writes};
 ghost use Rattle.silk.specs.IndexSyntax.{voicing, indices};
-ghost use Rattle.silk.specs.IndexParts.{Upto};
-ghost use Rattle.silk.specs.IndexSays.{WritesPitch};
-ghost use Rattle.silk.specs.IndexFields.{Writes};
 ghost use Rattle.silk.specs.FrameCalls.{nextLag};
 ghost use Rattle.silk.specs.IndexWriting.{tellRule, encodeIndices};
 use entcode::Enc;

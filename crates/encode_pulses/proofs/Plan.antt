@@ -9,12 +9,11 @@ use lib.ListN.{length, take}
 use Rattle.lists.specs.Every.{every}
 use Rattle.entcode.specs.Flat.{Out}
 use Rattle.tree.specs.Telling.{writtenAll}
-use Rattle.tree.specs.Told.{Told}
-use Rattle.silk.specs.PulseSyntax.{excitation}
-use Rattle.silk.specs.PulseBlocks.{rows16}
+use Rattle.tree.specs.Inner.Told.{Told}
+use Rattle.silk.specs.PulseSyntax.{excitation, rows16}
 use Rattle.silk.specs.PulseWriting.{excited, pulsesSay}
-use Rattle.silk.specs.PulseSayable.{leastShift}
-use Rattle.silk.specs.PulsePlans.{Suited, Planned, suited-shifts}
+use Rattle.silk.specs.Inner.Pulses.{leastShift, Suited, Planned}
+use Rattle.silk.proofs.PulsePlans.{suited-shifts}
 
 module _ (n : ℕ) (v : List ℤ) (c l : List ℕ) (t : Bool) (g : Planned (rows16 n v) c l t) (e : t ≡ true) (h : n ≤ length l) where
   shifts-are : map leastShift (rows16 n v) ≡ take n l

@@ -1,5 +1,6 @@
-// The call that writes a frame's pulses (document 01): buffer, state, numbers and the slice's length are tested once, then whether each
-// block has a shift, in the order of refusals; a refusal touches no byte. Name as in the crate's encode_pulses.rs.
+// The call that writes a frame's pulses (document 01): buffer, state, numbers and the slice's length are tested once,
+// then whether each block has a shift, in the order of refusals; a refusal touches no byte. Name as in the crate's
+// encode_pulses.rs.
 ghost use mathlib.Core.Path.{_≡_};
 ghost use Rattle.entcode.specs.Flat.{out};
 ghost use Rattle.entcode.specs.Writing.{sent};

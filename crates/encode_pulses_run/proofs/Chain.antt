@@ -8,18 +8,16 @@ use lib.ListN.{take}
 use Rattle.sheet.specs.Directory.{rateRow}
 use Rattle.entcode.specs.Models.{tab}
 use Rattle.entcode.specs.Flat.{Out}
-use Rattle.entcode.specs.WriterFacts.{Wrote}
+use Rattle.entcode.specs.Inner.Writing.{Wrote}
 use Rattle.tree.specs.Asks.{meant}
-use Rattle.tree.specs.AsksLaws.{meant-of}
-use Rattle.tree.specs.Told.{Told, told-done, told-ask, told-then, told-of, told-within}
-use Rattle.silk.specs.PulseSyntax.{Block, Excitation, each, counts, blockLows, blockSigns, magnitudes, shifted, excitation}
-use Rattle.silk.specs.PulseSteps.{blocksFrom}
-use Rattle.silk.specs.PulseBlocks.{rows16, rows-counted}
-use Rattle.silk.specs.PulseRounds.{shellOf}
+use Rattle.tree.proofs.AsksLaws.{meant-of}
+use Rattle.tree.specs.Inner.Told.{Told}
+use Rattle.tree.proofs.Told.{told-done, told-ask, told-then, told-of, told-within}
+use Rattle.silk.specs.PulseSyntax.{Block, Excitation, each, counts, blockLows, blockSigns, magnitudes, shifted, excitation, rows16}
+use Rattle.silk.specs.Inner.Pulses.{blocksFrom, shellOf, whole, Suited, SplitsTold, LowsTold, SignsTold}
+use Rattle.silk.proofs.PulseBlocks.{rows-counted}
 use Rattle.silk.specs.PulseWriting.{blocksBy, excited}
-use Rattle.silk.specs.PulseWritten.{whole, counts-meant, splits-meant, lows-meant}
-use Rattle.silk.specs.PulsePlans.{Suited}
-use Rattle.silk.specs.PulseTelling.{SplitsTold, LowsTold, SignsTold}
+use Rattle.silk.proofs.PulseWritten.{counts-meant, splits-meant, lows-meant}
 
 module _ (o p₀ p₁ p₂ p₃ q : Out) (r : List ℕ) (signal offset rate n : ℕ) (c l : List ℕ) (v : List ℤ) (few : n ≤ 20)
     (s : Suited (take n l) (rows16 n v) c l) where

@@ -4,10 +4,11 @@ use mathlib.Core.Path.{_≡_, refl, _∙_}
 use mathlib.Core.List.{List, []}
 use lib.ListN.{take, drop}
 use Rattle.entcode.specs.Flat.{Out}
-use Rattle.entcode.specs.WriterFacts.{Core}
+use Rattle.entcode.specs.Inner.Writing.{Core}
 use Rattle.tree.specs.Asks.{then, of, symbols}
-use Rattle.tree.specs.AsksLaws.{symbols-then, symbols-of}
-use Rattle.tree.specs.Told.{Told, midway-start, midway-end}
+use Rattle.tree.proofs.AsksLaws.{symbols-then, symbols-of}
+use Rattle.tree.specs.Inner.Told.{Told}
+use Rattle.tree.proofs.Told.{midway-start, midway-end}
 use Rattle.silk.specs.PulseSyntax.{split, shell}
 
 no-splits : (k : ℕ) (y : List ℕ) → symbols y (shell k 0) ≡ []

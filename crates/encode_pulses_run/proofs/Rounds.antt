@@ -8,14 +8,13 @@ use borrow.Rule.Slice.PartMut.{mid-len}
 use lib.IntN.{ℤ}
 use lib.ListN.{length}
 use Rattle.entcode.specs.Flat.{Out}
-use Rattle.entcode.specs.WriterFacts.{Core}
+use Rattle.entcode.specs.Inner.Writing.{Core}
 use Rattle.tree.specs.Asks.{Asks, symbols}
-use Rattle.tree.specs.Told.{Told}
-use Rattle.silk.specs.PulseSyntax.{Block}
-use Rattle.silk.specs.PulseSteps.{blockAt, blocksFrom}
-use Rattle.silk.specs.PulseBlocks.{rows16}
-use Rattle.silk.specs.PulseRounds.{blockOf}
-use Rattle.silk.specs.PulseTelling.{Telling, telling-start, telling-next, telling-end}
+use Rattle.tree.specs.Inner.Told.{Told}
+use Rattle.silk.specs.PulseSyntax.{Block, rows16}
+use Rattle.silk.specs.Inner.Pulses.{blockAt, blocksFrom}
+use Rattle.silk.proofs.PulseRounds.{blockOf}
+use Rattle.silk.proofs.PulseTelling.{Telling, telling-start, telling-next, telling-end}
 
 -- a block of a slice of n blocks
 pub block-size : (v : List ℤ) (n i : ℕ) → length v ≡ n * 16 → i < n → length (blockOf v i) ≡ 16

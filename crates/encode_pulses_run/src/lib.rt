@@ -1,18 +1,15 @@
-// The excitation of a frame (RFC 6716, section 4.2.7.8), written from one slice of blocks of 16 places by a plan of counts and shifts:
-// rate level, counts, splits, low bits, signs.
+// The excitation of a frame (RFC 6716, section 4.2.7.8), written from one slice of blocks of 16 places by a plan of
+// counts and shifts: rate level, counts, splits, low bits, signs.
 ghost use mathlib.Core.Path.{_≡_};
 ghost use Prim.Native.Nat.{_*_, _^_, _<_, _≤_};
 ghost use lib.ListN.{length, take};
 ghost use Rattle.lists.specs.AtMost.{AtMost};
 ghost use Rattle.entcode.specs.Flat.{out};
-ghost use Rattle.entcode.specs.WriterFacts.{Core};
-ghost use Rattle.tree.specs.Told.{Told};
-ghost use Rattle.silk.specs.PulseSyntax.{excitation};
-ghost use Rattle.silk.specs.PulseSteps.{PulseRows};
-ghost use Rattle.silk.specs.PulseBlocks.{rows16};
+ghost use Rattle.entcode.specs.Inner.Writing.{Core};
+ghost use Rattle.tree.specs.Inner.Told.{Told};
+ghost use Rattle.silk.specs.PulseSyntax.{excitation, rows16};
+ghost use Rattle.silk.specs.Inner.Pulses.{PulseRows, Suited, SplitsTold, LowsTold, SignsTold};
 ghost use Rattle.silk.specs.PulseWriting.{excited};
-ghost use Rattle.silk.specs.PulsePlans.{Suited};
-ghost use Rattle.silk.specs.PulseTelling.{SplitsTold, LowsTold, SignsTold};
 use entcode::Enc;
 use pulse_block_write::block_signs_run;
 use pulse_block_write::block_splits_run;

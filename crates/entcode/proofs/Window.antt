@@ -3,7 +3,7 @@ use Prim.Native.Nat.{ℕ, _+_, _*_, _%_, _^_, _≤_, _<_}
 use mathlib.Core.Path.{_≡_}
 use native.Mathlib.Omega.{arith}
 use lib.Pow.{shl-exact, pow-mono}
-use Rattle.entcode.specs.TailLaws.{append-slim}
+use Rattle.entcode.proofs.TailLaws.{append-slim}
 
 -- a window with n bits of value v above it
 pub window-sum : (x v u n : ℕ) → x < 2 ^ u → v < 2 ^ n → u + n ≤ 32 → (x + v * 2 ^ u % 2 ^ 32) % 2 ^ 32 ≡ x + v * 2 ^ u

@@ -1,6 +1,5 @@
 -- The code's writer, a flat state beside the buffer, read as the definitions' record, and back. Assumes nothing.
 use Prim.Native.Nat.{ℕ, zero, suc}
-use mathlib.Core.Path.{_≡_}
 use mathlib.Core.List.{List}
 use lib.ListN.{length}
 use lib.IntN.{ℤ, pos, negsuc}
@@ -68,9 +67,3 @@ flat w =
             error = errorOf (w .tail .room .err);
           };
     }
-
--- nothing is lost in that reading: the length kept is the buffer's, the held byte at least -1, the error at most 0
-pub record Fair (o : Out) : Type 0 where
-  pub kept : o .state .storage ≡ length (o .buf)
-  pub rem : remOf (heldOf (o .state .rem)) ≡ o .state .rem
-  pub error : errorOf (errOf (o .state .error)) ≡ o .state .error

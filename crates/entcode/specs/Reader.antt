@@ -1,5 +1,5 @@
 -- The reader (RFC 6716, section 4.1) over a packet b, a list of bytes. Assumes nothing.
-use Prim.Native.Nat.{ℕ, zero, suc, _+_, _-_, _*_, _/_, _%_, _^_, min}
+use Prim.Native.Nat.{ℕ, zero, suc, _+_, _-_, _*_, _/_, _%_, _^_, min, _<_}
 use mathlib.Core.Bool.{cond}
 use mathlib.Core.List.{List}
 use lib.Dec.{leb, ltb}
@@ -94,6 +94,7 @@ abbrev pub after : List ℕ → ℕ → ℕ
 after b i = min (suc i) (length b)
 
 -- ---- renormalising (section 4.1.2.1): while the range is at most 2^23, the kept bit and the next byte's seven high
+
 -- bits
 
 abbrev pub symOf : ℕ → ℕ → ℕ
@@ -213,3 +214,8 @@ readVal b m d = clamped m (whole b m d)
 
 unfoldable pub readNext : List ℕ → Model → Dec → Dec
 readNext b m d = atEnd (rawNext b (rawN m) (afterCode b m d)) (scratch m d) (marked m (whole b m d) (d .error))
+
+-- ---- what a read asks of a packet and a reader: all of document 01's rules but the total's
+
+abbrev pub Bytes : List ℕ → Type 0
+Bytes b = (i : ℕ) → byteAt b i < 256

@@ -1,6 +1,7 @@
-// The range coder's states and answers, laid out for C (RFC 6716, sections 4.1 and 5.1), and what reader and writer share: `specs/` says
-// what each step makes of a state. Field by field a state is the crate's `ec_ctx` without its buffer: `endoffs` is its end_offs, `window`
-// its end_window, `wbits` its nend_bits, `total` its nbits_total; the others have its names.
+// The range coder's states and answers, laid out for C (RFC 6716, sections 4.1 and 5.1), and what reader and writer
+// share: `specs/` says what each step makes of a state. Field by field a state is the crate's `ec_ctx` without its
+// buffer: `endoffs` is its end_offs, `window` its end_window, `wbits` its nend_bits, `total` its nbits_total; the
+// others have its names.
 ghost use mathlib.Core.Path.{_≡_};
 ghost use Prim.Native.Nat.{_<_};
 ghost use Rattle.entcode.specs.Cuts.{upper};

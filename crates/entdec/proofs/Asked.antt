@@ -3,13 +3,14 @@ use Prim.Native.Nat.{ℕ, _^_, _≤_}
 use mathlib.Core.Path.{_≡_}
 use mathlib.Core.List.{List}
 use native.Mathlib.Omega.{arith}
-use Rattle.refusals.specs.First.{firstOf, number}
+use Rattle.refusals.specs.First.{firstOf}
+use Rattle.refusals.proofs.FirstLaws.{number}
 use Rattle.entcode.specs.declared.Dec.{Dec}
 use Rattle.entcode.specs.Models.{Model, Readable}
 use Rattle.entcode.specs.Reader.{readVal, readNext}
-use Rattle.entcode.specs.ReaderLaws.{Core}
+use Rattle.entcode.specs.Inner.Reading.{Core}
 use Rattle.entcode.specs.Reading.{gives, refuses, decSym}
-use Rattle.entcode.specs.ReadingLaws.{call-open, call-runs, call-refused}
+use Rattle.entcode.proofs.ReadingLaws.{call-open, call-runs, call-refused}
 use Rattle.entcode.specs.Rules.{askRule}
 use Rattle.entcode.specs.Sound.{gateR}
 

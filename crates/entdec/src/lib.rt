@@ -1,5 +1,5 @@
-// The calls on a reader (document 01): each tests packet, state and its own numbers once, and answers the first refusal or what the room
-// `entdec_run` reads. Names as in the crate's entdec.rs.
+// The calls on a reader (document 01): each tests packet, state and its own numbers once, and answers the first
+// refusal or what the room `entdec_run` reads. Names as in the crate's entdec.rs.
 ghost use mathlib.Core.Path.{_≡_};
 ghost use Rattle.entcode.specs.Models.{bit, raw, num, tab};
 ghost use Rattle.entcode.specs.Sound.{totalOk, rangeOkR, placesOkR, smallOkR, soundR, gateR};
@@ -147,8 +147,8 @@ pub fn ec_dec_icdf(packet: &[u8], d: Dec, table: &[u8], scale: u32) -> Decoded
     }
 }
 
-// The same for a packet view. A function of this size is inlined only where it has one caller, and the exported call needs it inlined: that
-// answer is not copied once more.
+// The same for a packet view. A function of this size is inlined only where it has one caller, and the exported call
+// needs it inlined: that answer is not copied once more.
 pub fn ec_dec_icdf_of_view(packet: &[u8], d: Dec, table: &[u8], scale: u32) -> Decoded
     ensures { λ a. ⌜ a ≡ decSym (now (packet .entry)) d (tab scale (now (table .entry))) ⌝ }
 {

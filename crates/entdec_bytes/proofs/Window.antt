@@ -5,11 +5,11 @@ use mathlib.Core.List.{List}
 use native.Mathlib.Omega.{arith}
 use lib.ListN.{length}
 use Rattle.entcode.specs.declared.Dec.{Dec}
-use Rattle.entcode.specs.Reader.{byteAt, lastOf, fetch, fetches}
-use Rattle.entcode.specs.ReaderLaws.{Bytes, last-byte}
-use Rattle.entcode.specs.TailLaws.{append-slim}
+use Rattle.entcode.specs.Reader.{byteAt, lastOf, fetch, fetches, Bytes}
+use Rattle.entcode.proofs.ReaderLaws.{last-byte}
+use Rattle.entcode.proofs.TailLaws.{append-slim}
 use Rattle.entcode.proofs.Window.{window-sum}
-use Rattle.entdec_bytes.specs.Facts.{Windowed}
+use Rattle.entdec_bytes.specs.Inner.{Windowed}
 
 -- the byte at a place counted from the end
 pub last-at : (b : List ℕ) (i : ℕ) → i < length b → lastOf b (length b - i) ≡ byteAt b (length b - (i + 1))

@@ -1,13 +1,13 @@
-// What a reader takes from its packet (RFC 6716, sections 4.1.1, 4.1.2.1 and 4.1.4): bytes from the front as its range shrinks, and bytes
-// from the end through a window. The packet is read in `ec_read_byte` and `ec_read_byte_from_end` alone. Names as in the crate's entdec.rs.
+// What a reader takes from its packet (RFC 6716, sections 4.1.1, 4.1.2.1 and 4.1.4): bytes from the front as its
+// range shrinks, and bytes from the end through a window. The packet is read in `ec_read_byte` and
+// `ec_read_byte_from_end` alone. Names as in the crate's entdec.rs.
 ghost use mathlib.Core.Path.{_≡_};
 ghost use Prim.Native.Nat.{_+_, _-_, _/_, _%_, _^_, _<_, _≤_};
 ghost use lib.ListN.{length};
-ghost use Rattle.entcode.specs.Reader.{byteAt, lastOf, after, shiftR, settled, opened, cutDown};
-ghost use Rattle.entcode.specs.Reader.{fetch, fetches, fill, rawVal, dropBits, rawNext};
+ghost use Rattle.entcode.specs.Reader.{byteAt, lastOf, after, shiftR, settled, opened, cutDown, fetch, fetches, fill, rawVal, dropBits, rawNext};
 ghost use Rattle.entcode.specs.Reading.{gives};
-ghost use Rattle.entcode.specs.ReaderLaws.{Core};
-ghost use Rattle.entdec_bytes.specs.Facts.{Turning, Windowed};
+ghost use Rattle.entcode.specs.Inner.Reading.{Core};
+ghost use Rattle.entdec_bytes.specs.Inner.{Turning, Windowed};
 use entcode::Dec;
 use entcode::Decoded;
 use entcode::nought_reader;

@@ -1,6 +1,7 @@
-// The symbols of a reader of the range coder (RFC 6716, section 4.1): a state by value beside the packet, names as in the crate's
-// entdec.rs. These functions carry what they ask in `requires` and test nothing again; the calls that test are in the room `entdec`, what
-// is taken from the packet is in `entdec_bytes`, and the search of a table in `entdec_search`.
+// The symbols of a reader of the range coder (RFC 6716, section 4.1): a state by value beside the packet, names as in
+// the crate's entdec.rs. These functions carry what they ask in `requires` and test nothing again; the calls that
+// test are in the room `entdec`, what is taken from the packet is in `entdec_bytes`, and the search of a table in
+// `entdec_search`.
 ghost use mathlib.Core.Path.{_≡_};
 ghost use mathlib.Core.Bool.{cond};
 ghost use Prim.Native.Nat.{suc, _^_, _<_, _≤_, min};
@@ -10,8 +11,7 @@ ghost use Rattle.entcode.specs.Models.{bit, raw, num, tab, rawBits};
 ghost use Rattle.entcode.specs.Cuts.{upper, lower};
 ghost use Rattle.entcode.specs.Reader.{atEnd, cutDown, sought};
 ghost use Rattle.entcode.specs.Reading.{gives};
-ghost use Rattle.entcode.specs.ReaderLaws.{Core};
-ghost use Rattle.entcode.specs.ReadLaws.{Holding, Took};
+ghost use Rattle.entcode.specs.Inner.Reading.{Core, Holding, Took};
 use entcode::Dec;
 use entcode::Decoded;
 use entcode::part_top_run;

@@ -8,11 +8,11 @@ use native.Mathlib.Omega.{arith}
 use borrow.Author.Tests.{lt-ltb, le-ltb}
 use lib.Dec.{ltb}
 use lib.ListN.{length, getD}
-use Rattle.tests.specs.Choice.{by-lt}
+use Rattle.deciding.proofs.Choice.{by-lt}
 use Rattle.icdf.specs.Rule.{Icdf}
 use Rattle.icdf.specs.Search.{search}
 use Rattle.entdec_search.specs.declared.Part.{Part}
-use Rattle.entdec_search.specs.Parts.{partOf}
+use Rattle.entdec_search.specs.Inner.{partOf}
 
 -- symbol 1, from 0 up to the edge, where the value lies below it, else symbol 0, from the edge up to the range
 abbrev pub byEdge : ℕ → ℕ → ℕ → Part

@@ -4,7 +4,7 @@ ghost use mathlib.Core.Bool.{cond};
 ghost use Prim.Native.Nat.{_*_, _^_, _≤_};
 ghost use lib.ListN.{length};
 ghost use Rattle.icdf.specs.Rule.{Icdf};
-ghost use Rattle.entdec_search.specs.Parts.{partOf};
+ghost use Rattle.entdec_search.specs.Inner.{partOf};
 
 // A symbol of a table, with the two ends of its part.
 pub struct Part {

@@ -2,15 +2,16 @@
 use Prim.Native.Nat.{ℕ, _^_, _<_, _≤_}
 use mathlib.Core.Path.{_≡_}
 use native.Mathlib.Omega.{arith}
-use Rattle.refusals.specs.First.{firstOf, number}
+use Rattle.refusals.specs.First.{firstOf}
+use Rattle.refusals.proofs.FirstLaws.{number}
 use Rattle.icdf.specs.Rule.{Icdf, Writable}
 use Rattle.entcode.specs.Flat.{Out}
 use Rattle.entcode.specs.Models.{Model, Sym, bit, raw, num, tab, Allowed}
 use Rattle.entcode.specs.Rules.{sayRule}
 use Rattle.entcode.specs.Sound.{gateW}
-use Rattle.entcode.specs.WriterFacts.{Core}
+use Rattle.entcode.specs.Inner.Writing.{Core}
 use Rattle.entcode.specs.Writing.{takes, refuses, written, encSym}
-use Rattle.entcode.specs.WritingLaws.{call-runs, call-takes, call-refuses}
+use Rattle.entcode.proofs.WritingLaws.{call-runs, call-takes, call-refuses}
 
 -- what the functions that write ask of their numbers
 abbrev pub Asks : Model → ℕ → Type 0

@@ -1,6 +1,6 @@
-// The public calls on a writer (document 01): each checks the state, then its own numbers, and runs only if nothing is refused. A refused
-// call answers its number and value 0, hands the state back as it was, and touches no byte of the buffer. Names as in the crate's
-// entenc.rs.
+// The public calls on a writer (document 01): each checks the state, then its own numbers, and runs only if nothing
+// is refused. A refused call answers its number and value 0, hands the state back as it was, and touches no byte of
+// the buffer. Names as in the crate's entenc.rs.
 ghost use mathlib.Core.Path.{_≡_};
 ghost use Rattle.entcode.specs.Models.{bit, raw, num, tab};
 ghost use Rattle.entcode.specs.Flat.{out};
@@ -28,8 +28,8 @@ fn answer(n: u32, w: Enc) -> Encoded
     }
 }
 
-// A fresh writer; a refused opening hands back the all-zero state. The fresh one is spelled out, so that LLVM takes most of it from a
-// constant.
+// A fresh writer; a refused opening hands back the all-zero state. The fresh one is spelled out, so that LLVM takes
+// most of it from a constant.
 pub fn ec_enc_init(buf: &[u8]) -> Encoded
     ensures { λ a. ⌜ sent (now (buf .entry)) a ≡ encOpen (now (buf .entry)) ⌝ }
 {

@@ -1,4 +1,5 @@
-// What the numbers of a call are refused for: 4 for one outside its range, 8 for a value that cannot be written, 0 for none (document 01).
+// What the numbers of a call are refused for: 4 for one outside its range, 8 for a value that cannot be written, 0
+// for none (document 01).
 ghost use mathlib.Core.Path.{_≡_};
 ghost use Rattle.entcode.specs.Models.{bit, raw, num};
 ghost use Rattle.entcode.specs.Rules.{sayRule};

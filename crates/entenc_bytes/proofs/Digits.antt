@@ -13,10 +13,10 @@ use lib.Signed.{leZ, nonNeg, natAbs-le}
 use mir.Syntax.{w32}
 use mir.Val.{Fits, SFits}
 use Rattle.entcode.specs.Front.{stored}
-use Rattle.entcode.specs.Flat.{heldOf, Out, asWriter, Fair}
-use Rattle.entcode.specs.FlatLaws.{arrive}
-use Rattle.entcode.specs.WriterFacts.{atRun, hold}
-use Rattle.entcode.specs.WriterSteps.{carryW, putAll, carried}
+use Rattle.entcode.specs.Flat.{heldOf, Out, asWriter}
+use Rattle.entcode.specs.Inner.Writing.{Fair, carryW, putAll, carried}
+use Rattle.entcode.proofs.FlatLaws.{arrive}
+use Rattle.entcode.proofs.WriterFacts.{atRun, hold}
 
 -- ---- the held byte, as a number: one that is there, and none
 

@@ -8,11 +8,11 @@ use borrow.Author.Tests.{lt-ltb, le-ltb}
 use lib.IntN.{negsuc}
 use lib.ListN.{length, replicate, set, length-set}
 use Rattle.entcode.specs.Room.{puts, back}
-use Rattle.entcode.specs.RoomLaws.{puts-kept}
-use Rattle.entcode.specs.Flat.{Out, asWriter, Fair}
-use Rattle.entcode.specs.FlatLaws.{flat-fair, arrive, put-none, put-more}
-use Rattle.entcode.specs.WriterFacts.{Roomy, atFront, atBack}
-use Rattle.entcode.specs.WriterSteps.{withRoom, putAll, backed}
+use Rattle.entcode.proofs.RoomLaws.{puts-kept}
+use Rattle.entcode.specs.Flat.{Out, asWriter}
+use Rattle.entcode.specs.Inner.Writing.{Fair, Roomy, withRoom, putAll, backed}
+use Rattle.entcode.proofs.FlatLaws.{flat-fair, arrive, put-none, put-more}
+use Rattle.entcode.proofs.WriterFacts.{atFront, atBack}
 
 pub put-roomy : (o : Out) (bs : List ℕ) → Roomy o → Roomy (putAll o bs)
 unfolding putAll

@@ -4,12 +4,12 @@ use mathlib.Core.Path.{_≡_, refl}
 use native.Mathlib.Omega.{arith}
 use lib.Pow.{shr-lt}
 use Rattle.entcode.specs.Room.{back}
-use Rattle.entcode.specs.RoomLaws.{BackKept, back-kept}
+use Rattle.entcode.proofs.RoomLaws.{BackKept, back-kept}
 use Rattle.entcode.specs.Tail.{flush1}
 use Rattle.entcode.specs.Flat.{Out, asWriter}
-use Rattle.entcode.specs.FlatLaws.{flat-fair, err-error}
-use Rattle.entcode.specs.WriterFacts.{Windowed, atWindow}
-use Rattle.entcode.specs.WriterSteps.{withTail, backed, shed}
+use Rattle.entcode.proofs.FlatLaws.{flat-fair, err-error}
+use Rattle.entcode.specs.Inner.Writing.{Windowed, withTail, backed, shed}
+use Rattle.entcode.proofs.WriterFacts.{atWindow}
 
 pub shed-is : (o : Out)
     → atWindow (backed o (o .state .window % 256)) (o .state .window / 256) (o .state .wbits - 8) (backed o (o .state .window % 256) .state .total) ≡ shed o

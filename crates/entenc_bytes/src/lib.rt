@@ -1,14 +1,13 @@
-// Where the writer's bytes go (RFC 6716, sections 5.1.1.1 and 5.1.3): coded bytes, with what a carry may still change held back, to the
-// buffer's front, raw bytes to its back. A byte that finds no room is dropped, and the error stays. The crate's ec_write_byte is
-// `put_byte`, its ec_write_byte_at_end `put_back`, its ec_enc_carry_out `carry_out_run`.
+// Where the writer's bytes go (RFC 6716, sections 5.1.1.1 and 5.1.3): coded bytes, with what a carry may still change
+// held back, to the buffer's front, raw bytes to its back. A byte that finds no room is dropped, and the error stays.
+// The crate's ec_write_byte is `put_byte`, its ec_write_byte_at_end `put_back`, its ec_enc_carry_out `carry_out_run`.
 ghost use mathlib.Core.Path.{_≡_};
 ghost use mathlib.Core.List.{[], _∷_};
 ghost use Prim.Native.Nat.{_-_, _^_, _<_, _≤_};
 ghost use lib.ListN.{replicate};
 ghost use Rattle.entcode.specs.Front.{stored};
 ghost use Rattle.entcode.specs.Flat.{out, heldOf};
-ghost use Rattle.entcode.specs.WriterFacts.{Roomy, Windowed, Spare};
-ghost use Rattle.entcode.specs.WriterSteps.{putAll, carried, backed, shed, flushed};
+ghost use Rattle.entcode.specs.Inner.Writing.{Roomy, Windowed, Spare, putAll, carried, backed, shed, flushed};
 use entcode::Enc;
 
 // ---- the front
@@ -58,7 +57,8 @@ fn put_held(buf: &mut [u8], w: Enc, k: u32) -> Enc
     }
 }
 
-// The digit c, a carry and a byte, goes out: 255 joins the run; before any other the held byte and the run are stored with its carry.
+// The digit c, a carry and a byte, goes out: 255 joins the run; before any other the held byte and the run are stored
+// with its carry.
 pub fn carry_out_run(buf: &mut [u8], w: Enc, c: u32) -> Enc
     requires { ⌜ Roomy (out (now buf) w) ⌝ }
     requires { ⌜ (c < 512) × (w .ext < 2 ^ 32 - 1) ⌝ }

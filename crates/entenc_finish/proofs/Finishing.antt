@@ -14,19 +14,19 @@ use lib.Seq.{drop-cons, set-at, length-take-le}
 use mir.Facts.{toZ-ofZ}
 use mir.Syntax.{w32}
 use mir.Val.{SFits, toZ, ofZ}
-use Rattle.tests.specs.Choice.{chosen}
+use Rattle.deciding.proofs.Choice.{chosen}
 use Rattle.entcode.specs.Front.{Front, unstored, bytesOut, heldNext, digit, shift, shiftOut}
 use Rattle.entcode.specs.Room.{Room, puts}
-use Rattle.entcode.specs.RoomLaws.{puts-kept, puts-error}
+use Rattle.entcode.proofs.RoomLaws.{puts-kept, puts-error}
 use Rattle.entcode.specs.Tail.{flush}
 use Rattle.entcode.specs.Writer.{Writer, withFront}
-use Rattle.entcode.specs.WriterLaws.{held-most}
+use Rattle.entcode.proofs.WriterLaws.{held-most}
 use Rattle.entcode.specs.Finish.{bitsOf, endOf, emits, spareBits, finOut, heldAfter, finBytes, clear, orLast, leftOver, close}
-use Rattle.entcode.specs.Flat.{heldOf, errOf, errorOf, Out, out, asWriter, flat, Fair}
-use Rattle.entcode.specs.FlatLaws.{flat-fair, as-flat, flat-as, arrive, held-rem, err-error, puts-append}
-use Rattle.entcode.specs.WriterFacts.{Roomy, Windowed, Core, atFront, atWindow}
-use Rattle.entcode.specs.WriterSteps.{withRoom, withTail, carryW, carried, flushed, rested, digitsW, digitsOut}
-use Rattle.entcode.specs.WriterSteps.{frontW, fronted, stowed, closed}
+use Rattle.entcode.specs.Flat.{heldOf, errOf, errorOf, Out, out, asWriter, flat}
+use Rattle.entcode.specs.Inner.Writing.{Fair, Roomy, Windowed, Core, withRoom, withTail, carryW, carried, flushed, rested, digitsW, digitsOut, stowed, closed}
+use Rattle.entcode.proofs.FlatLaws.{flat-fair, as-flat, flat-as, arrive, held-rem, err-error, puts-append}
+use Rattle.entcode.proofs.WriterFacts.{atFront, atWindow}
+use Rattle.entcode.proofs.WriterSteps.{frontW, fronted}
 use Rattle.entcode.specs.Writing.{finished}
 
 -- ---- what is held back

@@ -8,19 +8,18 @@ use native.Mathlib.Numerals.{add-one}
 use lib.ListN.{getD}
 use lib.Pow.{shr-mono, pow-mono, pow-pos}
 use Rattle.bitlen.specs.Length.{bitLength}
-use Rattle.bitlen.specs.LengthLaws.{length-most, length-pow}
+use Rattle.bitlen.proofs.LengthLaws.{length-most, length-pow}
 use Rattle.bitlen.proofs.Shift.{one-shl}
 use Rattle.icdf.specs.Rule.{Icdf}
-use Rattle.icdf.specs.RuleLaws.{entry-below}
+use Rattle.icdf.proofs.RuleLaws.{entry-below}
 use Rattle.entcode.specs.Models.{bit, num, tab, rawBits, Allowed}
 use Rattle.entcode.specs.Cuts.{upper, lower}
-use Rattle.entcode.specs.ModelLaws.{proper, num-small, bit-upper, bit-lower, bit-whole, tab-upper, tab-lower}
-use Rattle.entcode.specs.CutLaws.{CutOk, cut-ok}
-use Rattle.entcode.specs.ReadLaws.{topOf}
+use Rattle.entcode.proofs.ModelLaws.{proper, num-small, bit-upper, bit-lower, bit-whole, tab-upper, tab-lower}
+use Rattle.entcode.specs.Inner.Reading.{CutOk, topOf}
+use Rattle.entcode.proofs.CutLaws.{cut-ok}
 use Rattle.entcode.specs.Flat.{Out}
-use Rattle.entcode.specs.FlatLaws.{tab-first, tab-later, num-is}
-use Rattle.entcode.specs.WriterFacts.{Stepped}
-use Rattle.entcode.specs.WriterSteps.{cut, appended}
+use Rattle.entcode.proofs.FlatLaws.{tab-first, tab-later, num-is}
+use Rattle.entcode.specs.Inner.Writing.{Stepped, cut, appended}
 use Rattle.entcode.specs.Writing.{written}
 
 -- ---- a bit

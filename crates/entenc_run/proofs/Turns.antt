@@ -3,14 +3,14 @@ use Prim.Native.Nat.{ℕ, suc, _+_, _-_, _*_, _/_, _%_, _^_, _≤_}
 use mathlib.Core.Path.{_≡_, refl}
 use native.Mathlib.Omega.{arith}
 use lib.Dec.{eqb}
-use Rattle.tests.specs.Choice.{chosen}
+use Rattle.deciding.proofs.Choice.{chosen}
 use Rattle.entcode.specs.Front.{runNext, shiftOut}
-use Rattle.entcode.specs.RoomLaws.{puts-kept}
+use Rattle.entcode.proofs.RoomLaws.{puts-kept}
 use Rattle.entcode.specs.Writer.{shiftW}
 use Rattle.entcode.specs.Flat.{Out, asWriter}
-use Rattle.entcode.specs.FlatLaws.{flat-fair}
-use Rattle.entcode.specs.WriterFacts.{Ready, atTurn}
-use Rattle.entcode.specs.WriterSteps.{carried, turned, settled, cut}
+use Rattle.entcode.proofs.FlatLaws.{flat-fair}
+use Rattle.entcode.specs.Inner.Writing.{Ready, carried, turned, settled, cut}
+use Rattle.entcode.proofs.WriterFacts.{atTurn}
 
 -- ---- a turn is a digit, and the rest shifted up
 

@@ -1,10 +1,9 @@
 // A cut of the writer's range, and the digits that leave it (RFC 6716, sections 5.1.1 and 5.1.1.1).
 ghost use mathlib.Core.Path.{_≡_};
 ghost use Prim.Native.Nat.{_^_, _≤_};
-ghost use Rattle.entcode.specs.CutLaws.{CutOk};
+ghost use Rattle.entcode.specs.Inner.Reading.{CutOk};
 ghost use Rattle.entcode.specs.Flat.{out};
-ghost use Rattle.entcode.specs.WriterFacts.{Ready, Core, Stepped};
-ghost use Rattle.entcode.specs.WriterSteps.{turned, settled, cut};
+ghost use Rattle.entcode.specs.Inner.Writing.{Ready, Core, Stepped, turned, settled, cut};
 use entcode::Enc;
 use entenc_bytes::carry_out_run;
 

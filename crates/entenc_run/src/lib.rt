@@ -1,17 +1,16 @@
-// The symbols of a writer of the range coder (RFC 6716, section 5.1): a state by value beside the buffer. The calls here ask for a state
-// that a write may begin with and test nothing again; each hands on what the next one asks. The calls that test are in the room `entenc`;
-// bytes go out in `entenc_bytes`, and finishing is in `entenc_finish`. Names as in the crate's entenc.rs; its ec_enc_normalize is
-// `normalize`.
+// The symbols of a writer of the range coder (RFC 6716, section 5.1): a state by value beside the buffer. The calls
+// here ask for a state that a write may begin with and test nothing again; each hands on what the next one asks. The
+// calls that test are in the room `entenc`; bytes go out in `entenc_bytes`, and finishing is in `entenc_finish`.
+// Names as in the crate's entenc.rs; its ec_enc_normalize is `normalize`.
 ghost use mathlib.Core.Path.{_≡_};
 ghost use Prim.Native.Nat.{ℕ, suc, _*_, _^_, _<_, _≤_};
 ghost use lib.ListN.{length, getD};
 ghost use Rattle.icdf.specs.Rule.{Icdf, Writable};
 ghost use Rattle.entcode.specs.Models.{bit, raw, num, tab};
 ghost use Rattle.entcode.specs.Cuts.{upper, lower};
-ghost use Rattle.entcode.specs.ReadLaws.{topOf};
+ghost use Rattle.entcode.specs.Inner.Reading.{topOf};
 ghost use Rattle.entcode.specs.Flat.{out};
-ghost use Rattle.entcode.specs.WriterFacts.{Core, Stepped, Wrote};
-ghost use Rattle.entcode.specs.WriterSteps.{cut};
+ghost use Rattle.entcode.specs.Inner.Writing.{Core, Stepped, Wrote, cut};
 use crate::front::keep;
 use crate::tail::append;
 use entcode::Enc;
@@ -35,8 +34,8 @@ pub fn ec_enc_bit_logp_run(buf: &mut [u8], w: Enc, v: u32, lp: u32) -> Enc
     }
 }
 
-// The upper end of symbol k's part. The entry before is read for the first symbol too: whether it is the first can't be guessed ahead, and
-// the choice between two numbers needs no jump.
+// The upper end of symbol k's part. The entry before is read for the first symbol too: whether it is the first can't
+// be guessed ahead, and the choice between two numbers needs no jump.
 fn symbol_top(table: &[u8], k: u32, unit: u32, rng: u32) -> u32
     requires { ⌜ k < length (now table) ⌝ }
     requires { ⌜ ((i : ℕ) → unit * getD (now table) i 0 ≤ 2 ^ 31) ⌝ }
@@ -48,8 +47,8 @@ fn symbol_top(table: &[u8], k: u32, unit: u32, rng: u32) -> u32
     if k == 0 { rng } else { part }
 }
 
-// Symbol k of an inverse table. The first and the others share one `keep`: with two of them this is too large to be inlined, and twice as
-// slow.
+// Symbol k of an inverse table. The first and the others share one `keep`: with two of them this is too large to be
+// inlined, and twice as slow.
 pub fn ec_enc_icdf_run(buf: &mut [u8], w: Enc, k: u32, table: &[u8], scale: u32) -> Enc
     requires { ⌜ Core (out (now buf) w) ⌝ }
     requires { ⌜ w .total ≤ 2 ^ 30 ⌝ }

@@ -2,8 +2,7 @@
 ghost use mathlib.Core.Path.{_≡_};
 ghost use Prim.Native.Nat.{_+_, _^_, _<_, _≤_};
 ghost use Rattle.entcode.specs.Flat.{out};
-ghost use Rattle.entcode.specs.WriterFacts.{Windowed, Core, Spare, Stepped};
-ghost use Rattle.entcode.specs.WriterSteps.{spared, appended};
+ghost use Rattle.entcode.specs.Inner.Writing.{Windowed, Core, Spare, Stepped, spared, appended};
 use entcode::Enc;
 use entenc_bytes::flush_all_run;
 

@@ -4,10 +4,10 @@ use mathlib.Core.Bool.{true}
 use mathlib.Core.List.{List, [], _∷_, _++_}
 use borrow.Author.Tests.{eqb-true}
 use lib.Dec.{eqb}
-use Rattle.tests.specs.Both.{and-both}
+use Rattle.deciding.proofs.Both.{and-both}
 use Rattle.entcode.specs.Models.{Sym}
 use Rattle.entcode.specs.Rules.{sayRule}
-use Rattle.entcode.specs.WritingLaws.{say-open}
+use Rattle.entcode.proofs.WritingLaws.{say-open}
 use Rattle.roundtrip.specs.Statement.{AllAllowed}
 use Rattle.tree.specs.Telling.{allSaid}
 

@@ -5,13 +5,14 @@ use mathlib.Core.List.{List, [], _∷_, _++_}
 use native.Mathlib.Omega.{arith}
 use Rattle.entcode.specs.declared.Dec.{Dec}
 use Rattle.entcode.specs.Models.{Sym}
-use Rattle.entcode.specs.Reader.{readNext}
-use Rattle.entcode.specs.ReaderLaws.{Bytes, Core, core-read}
+use Rattle.entcode.specs.Reader.{readNext, Bytes}
+use Rattle.entcode.specs.Inner.Reading.{Core}
+use Rattle.entcode.proofs.ReaderLaws.{core-read}
 use Rattle.entcode.specs.Writer.{Writer, writeSym, writeAll}
 use Rattle.roundtrip.specs.Statement.{AllAllowed}
 use Rattle.roundtrip.proofs.OneRead.{Level}
 use Rattle.roundtrip.proofs.ReadBack.{Follows, Any}
-use Rattle.tree.specs.Asks.{Gives}
+use Rattle.tree.proofs.AsksLaws.{Gives}
 
 -- the reader behind some symbols
 abbrev pub readAll : List ℕ → Dec → List Sym → Dec

@@ -24,8 +24,7 @@ use Rattle.silk.specs.Record.{made}
 use Rattle.silk.specs.IndexSyntax.{kind, firstGain, moreGains, gains, residual, residuals, spectrum, interpolation, absoluteLag, lag, contour, filters, period, scale, pitch, voicing, seed, indices}
 use Rattle.silk.specs.FrameCalls.{settingOk, nextLag, pulseNumbersOk}
 use Rattle.silk.specs.IndexWriting.{sameIndices, sayable, encodeIndices}
-use Rattle.silk.specs.PulseSyntax.{each, lowCounts, count, counts, total, split, shell, lowBits, blockLows, sign, blockSigns, shifted, excitation}
-use Rattle.silk.specs.PulseBlocks.{rows16}
+use Rattle.silk.specs.PulseSyntax.{each, lowCounts, count, counts, total, split, shell, lowBits, blockLows, sign, blockSigns, shifted, excitation, rows16}
 use Rattle.silk.specs.PulseWriting.{blockSays, shiftOk, firstFrom, blocksBy, writeRule, writeNumbers, encodePulses}
 use Rattle.frame_roundtrip.specs.Statement.{Finishes, typedPulses, FrameAccepts}
 

@@ -10,16 +10,20 @@ use lib.Dec.{eqb}
 use lib.IntN.{ℤ, pos}
 use lib.ListN.{length, set, length-set, take-append-drop}
 use Rattle.tree.specs.Asks.{Asks, then, symbols, meant}
-use Rattle.tree.specs.Telling.{allSaid, ends-meant}
+use Rattle.tree.specs.Telling.{allSaid}
+use Rattle.tree.proofs.TellingLaws.{ends-meant}
 use Rattle.silk.specs.declared.Indices.{Indices}
 use Rattle.silk.specs.declared.Setting.{Setting}
-use Rattle.silk.specs.Record.{withKind, withGain, withGains, withNlsfs, withFilters, withInterp, withLag, withContour, withPeriod, withScale, withSeed}
-use Rattle.silk.specs.IndexRows.{Subframes, subframes-least, subframes-most}
+use Rattle.silk.specs.Record.{withKind, withGain, withGains, withNlsfs, withFilters, withLag, withContour, withPeriod, withSeed, Shape}
+use Rattle.silk.proofs.RecordLaws.{withInterp, withScale}
+use Rattle.silk.specs.Inner.Indices.{Subframes}
+use Rattle.silk.proofs.IndexRows.{subframes-least, subframes-most}
 use Rattle.silk.specs.IndexSyntax.{said, saidAt, kind, firstGain, moreGains, gains, bookOf, selectorsOf, residuals, spectrum, interpolation, absoluteLag, lag, contour, filters, period, scale, pitch, relativeLag, voicing, seed, indices}
-use Rattle.silk.specs.IndexCalls.{Chosen}
-use Rattle.silk.specs.IndexParts.{order-most}
-use Rattle.silk.specs.IndexRanges.{Shape, ReadOver, indices-end}
-use Rattle.silk.specs.IndexWriting.{sayable, meant-is, all-said}
+use Rattle.silk.proofs.IndexCalls.{Chosen}
+use Rattle.silk.proofs.IndexParts.{order-most}
+use Rattle.silk.proofs.IndexRanges.{ReadOver, indices-end}
+use Rattle.silk.specs.IndexWriting.{sayable}
+use Rattle.silk.proofs.IndexWritingLaws.{meant-is, all-said}
 use Rattle.frame_roundtrip.specs.Statement.{front, voicedIn, overlaid}
 use Rattle.frame_roundtrip.proofs.Alike.{Alike, ended, asked, alike-in, alike-then, alike-behind, alike-symbols, alike-meant}
 

@@ -7,7 +7,7 @@ use native.Mathlib.Omega.{arith}
 use borrow.Author.Tests.{eq-eqb}
 use lib.IntN.{ℤ, natAbs}
 use lib.ListN.{length}
-use Rattle.refusals.specs.First.{none-first}
+use Rattle.refusals.proofs.FirstLaws.{none-first}
 use Rattle.entcode.specs.declared.Dec.{Dec}
 use Rattle.entcode.specs.declared.Decoded.{Decoded}
 use Rattle.entcode.specs.Models.{Model, Readable}
@@ -15,27 +15,27 @@ use Rattle.entcode.specs.Cuts.{account}
 use Rattle.entcode.specs.Sound.{gateR, gateW}
 use Rattle.entcode.specs.Reader.{readVal, readNext}
 use Rattle.entcode.specs.Reading.{gives, decSym, decTell}
-use Rattle.entcode.specs.ReadingLaws.{gate-pass, answered-ok}
+use Rattle.entcode.proofs.ReadingLaws.{gate-pass, answered-ok}
 use Rattle.entcode.specs.Writer.{Writer}
 use Rattle.entcode.specs.Flat.{Out, flat}
 use Rattle.entcode.specs.Writing.{Sent}
-use Rattle.entcode.specs.WritingLaws.{gate-open, tell-takes}
+use Rattle.entcode.proofs.WritingLaws.{gate-open, tell-takes}
 use Rattle.roundtrip.specs.Statement.{SameAccount}
 use Rattle.roundtrip.proofs.Accepted.{ask-pass}
-use Rattle.tree.specs.Asks.{Got, got, run, symbols, Gives}
-use Rattle.tree.specs.AsksLaws.{written-reads-back}
+use Rattle.tree.specs.Asks.{Got, got, run, symbols}
+use Rattle.tree.proofs.AsksLaws.{Gives, written-reads-back}
 use Rattle.silk.specs.declared.Indices.{Indices}
 use Rattle.silk.specs.declared.Setting.{Setting}
 use Rattle.silk.specs.IndexSyntax.{indices}
-use Rattle.silk.specs.IndexRanges.{Shape}
+use Rattle.silk.specs.Record.{Shape}
 use Rattle.silk.specs.FrameCalls.{settingOk, blocksOf, nextLag, indicesGot, decodeIndices, pulseRule, pulsed, decodePulses}
-use Rattle.silk.specs.IndexCalls.{setting-chosen, indices-runs}
+use Rattle.silk.proofs.IndexCalls.{setting-chosen, indices-runs}
 use Rattle.silk.specs.IndexWriting.{sayable}
 use Rattle.silk.specs.PulseSyntax.{Excitation, excitation}
-use Rattle.silk.specs.PulseBlocks.{rows-counted, rows-flat}
+use Rattle.silk.proofs.PulseBlocks.{rows-counted, rows-flat}
 use Rattle.silk.specs.PulseWriting.{excited, pulsesSay, shiftsOf, pulseBlocks}
-use Rattle.silk.specs.PulseWritten.{pulses-read-back}
-use Rattle.silk.specs.PulseCallLaws.{pulses-read}
+use Rattle.silk.proofs.PulseWritten.{pulses-read-back}
+use Rattle.silk.proofs.PulseCallLaws.{pulses-read}
 use Rattle.frame_roundtrip.specs.Statement.{pulses, overlaid, voicedIn, Tells}
 use Rattle.frame_roundtrip.proofs.Overlaid.{says-alike, means-overlaid}
 use Rattle.frame_roundtrip.proofs.Behind.{Beside}

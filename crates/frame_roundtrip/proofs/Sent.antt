@@ -8,35 +8,38 @@ use borrow.Author.Tests.{eqb-true}
 use lib.Dec.{eqb, leb}
 use lib.IntN.{ℤ}
 use lib.ListN.{length}
-use Rattle.tests.specs.Choice.{chosen}
+use Rattle.deciding.proofs.Choice.{chosen}
 use Rattle.lists.specs.Every.{every}
-use Rattle.refusals.specs.First.{firstOf, first-none}
+use Rattle.refusals.specs.First.{firstOf}
+use Rattle.refusals.proofs.FirstLaws.{first-none}
 use Rattle.sheet.specs.Directory.{rateRow}
 use Rattle.entcode.specs.Models.{Sym}
 use Rattle.entcode.specs.Sound.{gateW}
 use Rattle.entcode.specs.Rules.{sayRule}
 use Rattle.entcode.specs.Writer.{Writer, writeSym, writeAll}
 use Rattle.entcode.specs.Flat.{Out, flat}
-use Rattle.entcode.specs.FlatLaws.{as-flat}
+use Rattle.entcode.proofs.FlatLaws.{as-flat}
 use Rattle.entcode.specs.Writing.{written, finished, encSym, encDone}
-use Rattle.entcode.specs.WritingLaws.{answered-ok, answered-none}
+use Rattle.entcode.proofs.WritingLaws.{answered-ok, answered-none}
 use Rattle.roundtrip.specs.Statement.{AllAllowed, after}
 use Rattle.roundtrip.proofs.Accepted.{took}
 use Rattle.tree.specs.Asks.{symbols}
-use Rattle.tree.specs.Says.{says-all}
+use Rattle.tree.proofs.Says.{says-all}
 use Rattle.tree.specs.Telling.{writtenAll}
 use Rattle.silk.specs.declared.Indices.{Indices}
 use Rattle.silk.specs.declared.Setting.{Setting}
 use Rattle.silk.specs.IndexSyntax.{indices}
 use Rattle.silk.specs.FrameCalls.{settingOk, pulseNumbersOk, blocksOf}
-use Rattle.silk.specs.IndexCalls.{four-none}
-use Rattle.silk.specs.IndexWriting.{sayable, tellRule, IndicesSent, indicesTold, encodeIndices, indices-told, told-sayable, all-said}
+use Rattle.silk.proofs.IndexCalls.{four-none}
+use Rattle.silk.specs.IndexWriting.{sayable, tellRule, IndicesSent, indicesTold, encodeIndices}
+use Rattle.silk.proofs.IndexWritingLaws.{indices-told, told-sayable, all-said}
 use Rattle.silk.specs.PulseSyntax.{row}
-use Rattle.silk.specs.PulseBlocks.{rows-counted, rows-sixteen}
+use Rattle.silk.proofs.PulseBlocks.{rows-counted, rows-sixteen}
 use Rattle.silk.specs.PulseWriting.{smallest, pulsesSay, shiftsOf, writeRule, writeNumbers, pulseBlocks, encodeRule, encodePulses}
-use Rattle.silk.specs.PulseWritten.{AllSuit, shifts-suit}
-use Rattle.silk.specs.PulseSayable.{frame-says}
-use Rattle.silk.specs.PulseSent.{WriteOpen, write-open}
+use Rattle.silk.specs.Inner.Pulses.{AllSuit}
+use Rattle.silk.proofs.PulseWritten.{shifts-suit}
+use Rattle.silk.proofs.PulseSayable.{frame-says}
+use Rattle.silk.proofs.PulseSent.{WriteOpen, write-open}
 use Rattle.frame_roundtrip.specs.Statement.{Step, symbol, sideIndices, pulses, afterIndices, behind, Accepts, StepsSent}
 use Rattle.frame_roundtrip.proofs.Allowed.{said-allowed, allowed-both}
 

@@ -16,14 +16,13 @@ use Rattle.entcode.specs.declared.Decoded.{Decoded}
 use Rattle.entcode.specs.Models.{Sym}
 use Rattle.entcode.specs.Cuts.{account}
 use Rattle.entcode.specs.Sound.{gateW}
-use Rattle.entcode.specs.Reader.{settled, opened, readNext}
-use Rattle.entcode.specs.ReaderLaws.{Bytes}
+use Rattle.entcode.specs.Reader.{settled, opened, readNext, Bytes}
 use Rattle.entcode.specs.Reading.{gives, decSym}
 use Rattle.entcode.specs.Writer.{Writer, openW, writeAll}
 use Rattle.entcode.specs.Finish.{finish}
 use Rattle.entcode.specs.Flat.{Out, flat}
 use Rattle.entcode.specs.Writing.{encOpen, encSym, encDone}
-use Rattle.entcode.specs.WritingLaws.{done-accepted}
+use Rattle.entcode.proofs.WritingLaws.{done-accepted}
 use Rattle.roundtrip.specs.Statement.{after, Sends, Written, Right, Reads, wroteAll}
 use Rattle.roundtrip.proofs.ReadBack.{Follows, Any, open-core}
 use Rattle.roundtrip.proofs.Round.{open-firm}
@@ -34,12 +33,11 @@ use Rattle.roundtrip.proofs.Theorems.{accepts, fits, follows-back}
 use Rattle.silk.specs.declared.Indices.{Indices}
 use Rattle.silk.specs.declared.IndicesRead.{IndicesRead}
 use Rattle.silk.specs.declared.Setting.{Setting}
-use Rattle.silk.specs.IndexRanges.{Shape}
+use Rattle.silk.specs.Record.{Shape}
 use Rattle.silk.specs.FrameCalls.{Pulsed, decodeIndices, decodePulses}
 use Rattle.silk.specs.IndexWriting.{IndicesSent, encodeIndices}
 use Rattle.silk.specs.PulseWriting.{encodePulses}
-use Rattle.frame_roundtrip.specs.Statement.{Step, symbol, sideIndices, pulses, afterIndices, StepsSent, Begun, Finishes, StepsWritten, Tells, RightIndices, RightPulses, StepsRead, fresh, readOn, typedPulses}
-use Rattle.frame_roundtrip.specs.Statement.{StepsFit, StepsBack, StepsBehind, PulsesBack, IndicesBack, FrameBack}
+use Rattle.frame_roundtrip.specs.Statement.{Step, symbol, sideIndices, pulses, afterIndices, StepsSent, Begun, Finishes, StepsWritten, Tells, RightIndices, RightPulses, StepsRead, fresh, readOn, typedPulses, StepsFit, StepsBack, StepsBehind, PulsesBack, IndicesBack, FrameBack}
 use Rattle.frame_roundtrip.proofs.Behind.{readAll, Beside, Gave, gave}
 use Rattle.frame_roundtrip.proofs.Sent.{says, saysAll, indices-took, indices-sent, pulses-took, step-gate, done-gate, step-allowed, step-wrote, next-sent, steps-went}
 use Rattle.frame_roundtrip.proofs.Read.{reader-gate, same-account, tells, symbol-read, indices-read, same-type, same-offset, same-lag, pulses-given}

@@ -13,7 +13,7 @@ use Rattle.entcode.specs.declared.Dec.{Dec}
 use Rattle.entcode.specs.Models.{Sym}
 use Rattle.entcode.specs.Cuts.{account}
 use Rattle.entcode.specs.Flat.{Out, out}
-use Rattle.entcode.specs.ReaderLaws.{Bytes}
+use Rattle.entcode.specs.Reader.{Bytes}
 use Rattle.entcode.specs.Reading.{decOpen, decSym, decTell}
 use Rattle.entcode.specs.Writing.{Sent, encOpen, encSym, encTell, encDone}
 use Rattle.roundtrip.specs.Statement.{after, Sends, SameAccount, Right, Reads}
@@ -21,7 +21,7 @@ use Rattle.silk.specs.declared.Indices.{Indices}
 use Rattle.silk.specs.declared.IndicesRead.{IndicesRead}
 use Rattle.silk.specs.declared.Setting.{Setting}
 use Rattle.silk.specs.IndexSyntax.{bookOf}
-use Rattle.silk.specs.IndexRanges.{Shape}
+use Rattle.silk.specs.Record.{Shape}
 use Rattle.silk.specs.FrameCalls.{Pulsed, decodeIndices, decodePulses}
 use Rattle.silk.specs.IndexWriting.{IndicesSent, encodeIndices}
 use Rattle.silk.specs.PulseWriting.{encodePulses}

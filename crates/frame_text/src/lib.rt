@@ -4,7 +4,7 @@ ghost use Prim.Native.Nat.{_+_, _*_, _≤_};
 ghost use mathlib.Core.Path.{_≡_};
 ghost use mathlib.Core.List.{[], _∷_};
 ghost use lib.ListN.{length};
-ghost use Rattle.numerals.specs.Put.{Put};
+ghost use Rattle.numerals.specs.Inner.{Put};
 ghost use Rattle.listing.specs.Lines.{spaced, line, counted};
 use listing::put_line_run;
 use listing::put_spaced_run;

@@ -2,7 +2,7 @@
 // at a place.
 ghost use Prim.Native.Nat.{_+_, _≤_};
 ghost use lib.ListN.{length};
-ghost use Rattle.numerals.specs.Put.{Put};
+ghost use Rattle.numerals.specs.Inner.{Put};
 ghost use Rattle.frame_text.specs.FrameText.{kindText};
 use frame_text::wide;
 use listing::put_line_run;

@@ -3,7 +3,7 @@
 ghost use Prim.Native.Nat.{_+_, _*_, _≤_};
 ghost use mathlib.Core.Path.{_≡_};
 ghost use lib.ListN.{length};
-ghost use Rattle.numerals.specs.Put.{Put};
+ghost use Rattle.numerals.specs.Inner.{Put};
 ghost use Rattle.listing.specs.Lines.{numbers};
 ghost use Rattle.frame_text.specs.FrameText.{blockLines, pulsesText};
 use listing::put_line_run;

@@ -1,4 +1,5 @@
--- What a packet's first frame says of itself (RFC 6716, section 4.2.7.3): signal and offset type, read at the packet's start. Assumes nothing.
+-- What a packet's first frame says of itself (RFC 6716, section 4.2.7.3): signal and offset type, read at the
+-- packet's start. Assumes nothing.
 use Prim.Native.Nat.{ℕ, _/_, _%_}
 use mathlib.Core.Bool.{cond}
 use mathlib.Core.List.{List}

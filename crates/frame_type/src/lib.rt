@@ -1,5 +1,5 @@
-// The types of a packet's first frame (RFC 6716, section 4.2.7.3), for a host that wants to know them before it decodes: read through a
-// packet view that is opened here and not kept.
+// The types of a packet's first frame (RFC 6716, section 4.2.7.3), for a host that wants to know them before it
+// decodes: read through a packet view that is opened here and not kept.
 ghost use mathlib.Core.Path.{_≡_};
 ghost use mathlib.Core.Bool.{cond};
 ghost use lib.Dec.{leb};

@@ -1,7 +1,7 @@
 // Replays recorded calls on frames: each record of standard input has a call and the crate's answer (docs/RECORDED.md
 // has the layout). Prints how many calls of each kind agreed, and then that all did, or the number of the first that
 // did not.
-ghost use Rattle.records.specs.Places.{Placed, Parted};
+ghost use Rattle.records.specs.Inner.{Placed, Parted};
 use libc::STDIN_FILENO;
 use reading::read_agrees;
 use reading::reading_run;

@@ -7,9 +7,10 @@ use native.Mathlib.Omega.{arith}
 use borrow.Author.Tests.{eq-eqb, ne-eqb, eqb-true, leb-true, le-leb, lt-leb}
 use lib.Dec.{eqb, leb}
 use lib.ListN.{length, getD, replicate}
-use Rattle.tests.specs.Both.{both-and, and-both}
-use Rattle.tests.specs.Choice.{chosen}
-use Rattle.refusals.specs.First.{firstOf, first-none, none-first}
+use Rattle.deciding.proofs.Both.{both-and, and-both}
+use Rattle.deciding.proofs.Choice.{chosen}
+use Rattle.refusals.specs.First.{firstOf}
+use Rattle.refusals.proofs.FirstLaws.{first-none, none-first}
 use Rattle.framing.specs.declared.Packet.{Packet}
 use Rattle.framing.specs.Toc.{configOf, stereoOf}
 use Rattle.framing.specs.Rules.{keeps}

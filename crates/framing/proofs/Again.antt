@@ -8,7 +8,7 @@ use borrow.Author.Tests.{eq-eqb, lt-ltb, eqb-true, eqb-false}
 use lib.Dec.{eqb, ltb}
 use lib.ListN.{length, getD, take, drop, replicate, length-drop, take-append-drop}
 use lib.Seq.{drop-drop, length-take-le}
-use Rattle.tests.specs.Both.{both-and}
+use Rattle.deciding.proofs.Both.{both-and}
 use Rattle.lists.specs.Every.{every}
 use Rattle.lists.specs.AtMost.{AtMost}
 use Rattle.framing.specs.Toc.{configOf, codeOf, byCode, duration}
@@ -20,8 +20,7 @@ use Rattle.framing.specs.Rules.{keeps, variedOf, countOf}
 use Rattle.framing.specs.Writing.{butLast, bit, countByte, laid, alike}
 use Rattle.framing.proofs.LengthLaws.{codes-again, at-most-drop}
 use Rattle.framing.proofs.PaddingLaws.{pad-again, tail-again, some-lengths}
-use Rattle.framing.proofs.Kept.{Kept, kept, by-bool, by-code, form-0, form-1, form-2, form-3, own-3, head-equal}
-use Rattle.framing.proofs.Kept.{head-varied, firsts-varied, sizes-equal, sizes-varied}
+use Rattle.framing.proofs.Kept.{Kept, kept, by-bool, by-code, form-0, form-1, form-2, form-3, own-3, head-equal, head-varied, firsts-varied, sizes-equal, sizes-varied}
 use Rattle.framing.proofs.Whole.{whole, sizes-count}
 use Rattle.framing.proofs.Laid.{Layout}
 

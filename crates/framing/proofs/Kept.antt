@@ -9,15 +9,15 @@ use native.Mathlib.Nat.{mod-one}
 use borrow.Author.Tests.{leb-true, le-leb, eqb-true, eq-eqb, not-true}
 use lib.Dec.{eqb, leb}
 use lib.ListN.{length, getD, drop, replicate, List·getD-eq-default}
-use Rattle.tests.specs.Both.{and-both, both-and}
-use Rattle.tests.specs.Choice.{by-lt}
-use Rattle.lists.specs.Every.{every, every-at}
+use Rattle.deciding.proofs.Both.{and-both, both-and}
+use Rattle.deciding.proofs.Choice.{by-lt}
+use Rattle.lists.specs.Every.{every}
+use Rattle.lists.proofs.EveryLaws.{every-at}
 use Rattle.framing.specs.Toc.{configOf, codeOf, durations, duration}
 use Rattle.framing.specs.Lengths.{lengthOf, widthOf, lengths, widths, total}
 use Rattle.framing.specs.declared.Form.{Form}
 use Rattle.framing.specs.Form.{plain, counted, formOf, behind, firsts, head, room, sizes, headOf, paddingOf}
-use Rattle.framing.specs.Rules.{implies, isCode, variedOf, countOf, fitsFrame, rule1, rule2, rule3, rule4, rule5, rule6, rule7}
-use Rattle.framing.specs.Rules.{keeps}
+use Rattle.framing.specs.Rules.{implies, isCode, variedOf, countOf, fitsFrame, rule1, rule2, rule3, rule4, rule5, rule6, rule7, keeps}
 
 -- ---- the form, by the code
 

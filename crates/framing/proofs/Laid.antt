@@ -9,20 +9,18 @@ use borrow.Author.Tests.{lt-ltb, eqb-true}
 use lib.Dec.{eqb, ltb}
 use lib.ListN.{length, take, drop, replicate, length-append, length-drop}
 use lib.Seq.{drop-at, take-append-le, drop-append-le}
-use Rattle.tests.specs.Both.{and-both}
+use Rattle.deciding.proofs.Both.{and-both}
 use Rattle.lists.specs.Every.{every}
 use Rattle.framing.specs.Toc.{configOf, stereoOf, codeOf, byCode, duration}
 use Rattle.framing.specs.Lengths.{lengths, widths, lengthCodes, total}
 use Rattle.framing.specs.Padding.{padLengths, padBytes, padCode, padTail}
 use Rattle.framing.specs.declared.Form.{Form}
-use Rattle.framing.specs.Form.{counted, plain, formOf, behind, firsts, head, room, sizes, sizesOf, padding, paddingOf, cut}
-use Rattle.framing.specs.Form.{framesOf}
+use Rattle.framing.specs.Form.{counted, plain, formOf, behind, firsts, head, room, sizes, sizesOf, padding, paddingOf, cut, framesOf}
 use Rattle.framing.specs.Rules.{fitsFrame, keeps}
 use Rattle.framing.specs.Writing.{butLast, bit, countByte, laid, alike}
 use Rattle.framing.proofs.LengthLaws.{lengths-back, widths-back}
 use Rattle.framing.proofs.PaddingLaws.{pad-lengths-back, pad-bytes-back, pad-whole}
-use Rattle.framing.proofs.Kept.{KeptBy, kept-keeps, by-code, by-bool, form-0, form-1, form-2, form-3, head-equal, head-varied}
-use Rattle.framing.proofs.Kept.{firsts-equal, firsts-varied, sizes-equal, sizes-varied}
+use Rattle.framing.proofs.Kept.{KeptBy, kept-keeps, by-code, by-bool, form-0, form-1, form-2, form-3, head-equal, head-varied, firsts-equal, firsts-varied, sizes-equal, sizes-varied}
 use Rattle.framing.proofs.Whole.{total-append, total-same}
 
 -- ---- the last size, and sizes that are all one

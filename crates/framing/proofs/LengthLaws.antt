@@ -8,8 +8,8 @@ use borrow.Author.Tests.{lt-ltb, le-ltb, le-leb}
 use lib.Dec.{leb}
 use lib.ListN.{length, getD, take, drop, length-append, length-drop}
 use lib.Seq.{drop-append-seam, take-add}
-use Rattle.tests.specs.Both.{both-and}
-use Rattle.tests.specs.Choice.{chosen-lt, by-lt}
+use Rattle.deciding.proofs.Both.{both-and}
+use Rattle.deciding.proofs.Choice.{chosen-lt, by-lt}
 use Rattle.lists.specs.Every.{every}
 use Rattle.lists.specs.AtMost.{AtMost}
 use Rattle.framing.specs.Lengths.{lengthOf, widthOf, lengths, widths, lengthCode, lengthCodes}

@@ -8,7 +8,7 @@ use borrow.Author.Tests.{ne-eqb, eqb-true, eqb-false}
 use lib.Dec.{eqb}
 use lib.Seq.{length-take-le}
 use lib.ListN.{length, take, replicate, length-append, length-replicate}
-use Rattle.tests.specs.Choice.{chosen}
+use Rattle.deciding.proofs.Choice.{chosen}
 use Rattle.lists.specs.AtMost.{AtMost}
 use Rattle.framing.specs.Padding.{padLengths, padBytes, padCode, padTail}
 

@@ -7,7 +7,7 @@ use native.Mathlib.Omega.{arith}
 use borrow.Author.Tests.{lt-ltb, le-ltb}
 use lib.Dec.{eqb}
 use lib.ListN.{length}
-use Rattle.tests.specs.Choice.{chosen, by-lt}
+use Rattle.deciding.proofs.Choice.{chosen, by-lt}
 use Rattle.framing.specs.Lengths.{lengthCodes, total}
 use Rattle.framing.specs.Writing.{butLast, laid, alike, shortestCode, bare, shortest}
 use Rattle.framing.proofs.Kept.{by-bool}

@@ -8,7 +8,7 @@ use borrow.Author.Tests.{lt-ltb, le-ltb, ne-eqb}
 use lib.Dec.{eqb}
 use lib.ListN.{length, getD, drop, List·getD-eq-default, drop-of-length-le}
 use lib.Seq.{getD-drop, drop-drop, drop-cons}
-use Rattle.tests.specs.Choice.{by-lt}
+use Rattle.deciding.proofs.Choice.{by-lt}
 use Rattle.framing.specs.Lengths.{lengthOf, widthOf, lengths, widths, total}
 use Rattle.framing.specs.Padding.{padLengths, padBytes}
 

@@ -8,7 +8,7 @@ use borrow.Author.Tests.{ne-eqb, eqb-true}
 use lib.Dec.{eqb}
 use lib.ListN.{length, getD, take, drop, length-drop}
 use lib.Seq.{take-at, drop-at, length-take-le}
-use Rattle.tests.specs.Choice.{chosen}
+use Rattle.deciding.proofs.Choice.{chosen}
 use Rattle.lists.specs.AtMost.{AtMost}
 use Rattle.framing.specs.declared.Packet.{Packet}
 use Rattle.framing.specs.Toc.{configOf, duration}
@@ -17,8 +17,7 @@ use Rattle.framing.specs.Form.{formOf, sizesOf, headOf, cut, framesOf}
 use Rattle.framing.specs.Rules.{keeps, countOf}
 use Rattle.framing.specs.Reading.{readRule, starts, accepted, packetRead}
 use Rattle.framing.specs.Writing.{shortest, lengthFor, packetOf, writeRule, Wrote, packetWrite}
-use Rattle.framing.specs.Statement.{LengthsReadBack, Taken, left, ReadsBack, WrittenReadsBack, startAt, sizeAt}
-use Rattle.framing.specs.Statement.{PartsPlaced, NoneShorter, bytesOf, again, ReadWritesAgain}
+use Rattle.framing.specs.Statement.{LengthsReadBack, Taken, left, ReadsBack, WrittenReadsBack, startAt, sizeAt, PartsPlaced, NoneShorter, bytesOf, again, ReadWritesAgain}
 use Rattle.framing.specs.Inner.{Writable}
 use Rattle.framing.proofs.LengthLaws.{length-back, width-back, code-one, code-two, code-bytes}
 use Rattle.framing.proofs.Kept.{kept}

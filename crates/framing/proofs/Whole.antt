@@ -9,7 +9,7 @@ use native.Mathlib.Nat.{div-add-mod, le-of-suc-le-suc, not-suc-le-zero, suc-mul,
 use borrow.Author.Tests.{leb-true}
 use lib.ListN.{length, getD, take, drop, replicate, length-append, length-replicate}
 use lib.Seq.{drop-drop}
-use Rattle.lists.specs.Every.{every-at}
+use Rattle.lists.proofs.EveryLaws.{every-at}
 use Rattle.framing.specs.Lengths.{total}
 use Rattle.framing.specs.declared.Form.{Form}
 use Rattle.framing.specs.Form.{formOf, behind, firsts, head, room, sizes, sizesOf, headOf, cut, framesOf}

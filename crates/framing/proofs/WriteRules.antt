@@ -7,7 +7,7 @@ use native.Mathlib.Omega.{arith}
 use borrow.Author.Tests.{le-leb, lt-leb, eq-eqb, ne-eqb, leb-true}
 use lib.Dec.{eqb, leb}
 use lib.ListN.{length}
-use Rattle.tests.specs.Both.{and-both, both-and}
+use Rattle.deciding.proofs.Both.{and-both, both-and}
 use Rattle.lists.specs.Every.{every}
 use Rattle.refusals.specs.First.{firstOf}
 use Rattle.framing.specs.Toc.{inTime}

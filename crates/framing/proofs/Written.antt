@@ -8,10 +8,12 @@ use native.Mathlib.Nat.{mul-le-mul-left}
 use borrow.Author.Tests.{eq-eqb, ne-eqb, eqb-true, leb-true, le-leb, not-false}
 use lib.Dec.{eqb, leb}
 use lib.ListN.{length, replicate, length-replicate}
-use Rattle.tests.specs.Both.{both-and, and-both}
-use Rattle.tests.specs.Choice.{chosen, by-lt}
-use Rattle.lists.specs.Every.{every, everyBelow, below-at}
-use Rattle.refusals.specs.First.{firstOf, first-none, none-first}
+use Rattle.deciding.proofs.Both.{both-and, and-both}
+use Rattle.deciding.proofs.Choice.{chosen, by-lt}
+use Rattle.lists.specs.Every.{every}
+use Rattle.lists.proofs.EveryLaws.{everyBelow, below-at}
+use Rattle.refusals.specs.First.{firstOf}
+use Rattle.refusals.proofs.FirstLaws.{first-none, none-first}
 use Rattle.framing.specs.Toc.{byCode, durations, duration}
 use Rattle.framing.specs.Lengths.{total}
 use Rattle.framing.specs.Padding.{padTail}

@@ -7,4 +7,3 @@ pub mod Reading
 pub mod Writing
 pub mod Inner
 pub mod Statement
-pub mod Cases

@@ -1,1 +1,3 @@
+pub mod RuleLaws
+pub mod SearchLaws
 pub mod Entries

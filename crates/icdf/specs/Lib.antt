@@ -1,4 +1,3 @@
 pub mod Rule
 pub mod Test
-pub mod RuleLaws
 pub mod Search

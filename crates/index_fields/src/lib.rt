@@ -1,12 +1,10 @@
-// Whether the fields of a record lie in their ranges, so that a frame may be written (document 01, "Side indices", refusal 8). The pitch
-// of an unvoiced frame is not looked at.
+// Whether the fields of a record lie in their ranges, so that a frame may be written (document 01, "Side indices",
+// refusal 8). The pitch of an unvoiced frame is not looked at.
 ghost use mathlib.Core.Path.{_≡_};
 ghost use Prim.Native.Nat.{_<_};
 ghost use lib.IntN.{pos};
-ghost use Rattle.tests.specs.Decides.{Decides};
-ghost use Rattle.silk.specs.IndexRows.{Rate, Subframes};
-ghost use Rattle.silk.specs.IndexSays.{WritesPitch};
-ghost use Rattle.silk.specs.IndexFields.{Writes};
+ghost use Rattle.deciding.specs.Inner.{Decides};
+ghost use Rattle.silk.specs.Inner.Indices.{Rate, Subframes, WritesPitch, Writes};
 use index_fields_parts::gains_ok_run;
 use index_fields_parts::interpolation_ok_run;
 use index_fields_parts::kind_ok_run;

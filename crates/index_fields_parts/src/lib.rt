@@ -1,15 +1,12 @@
-// Whether type, gains, line spectrum and interpolation of a record lie in their ranges, so that a frame may be written (document 01, "Side
-// indices", refusal 8). A field that this frame does not code is not looked at.
+// Whether type, gains, line spectrum and interpolation of a record lie in their ranges, so that a frame may be
+// written (document 01, "Side indices", refusal 8). A field that this frame does not code is not looked at.
 ghost use mathlib.Core.Path.{_≡_};
 ghost use Prim.Native.Nat.{ℕ, _≤_, _<_};
 ghost use lib.IntN.{pos, natAbs};
 ghost use lib.ListN.{getD};
-ghost use Rattle.tests.specs.Decides.{Decides};
-ghost use Rattle.silk.specs.IndexRows.{Subframes};
+ghost use Rattle.deciding.specs.Inner.{Decides};
+ghost use Rattle.silk.specs.Inner.Indices.{Subframes, Upto, firstMost, WritesGains, WritesSpectrum, WritesKind};
 ghost use Rattle.silk.specs.IndexSyntax.{bookOf};
-ghost use Rattle.silk.specs.IndexParts.{Upto, firstMost};
-ghost use Rattle.silk.specs.IndexSays.{WritesGains, WritesSpectrum};
-ghost use Rattle.silk.specs.IndexFields.{WritesKind};
 use ranges::all_in_range;
 use silk::Indices;
 

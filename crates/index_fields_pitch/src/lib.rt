@@ -1,13 +1,11 @@
-// Whether the pitch of a voiced frame lies in its ranges, so that it may be written (document 01, "Side indices", refusal 8; RFC 6716,
-// section 4.2.7.6).
+// Whether the pitch of a voiced frame lies in its ranges, so that it may be written (document 01, "Side indices",
+// refusal 8; RFC 6716, section 4.2.7.6).
 ghost use mathlib.Core.Path.{_≡_};
 ghost use Prim.Native.Nat.{ℕ, _-_, _*_, _^_, _<_};
 ghost use lib.IntN.{pos, natAbs};
 ghost use lib.ListN.{getD};
-ghost use Rattle.tests.specs.Decides.{Decides};
-ghost use Rattle.silk.specs.IndexRows.{Rate, Subframes, contourSize};
-ghost use Rattle.silk.specs.IndexParts.{Upto};
-ghost use Rattle.silk.specs.IndexSays.{WritesPitch};
+ghost use Rattle.deciding.specs.Inner.{Decides};
+ghost use Rattle.silk.specs.Inner.Indices.{Rate, Subframes, contourSize, Upto, WritesPitch};
 use index_layout::contour_size;
 use ranges::all_in_range;
 use silk::Indices;

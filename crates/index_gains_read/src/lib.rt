@@ -1,8 +1,8 @@
-// The gains of a frame read (RFC 6716, section 4.2.7.4), as in the crate's decode_indices.rs. The rows are lent by the caller; the record
-// goes in and out by value.
+// The gains of a frame read (RFC 6716, section 4.2.7.4), as in the crate's decode_indices.rs. The rows are lent by
+// the caller; the record goes in and out by value.
 ghost use Prim.Native.Nat.{_-_, _^_, _<_};
-ghost use Rattle.tree.specs.Ran.{Ran};
-ghost use Rattle.silk.specs.IndexRows.{Reading, Subframes};
+ghost use Rattle.tree.specs.Inner.Ran.{Ran};
+ghost use Rattle.silk.specs.Inner.Indices.{Reading, Subframes};
 ghost use Rattle.silk.specs.IndexSyntax.{firstGain, moreGains, gains};
 use entcode::Dec;
 use entdec_run::ec_dec_icdf8_run;

@@ -1,14 +1,12 @@
-// The gains of a frame written (RFC 6716, section 4.2.7.4): what a record whose fields lie in their ranges says of them, each by the row
-// that its reader reads. The rows are lent by the caller.
+// The gains of a frame written (RFC 6716, section 4.2.7.4): what a record whose fields lie in their ranges says of
+// them, each by the row that its reader reads. The rows are lent by the caller.
 ghost use Prim.Native.Nat.{ℕ, _-_, _^_, _≤_, _<_};
 ghost use lib.IntN.{pos};
 ghost use lib.ListN.{getD};
 ghost use Rattle.entcode.specs.Flat.{out};
-ghost use Rattle.tree.specs.Told.{Told};
-ghost use Rattle.silk.specs.IndexRows.{Writing, Subframes};
+ghost use Rattle.tree.specs.Inner.Told.{Told};
+ghost use Rattle.silk.specs.Inner.Indices.{Writing, Subframes, Upto, firstMost, WritesGains};
 ghost use Rattle.silk.specs.IndexSyntax.{firstGain, moreGains, gains};
-ghost use Rattle.silk.specs.IndexParts.{Upto, firstMost};
-ghost use Rattle.silk.specs.IndexSays.{WritesGains};
 use entcode::Enc;
 use entenc_run::ec_enc_icdf8_run;
 use index_layout::DELTA_GAIN;

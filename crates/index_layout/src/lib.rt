@@ -1,7 +1,7 @@
-// Which of the lent rows each field of a frame's side indices is coded by, and the number of its spectrum's places, for reader and writer
-// alike (RFC 6716, sections 4.2.7.3 to 4.2.7.7).
+// Which of the lent rows each field of a frame's side indices is coded by, and the number of its spectrum's places,
+// for reader and writer alike (RFC 6716, sections 4.2.7.3 to 4.2.7.7).
 ghost use mathlib.Core.Path.{_≡_};
-ghost use Rattle.silk.specs.IndexRows.{lagLowStart, contourStart, contourSize};
+ghost use Rattle.silk.specs.Inner.Indices.{lagLowStart, contourStart, contourSize};
 ghost use Rattle.silk.specs.IndexSyntax.{bookOf};
 
 // ---- where the row of each field starts among those that are lent, and where it ends

@@ -1,8 +1,9 @@
-// The numbers of a call on a frame's side indices, for reader and writer alike (document 01): refusal 4, and what the next frame is told.
+// The numbers of a call on a frame's side indices, for reader and writer alike (document 01): refusal 4, and what the
+// next frame is told.
 ghost use mathlib.Core.Path.{_≡_};
 ghost use mathlib.Core.Bool.{cond};
 ghost use lib.IntN.{natAbs};
-ghost use Rattle.silk.specs.IndexParts.{Upto};
+ghost use Rattle.silk.specs.Inner.Indices.{Upto};
 ghost use Rattle.silk.specs.FrameCalls.{settingOk, nextLag};
 use silk::Indices;
 use silk::Setting;

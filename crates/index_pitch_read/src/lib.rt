@@ -1,9 +1,9 @@
-// Lag, contour, filters and scale of a voiced frame read (RFC 6716, section 4.2.7.6), as in the crate's decode_indices.rs. The rows are
-// lent by the caller; the record goes in and out by value.
+// Lag, contour, filters and scale of a voiced frame read (RFC 6716, section 4.2.7.6), as in the crate's
+// decode_indices.rs. The rows are lent by the caller; the record goes in and out by value.
 ghost use mathlib.Core.Path.{_≡_};
 ghost use Prim.Native.Nat.{_^_, _<_};
-ghost use Rattle.tree.specs.Ran.{Ran};
-ghost use Rattle.silk.specs.IndexRows.{Reading, Rate, Subframes};
+ghost use Rattle.tree.specs.Inner.Ran.{Ran};
+ghost use Rattle.silk.specs.Inner.Indices.{Reading, Rate, Subframes};
 ghost use Rattle.silk.specs.IndexSyntax.{absoluteLag, lagAfter, lag, contour, filters, period, scale, pitch};
 use entcode::Dec;
 use entdec_run::ec_dec_icdf8_run;

@@ -1,14 +1,12 @@
-// Lag, contour, filters and scale of a voiced frame written (RFC 6716, section 4.2.7.6): what a record whose fields lie in their ranges
-// says of them, each by the row that its reader reads. The rows are lent by the caller.
+// Lag, contour, filters and scale of a voiced frame written (RFC 6716, section 4.2.7.6): what a record whose fields
+// lie in their ranges says of them, each by the row that its reader reads. The rows are lent by the caller.
 ghost use Prim.Native.Nat.{ℕ, _-_, _*_, _^_, _<_};
 ghost use lib.IntN.{ℤ, pos, natAbs};
 ghost use lib.ListN.{getD};
 ghost use Rattle.entcode.specs.Flat.{out};
-ghost use Rattle.tree.specs.Told.{Told, Midway};
-ghost use Rattle.silk.specs.IndexRows.{Writing, Rate, Subframes, contourSize};
+ghost use Rattle.tree.specs.Inner.Told.{Told, Midway};
+ghost use Rattle.silk.specs.Inner.Indices.{Writing, Rate, Subframes, contourSize, Upto, WritesPitch};
 ghost use Rattle.silk.specs.IndexSyntax.{absoluteLag, lag, contour, filters, period, scale, pitch};
-ghost use Rattle.silk.specs.IndexParts.{Upto};
-ghost use Rattle.silk.specs.IndexSays.{WritesPitch};
 use entcode::Enc;
 use entenc_run::ec_enc_icdf8_run;
 use index_layout::DELTA_LAG;
@@ -44,7 +42,9 @@ fn absolute_lag_tell(buf: &mut [u8], w: Enc, rows: &[u8], x: Indices, khz: u32) 
 // Delta symbol 0 where a delta is due: what is left to say of the lag is then absolute.
 fn delta_tell(buf: &mut [u8], w: Enc, rows: &[u8], relative: bool) -> Enc
     requires { ⌜ Writing (out (now buf) w) (now rows) (2 ^ 28) ⌝ }
-    ensures { λ r. ⌜ ((khz : ℕ) (before : ℤ) (x : Indices) → Midway (out (now (buf .entry)) w) x (lag relative khz before x) 16 (out (now (buf .exit)) r) x (absoluteLag khz x)) ⌝ }
+    ensures { λ r.
+        ⌜ ((khz : ℕ) (before : ℤ) (x : Indices) →
+        Midway (out (now (buf .entry)) w) x (lag relative khz before x) 16 (out (now (buf .exit)) r) x (absoluteLag khz x)) ⌝ }
 {
     if relative {
         return ec_enc_icdf8_run(buf, w, 0, &rows[DELTA_LAG..DELTA_LAG_END]);

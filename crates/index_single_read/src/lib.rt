@@ -1,8 +1,8 @@
-// Type, interpolation and seed of a frame read, a symbol each (RFC 6716, sections 4.2.7.3, 4.2.7.5.5 and 4.2.7.7), as in the crate's
-// decode_indices.rs. The rows are lent by the caller; the record goes in and out by value.
+// Type, interpolation and seed of a frame read, a symbol each (RFC 6716, sections 4.2.7.3, 4.2.7.5.5 and 4.2.7.7), as
+// in the crate's decode_indices.rs. The rows are lent by the caller; the record goes in and out by value.
 ghost use Prim.Native.Nat.{_^_, _<_};
-ghost use Rattle.tree.specs.Ran.{Ran};
-ghost use Rattle.silk.specs.IndexRows.{Reading};
+ghost use Rattle.tree.specs.Inner.Ran.{Ran};
+ghost use Rattle.silk.specs.Inner.Indices.{Reading};
 ghost use Rattle.silk.specs.IndexSyntax.{kind, interpolation, seed};
 use entcode::Dec;
 use entcode::Decoded;

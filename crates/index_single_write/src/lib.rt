@@ -1,11 +1,11 @@
-// Type, interpolation and seed of a frame written, a symbol each (RFC 6716, sections 4.2.7.3, 4.2.7.5.5 and 4.2.7.7): what a record whose
-// fields lie in their ranges says of them, each by the row that its reader reads. The rows are lent by the caller.
+// Type, interpolation and seed of a frame written, a symbol each (RFC 6716, sections 4.2.7.3, 4.2.7.5.5 and 4.2.7.7):
+// what a record whose fields lie in their ranges says of them, each by the row that its reader reads. The rows are
+// lent by the caller.
 ghost use Prim.Native.Nat.{_^_, _<_};
 ghost use Rattle.entcode.specs.Flat.{out};
-ghost use Rattle.tree.specs.Told.{Told};
-ghost use Rattle.silk.specs.IndexRows.{Writing};
+ghost use Rattle.tree.specs.Inner.Told.{Told};
+ghost use Rattle.silk.specs.Inner.Indices.{Writing, Upto, Kind};
 ghost use Rattle.silk.specs.IndexSyntax.{kindOf, kind, interpolation, seed};
-ghost use Rattle.silk.specs.IndexParts.{Upto, Kind};
 use entcode::Enc;
 use entenc_run::ec_enc_icdf8_run;
 use index_layout::INTERPOLATION;

@@ -1,12 +1,12 @@
-// First index and residuals of a frame's line spectrum read (RFC 6716, section 4.2.7.5), as in the crate's decode_indices.rs. The rows
-// are lent by the caller; the record goes in and out by value.
+// First index and residuals of a frame's line spectrum read (RFC 6716, section 4.2.7.5), as in the crate's
+// decode_indices.rs. The rows are lent by the caller; the record goes in and out by value.
 ghost use mathlib.Core.Path.{_≡_};
 ghost use Prim.Native.Nat.{_+_, _*_, _^_, _≤_, _<_};
 ghost use lib.IntN.{pos, negsuc, _-ℤ_};
 ghost use lib.ListN.{length};
 ghost use Rattle.sheet.specs.Directory.{rowOf};
-ghost use Rattle.tree.specs.Ran.{Ran};
-ghost use Rattle.silk.specs.IndexRows.{Reading, Rate};
+ghost use Rattle.tree.specs.Inner.Ran.{Ran};
+ghost use Rattle.silk.specs.Inner.Indices.{Reading, Rate};
 ghost use Rattle.silk.specs.IndexSyntax.{residual, residuals, spectrum};
 use entcode::Dec;
 use entdec_run::ec_dec_icdf8_run;

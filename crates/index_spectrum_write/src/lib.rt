@@ -1,5 +1,5 @@
-// First index and residuals of a frame's line spectrum written (RFC 6716, section 4.2.7.5): what a record whose fields lie in their
-// ranges says of them, each by the row that its reader reads. The rows are lent by the caller.
+// First index and residuals of a frame's line spectrum written (RFC 6716, section 4.2.7.5): what a record whose
+// fields lie in their ranges says of them, each by the row that its reader reads. The rows are lent by the caller.
 ghost use mathlib.Core.Path.{_≡_};
 ghost use mathlib.Core.Bool.{false};
 ghost use Prim.Native.Nat.{ℕ, _+_, _*_, _^_, _≤_, _<_};
@@ -8,10 +8,9 @@ ghost use lib.ListN.{length, getD};
 ghost use lib.Signed.{leZ};
 ghost use Rattle.sheet.specs.Directory.{rowOf};
 ghost use Rattle.entcode.specs.Flat.{out};
-ghost use Rattle.tree.specs.Told.{Told};
-ghost use Rattle.silk.specs.IndexRows.{Writing, Rate};
+ghost use Rattle.tree.specs.Inner.Told.{Told};
+ghost use Rattle.silk.specs.Inner.Indices.{Writing, Rate, WritesSpectrum};
 ghost use Rattle.silk.specs.IndexSyntax.{extensionSaid, residual, residuals, spectrum};
-ghost use Rattle.silk.specs.IndexSays.{WritesSpectrum};
 use entcode::Enc;
 use entenc_run::ec_enc_icdf8_run;
 use index_layout::EXTENSION;

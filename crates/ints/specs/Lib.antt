@@ -1,8 +1,2 @@
 pub mod Parts
 pub mod Wrap
-pub mod Sums
-pub mod Quotients
-pub mod Order
-pub mod Widths
-pub mod Wrapping
-pub mod Cases

@@ -1,5 +1,5 @@
--- How far a whole number lies above 0, and how far below: one of the two is 0. `omega` reads naturals alone, so the laws of this room say
--- what each operation on whole numbers does to the two. Assumes nothing.
+-- How far a whole number lies above 0, and how far below: one of the two is 0. `omega` reads naturals alone, so the
+-- laws of this room say what each operation on whole numbers does to the two. Assumes nothing.
 use Prim.Native.Nat.{ℕ, suc}
 use lib.IntN.{ℤ, pos, negsuc}
 

@@ -1,4 +1,5 @@
--- A whole number kept in 16 bits: the one number from -32,768 to 32,767 that differs from it by a multiple of 65,536. Assumes nothing.
+-- A whole number kept in 16 bits: the one number from -32,768 to 32,767 that differs from it by a multiple of 65,536.
+-- Assumes nothing.
 use Prim.Native.Nat.{ℕ, _-_, _%_}
 use lib.IntN.{ℤ, pos, negsuc, _+ℤ_, _-ℤ_}
 

@@ -1,3 +1,1 @@
 pub mod ListerText
-pub mod Readings
-pub mod Refusals

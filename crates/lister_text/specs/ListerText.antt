@@ -1,5 +1,6 @@
--- What the frame lister prints (document 01). Its input has two sections: count 7 and kHz, subframes, active, mode, previous type, previous lag
--- (two bytes, high first); then the packet's count (two bytes, high first) and its bytes. Assumes nothing.
+-- What the frame lister prints (document 01). Its input has two sections: count 7 and kHz, subframes, active, mode,
+-- previous type, previous lag (two bytes, high first); then the packet's count (two bytes, high first) and its bytes.
+-- Assumes nothing.
 use Prim.Native.Nat.{ℕ, _+_, _*_}
 use mathlib.Core.Bool.{Bool, _&&_, cond}
 use mathlib.Core.List.{List, _++_}

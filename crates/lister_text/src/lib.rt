@@ -3,14 +3,12 @@ ghost use Prim.Native.Nat.{_+_, _*_, _≤_};
 ghost use mathlib.Core.Path.{_≡_};
 ghost use lib.IntN.{pos, natAbs};
 ghost use lib.ListN.{length, replicate};
-ghost use Rattle.numerals.specs.Put.{Put};
+ghost use Rattle.numerals.specs.Inner.{Put};
 ghost use Rattle.listing.specs.Printed.{printed};
 ghost use Rattle.sections.specs.Values.{byteAt};
-ghost use Rattle.silk.specs.IndexRows.{Rate, Subframes};
-ghost use Rattle.silk.specs.IndexParts.{Upto};
+ghost use Rattle.silk.specs.Inner.Indices.{Rate, Subframes, Upto};
 ghost use Rattle.silk.specs.FrameCalls.{blocksOf};
-ghost use Rattle.lister_text.specs.ListerText.{excitationText, acceptedText, frameText, listerText};
-ghost use Rattle.lister_text.specs.ListerText.{blank as blankOf, whole as wholeOf};
+ghost use Rattle.lister_text.specs.ListerText.{excitationText, acceptedText, frameText, listerText, blank as blankOf, whole as wholeOf};
 use entcode::Dec;
 use frame_text_indices::put_indices_run;
 use frame_text_pulses::put_pulses_run;
@@ -61,7 +59,9 @@ fn put_pulses(
 ) -> usize
     requires { ⌜ (at + 2258 ≤ length (now out)) × (khz ≤ 16) × (subframes ≤ 4) ⌝ }
     requires { ⌜ length (now pulses) ≡ 16 * blocksOf khz subframes ⌝ }
-    ensures { λ n. ⌜ Put 2258 (now (out .entry)) at (excitationText (now (packet .entry)) d (now (pulses .entry)) khz subframes signal offset) (now (out .exit)) n ⌝ }
+    ensures { λ n.
+        ⌜ Put 2258 (now (out .entry)) at
+        (excitationText (now (packet .entry)) d (now (pulses .entry)) khz subframes signal offset) (now (out .exit)) n ⌝ }
 {
     decode_pulses::silk_decode_pulses(packet, d, pulses, khz, subframes, signal, offset);
     let blocks = blocks_of_run(khz, subframes);

@@ -3,7 +3,7 @@ ghost use Prim.Native.Nat.{_+_, _*_, _≤_};
 ghost use mathlib.Core.List.{_∷_, _++_};
 ghost use lib.ListN.{length};
 ghost use Rattle.numerals.specs.Decimal.{decimal};
-ghost use Rattle.numerals.specs.Put.{Put};
+ghost use Rattle.numerals.specs.Inner.{Put};
 ghost use Rattle.listing.specs.Lines.{spaced, line, counted, refusedText};
 use numerals::put_byte_run;
 use numerals::put_number_run;

@@ -1,5 +1,3 @@
 pub mod Every
-pub mod Rows
-pub mod Parts
 pub mod AtMost
-pub mod All
+pub mod Inner

@@ -8,8 +8,10 @@ use lib.IntN.{ℤ, pos, negsuc, natAbs}
 use lib.ListN.{length, getD, take, drop, length-drop}
 use lib.Seq.{length-take-le}
 use Rattle.ints.specs.Parts.{up, down}
-use Rattle.sheet.specs.Books.{Book, narrowBook, wideBook, narrow-shaped, wide-shaped}
-use Rattle.tables.specs.PredictorRow.{predictorRow, predictor-row-length, predictor-row-at}
+use Rattle.sheet.specs.Books.{Book, narrowBook, wideBook}
+use Rattle.sheet.proofs.BooksLaws.{narrow-shaped, wide-shaped}
+use Rattle.tables.specs.Inner.{predictorRow}
+use Rattle.tables.proofs.PredictorRow.{predictor-row-length, predictor-row-at}
 use Rattle.spectrum.proofs.BookLaws.{Usable, gaps-long}
 use Rattle.spectrum.proofs.CallLaws.{Accepted}
 use Rattle.spectrum.proofs.PlaceLaws.{residuals-alike}
@@ -20,9 +22,9 @@ use Rattle.spectrum.specs.Places.{placedAll, places}
 use Rattle.spectrum.specs.Residuals.{residuals, listOf, predictorIn}
 use Rattle.spectrum.specs.Stabilising.{Stable, stabilise, kept16}
 use Rattle.spectrum.specs.Values.{at, total, Within}
-use Rattle.nlsf_stabilize_move.specs.Asked.{MoveOk}
-use Rattle.nlsf_places.specs.Asked.{Rows, predictorAt, predictorBy, residualsBy, placesBy, PlacesOk}
-use Rattle.nlsf_decode.specs.Asked.{Indexed, spectrumOf}
+use Rattle.nlsf_stabilize_move.specs.Inner.{MoveOk}
+use Rattle.nlsf_places.specs.Inner.{Rows, predictorAt, predictorBy, residualsBy, placesBy, PlacesOk}
+use Rattle.nlsf_decode.specs.Inner.{Indexed, spectrumOf}
 
 pub record RowsOf (b : Book) (v : ℕ) (t : Rows) : Type 0 where
   pub step : t .step ≡ b .step

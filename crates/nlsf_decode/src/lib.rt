@@ -1,5 +1,5 @@
-// Decoding of a line spectrum (RFC 6716, section 4.2.7.5): a book's vector moved by residuals, then stabilised. Names as in the crate's
-// NLSF_decode.rs.
+// Decoding of a line spectrum (RFC 6716, section 4.2.7.5): a book's vector moved by residuals, then stabilised. Names
+// as in the crate's NLSF_decode.rs.
 ghost use mathlib.Core.Path.{_≡_};
 ghost use lib.IntN.{pos, negsuc};
 ghost use Rattle.lists.specs.Every.{every};

@@ -1,7 +1,7 @@
 // Decoding under the wide book (16 kHz): its rows for one vector, then the places, then the stabiliser.
 ghost use mathlib.Core.Path.{_≡_};
 ghost use Rattle.sheet.specs.Books.{wideBook};
-ghost use Rattle.nlsf_decode.specs.Asked.{Indexed, spectrumOf};
+ghost use Rattle.nlsf_decode.specs.Inner.{Indexed, spectrumOf};
 use nlsf_places::places_run;
 use nlsf_stabilize::stabilise_run;
 use nlsf_stabilize_stays::stays_run;

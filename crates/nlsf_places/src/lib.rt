@@ -1,5 +1,5 @@
-// Residuals and places of a line spectrum (RFC 6716, sections 4.2.7.5.2 and 4.2.7.5.3): the first half of the crate's NLSF_decode.rs, with the
-// predictors of its NLSF_unpack.rs.
+// Residuals and places of a line spectrum (RFC 6716, sections 4.2.7.5.2 and 4.2.7.5.3): the first half of the crate's
+// NLSF_decode.rs, with the predictors of its NLSF_unpack.rs.
 ghost use mathlib.Core.Path.{_≡_};
 ghost use Prim.Native.Nat.{_*_, _/_, _≤_, _<_};
 ghost use lib.ListN.{length};
@@ -8,7 +8,7 @@ ghost use lib.Signed.{quotZ};
 ghost use Rattle.spectrum.specs.Values.{Mag};
 ghost use Rattle.spectrum.specs.Residuals.{nudged, scaled, predicted, listOf};
 ghost use Rattle.spectrum.specs.Places.{placed};
-ghost use Rattle.nlsf_places.specs.Asked.{towardZero, predictorAt, rows, placesBy, PlacesOk};
+ghost use Rattle.nlsf_places.specs.Inner.{towardZero, predictorAt, rows, placesBy, PlacesOk};
 
 // ---- predictors
 
@@ -19,8 +19,8 @@ fn list_of(e: u8, i: usize) -> u8
     if i % 2 == 0 { e % 2 } else { e / 16 % 2 }
 }
 
-// The predictor of place i. Both lists stand in one row, since which of them it comes from can't be guessed ahead: a choice of two loads would be
-// compiled to a jump.
+// The predictor of place i. Both lists stand in one row, since which of them it comes from can't be guessed ahead: a
+// choice of two loads would be compiled to a jump.
 fn predictor(selectors: &[u8], lists: &[u8], i: usize) -> u8
     requires { ⌜ (i / 2 < length (now selectors)) × (i < length (now lists) / 2) ⌝ }
     ensures { λ p. ⌜ p ≡ predictorAt (now (selectors .entry)) (now (lists .entry)) i ⌝ }
@@ -45,7 +45,8 @@ fn toward_zero(x: i8) -> i32
     0
 }
 
-// An index x 1024, moved 102 toward zero. No product stands in an arm: signs can't be guessed ahead, and constants are chosen without a jump.
+// An index x 1024, moved 102 toward zero. No product stands in an arm: signs can't be guessed ahead, and constants
+// are chosen without a jump.
 fn nudge(x: i8) -> i32
     ensures { λ r. ⌜ r ≡ nudged x ⌝ }
 {
@@ -114,7 +115,10 @@ pub fn places_run(
     weights: &[u16],
 )
     requires { ⌜ PlacesOk (rows step (now selectors) (now lists) (now values) (now weights)) (now vector) (now xs) ⌝ }
-    ensures { λ _. ⌜ now (vector .exit) ≡ placesBy (rows step (now (selectors .entry)) (now (lists .entry)) (now (values .entry)) (now (weights .entry))) (now (xs .entry)) ⌝ }
+    ensures { λ _.
+        ⌜ now (vector .exit) ≡
+        placesBy (rows step (now (selectors .entry)) (now (lists .entry)) (now (values .entry)) (now (weights .entry)))
+        (now (xs .entry)) ⌝ }
 {
     let mut r: i32 = 0;
     let mut k: usize = values.len();

@@ -7,7 +7,7 @@ use native.Mathlib.Omega.{arith}
 use lib.IntN.{ℤ, pos, negsuc}
 use lib.Signed.{leZ}
 use lib.ListN.{length}
-use Rattle.tests.specs.Both.{and-both}
+use Rattle.deciding.proofs.Both.{and-both}
 use Rattle.spectrum.proofs.CallLaws.{lengths-are, stabilise-accepted, stabilise-refuses, stabilise-answers}
 use Rattle.spectrum.proofs.Extremes.{le-leZ}
 use Rattle.spectrum.proofs.Kept.{good-total}
@@ -17,9 +17,9 @@ use Rattle.spectrum.specs.Distances.{keeps}
 use Rattle.spectrum.specs.Gaps.{goodGaps}
 use Rattle.spectrum.specs.Values.{total}
 use Rattle.nlsf_stabilize_stays.proofs.StayLaws.{stays-still}
-use Rattle.nlsf_stabilize_stays.specs.Asked.{stays}
-use Rattle.nlsf_stabilize_move.specs.Asked.{MoveOk}
-use Rattle.nlsf_stabilize.specs.Asked.{ruledSum}
+use Rattle.nlsf_stabilize_stays.specs.Inner.{stays}
+use Rattle.nlsf_stabilize_move.specs.Inner.{MoveOk}
+use Rattle.nlsf_stabilize.specs.Inner.{ruledSum}
 
 -- the sum is below 0 just where the rule is broken
 pub ruled-sum : (n : ℕ) (g : List ℤ) (r : ℤ) → length g ≡ suc n → r ≡ ruledSum n g → (t : Bool) → leZ (pos 0) r ≡ t → goodGaps n g ≡ t

@@ -7,8 +7,9 @@ use native.Mathlib.Omega.{arith}
 use lib.IntN.{ℤ, pos}
 use lib.Signed.{leZ}
 use lib.ListN.{length}
-use Rattle.lists.specs.Every.{every, at-every}
-use Rattle.tests.specs.Both.{both-and}
+use Rattle.lists.specs.Every.{every}
+use Rattle.lists.proofs.EveryLaws.{at-every}
+use Rattle.deciding.proofs.Both.{both-and}
 use Rattle.spectrum.proofs.Extremes.{le-leZ}
 use Rattle.spectrum.proofs.FirstSmallest.{after, turn-stop, turn-move, turn-end}
 use Rattle.spectrum.proofs.MoveBounds.{good-at, last-gap}
@@ -17,8 +18,8 @@ use Rattle.spectrum.specs.Fallback.{fallback}
 use Rattle.spectrum.specs.Gaps.{goodGaps}
 use Rattle.spectrum.specs.Stabilising.{Stable, run, stabilise, kept16}
 use Rattle.spectrum.specs.Values.{at, top, total}
-use Rattle.nlsf_stabilize_stays.specs.Asked.{stays}
-use Rattle.nlsf_stabilize_move.specs.Asked.{MoveOk}
+use Rattle.nlsf_stabilize_stays.specs.Inner.{stays}
+use Rattle.nlsf_stabilize_move.specs.Inner.{MoveOk}
 
 pub keep-ok : (g v w : List ℤ) (i j : ℕ) → MoveOk g v i → length w ≡ length v → j ≤ length w → MoveOk g w j
 keep-ok g v w i j m e h =

@@ -2,7 +2,7 @@
 ghost use mathlib.Core.Path.{_≡_};
 ghost use Prim.Native.Nat.{_+_, _≤_};
 ghost use lib.ListN.{length};
-ghost use Rattle.nlsf_stabilize.specs.Asked.{ruledSum};
+ghost use Rattle.nlsf_stabilize.specs.Inner.{ruledSum};
 
 // The sum of gaps that meet the gap set's rule for a vector of n values, and -1 of others.
 pub fn ruled_sum_run(g: &[i16], n: usize) -> i32

@@ -5,8 +5,8 @@ ghost use mathlib.Core.Bool.{false};
 ghost use Rattle.spectrum.specs.Values.{total};
 ghost use Rattle.spectrum.specs.Stabilising.{kept16, stabilise};
 ghost use Rattle.spectrum.specs.Calls.{lengthsOk, stabiliseCall};
-ghost use Rattle.nlsf_stabilize_stays.specs.Asked.{stays};
-ghost use Rattle.nlsf_stabilize_move.specs.Asked.{MoveOk};
+ghost use Rattle.nlsf_stabilize_stays.specs.Inner.{stays};
+ghost use Rattle.nlsf_stabilize_move.specs.Inner.{MoveOk};
 use gaps::ruled_sum_run;
 use nlsf_stabilize_fallback::fall_back_run;
 use nlsf_stabilize_move::move_at_run;
@@ -17,8 +17,9 @@ use spectrum::Moves;
 
 mod gaps; // gaps.rt: the gap set's rule
 
-// A vector that does not stay, stabilised, with the number of moves; sum is that of the gaps. The test stands behind the move, since
-// callers have made it before. Behind the last move it spares the fallback, which leaves a vector that stays as it is.
+// A vector that does not stay, stabilised, with the number of moves; sum is that of the gaps. The test stands behind
+// the move, since callers have made it before. Behind the last move it spares the fallback, which leaves a vector
+// that stays as it is.
 pub fn stabilise_run(v: &mut [i16], g: &[i16], sum: i32) -> u32
     requires { ⌜ (MoveOk (now g) (now v) 0 × (sum ≡ total (now g))) × (stays (now g) (now v) ≡ false) ⌝ }
     ensures { λ r. ⌜ record { vector = now (v .exit); moves = r } ≡ stabilise kept16 (now (g .entry)) (now (v .entry)) ⌝ }

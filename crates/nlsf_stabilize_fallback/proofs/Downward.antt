@@ -8,7 +8,7 @@ use native.Mathlib.Nat.{suc-inj, not-suc-le-zero, le-of-suc-le-suc}
 use lib.IntN.{ℤ, _-ℤ_}
 use lib.Signed.{leZ}
 use lib.ListN.{length, drop}
-use Rattle.ints.specs.Order.{parts-alone}
+use Rattle.ints.proofs.Order.{parts-alone}
 use Rattle.ints.specs.Parts.{up, down}
 use Rattle.spectrum.proofs.Extremes.{min-right}
 use Rattle.spectrum.proofs.Results.{within-at}

@@ -8,15 +8,16 @@ use native.Mathlib.Nat.{suc-inj, not-suc-le-zero, le-of-suc-le-suc}
 use lib.IntN.{ℤ, pos, negsuc, _+ℤ_}
 use lib.Signed.{ltZ, leZ}
 use lib.ListN.{length}
-use Rattle.ints.specs.Order.{parts-same}
+use Rattle.ints.proofs.Order.{parts-same}
 use Rattle.ints.specs.Parts.{up, down}
-use Rattle.ints.specs.Sums.{sum-parts}
+use Rattle.ints.proofs.Sums.{sum-parts}
 use Rattle.spectrum.proofs.Extremes.{chosen-ltZ}
 use Rattle.spectrum.proofs.MoveBounds.{good-at, cut}
 use Rattle.spectrum.specs.Fallback.{sat16, climb, raised}
 use Rattle.spectrum.specs.Gaps.{Ruled}
-use Rattle.spectrum.specs.Values.{at, _≼_, maxZ, held}
-use Rattle.nlsf_stabilize_fallback.specs.Asked.{NoneBelow}
+use Rattle.spectrum.specs.Values.{at, maxZ, held}
+use Rattle.spectrum.specs.Inner.{_≼_}
+use Rattle.nlsf_stabilize_fallback.specs.Inner.{NoneBelow}
 
 pub max-yes : (a b : ℤ) → leZ a b ≡ true → maxZ a b ≡ b
 unfolding maxZ

@@ -1,4 +1,5 @@
-// The stabiliser's fallback (RFC 6716, section 4.2.7.5.4): sorted, upward with a sum that saturates (RFC 8251, section 7), downward.
+// The stabiliser's fallback (RFC 6716, section 4.2.7.5.4): sorted, upward with a sum that saturates (RFC 8251,
+// section 7), downward.
 ghost use mathlib.Core.Path.{_≡_};
 ghost use Prim.Native.Nat.{suc, _<_, _≤_};
 ghost use lib.IntN.{_+ℤ_, _-ℤ_};
@@ -7,7 +8,7 @@ ghost use Rattle.ints.specs.Parts.{up, down};
 ghost use Rattle.spectrum.specs.Values.{minZ, maxZ, Within};
 ghost use Rattle.spectrum.specs.Gaps.{Ruled};
 ghost use Rattle.spectrum.specs.Fallback.{sat16, raised, lowered, fallback};
-ghost use Rattle.nlsf_stabilize_fallback.specs.Asked.{NoneBelow};
+ghost use Rattle.nlsf_stabilize_fallback.specs.Inner.{NoneBelow};
 use sort::silk_insertion_sort_increasing_all_values_int16;
 
 mod sort; // sort.rt: sorting

@@ -12,9 +12,9 @@ use lib.ListN.{length, set, take, drop}
 use mir.Syntax.{w16}
 use mir.Val.{SFits}
 use Rattle.ints.specs.Parts.{up, down}
-use Rattle.ints.specs.Order.{parts-same}
-use Rattle.ints.specs.Sums.{up-diff, down-diff, diff-parts}
-use Rattle.ints.specs.Widths.{parts-fit}
+use Rattle.ints.proofs.Order.{parts-same}
+use Rattle.ints.proofs.Sums.{up-diff, down-diff, diff-parts}
+use Rattle.ints.proofs.Widths.{parts-fit}
 use Rattle.ints.specs.Wrap.{wrap16}
 use Rattle.spectrum.proofs.Kept.{good-total}
 use Rattle.spectrum.proofs.MoveBounds.{good-at, last-gap, cut, fits-nat, low-is}
@@ -22,7 +22,7 @@ use Rattle.spectrum.proofs.SameStores.{kept16-keeps}
 use Rattle.spectrum.specs.Distances.{lower, upper, centre, newLow, newHigh, move}
 use Rattle.spectrum.specs.Stabilising.{kept16}
 use Rattle.spectrum.specs.Values.{Mag, at, top, held, half, total}
-use Rattle.nlsf_stabilize_move.specs.Asked.{PairOk, MoveOk}
+use Rattle.nlsf_stabilize_move.specs.Inner.{PairOk, MoveOk}
 
 -- the sums of all gaps and of those before a gap lie within 32,768, and what they leave beside the gap is the sum of those behind it
 pub sums-near : (g v : List ℤ) (i : ℕ) → MoveOk g v i → i ≢ length v → Mag 32768 (total g) × Mag 32768 (total (take i g))

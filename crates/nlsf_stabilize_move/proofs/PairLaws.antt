@@ -5,13 +5,14 @@ use native.Mathlib.Omega.{arith}
 use lib.IntN.{ℤ, _+ℤ_, _-ℤ_}
 use mir.Syntax.{w32}
 use mir.Val.{SFits}
-use Rattle.ints.specs.Order.{parts-alone}
+use Rattle.ints.proofs.Order.{parts-alone}
 use Rattle.ints.specs.Parts.{up, down}
-use Rattle.ints.specs.Sums.{up-sum, down-sum, up-diff, down-diff}
-use Rattle.ints.specs.Widths.{parts-fit}
+use Rattle.ints.proofs.Sums.{up-sum, down-sum, up-diff, down-diff}
+use Rattle.ints.proofs.Widths.{parts-fit}
 use Rattle.spectrum.proofs.Extremes.{held-least, held-most, half-nat}
-use Rattle.spectrum.specs.Values.{top, _≼_, held, half}
-use Rattle.nlsf_stabilize_move.specs.Asked.{PairOk}
+use Rattle.spectrum.specs.Values.{top, held, half}
+use Rattle.spectrum.specs.Inner.{_≼_}
+use Rattle.nlsf_stabilize_move.specs.Inner.{PairOk}
 
 module _ (gap before behind : ℤ) (o : PairOk gap before behind) where
   pub half-fits : SFits w32 (half gap)

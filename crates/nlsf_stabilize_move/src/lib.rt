@@ -5,7 +5,7 @@ ghost use lib.ListN.{take};
 ghost use Rattle.spectrum.specs.Values.{Mag, top, half, held, total};
 ghost use Rattle.spectrum.specs.Distances.{move};
 ghost use Rattle.spectrum.specs.Stabilising.{kept16};
-ghost use Rattle.nlsf_stabilize_move.specs.Asked.{PairOk, MoveOk};
+ghost use Rattle.nlsf_stabilize_move.specs.Inner.{PairOk, MoveOk};
 use wrapping::add16;
 
 // The middle of a and b, halved upward and held between the limits.
@@ -22,7 +22,8 @@ fn middle(a: i16, b: i16, lo: i32, hi: i32) -> i32
     c
 }
 
-// Where the value before a gap goes: the centre less half the gap. `before` and `behind` are the sums of the gaps before and behind it.
+// Where the value before a gap goes: the centre less half the gap. `before` and `behind` are the sums of the gaps
+// before and behind it.
 fn pair_low(a: i16, b: i16, gap: i16, before: i32, behind: i32) -> i16
     requires { ⌜ PairOk gap before behind ⌝ }
     ensures { λ r. ⌜ r ≡ held (before +ℤ half gap) ((top -ℤ behind) -ℤ half gap) (half (a +ℤ b +ℤ pos 1)) -ℤ half gap ⌝ }

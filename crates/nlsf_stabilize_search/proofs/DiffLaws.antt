@@ -9,15 +9,16 @@ use borrow.Author.Count.{below-more}
 use lib.IntN.{ℤ, pos, _+ℤ_, _-ℤ_, _*ℤ_}
 use lib.Signed.{ltZ, shrZ}
 use lib.ListN.{length, take}
-use Rattle.ints.specs.Order.{ltZ-true, ltZ-false}
+use Rattle.ints.proofs.Order.{ltZ-true, ltZ-false}
 use Rattle.ints.specs.Parts.{up, down}
-use Rattle.ints.specs.Quotients.{shr-low, shr-high}
-use Rattle.ints.specs.Sums.{sum-parts, up-diff, up-times, down-times}
+use Rattle.ints.proofs.Quotients.{shr-low, shr-high}
+use Rattle.ints.proofs.Sums.{sum-parts, up-diff, up-times, down-times}
 use Rattle.spectrum.proofs.FirstSmallest.{First, found, diff-first, diff-between, diff-last}
 use Rattle.spectrum.proofs.MoveBounds.{length-diffs}
 use Rattle.spectrum.specs.Distances.{diffs, place}
-use Rattle.spectrum.specs.Values.{at, top, total, _≼_}
-use Rattle.nlsf_stabilize_search.specs.Asked.{keyed, smallestKey}
+use Rattle.spectrum.specs.Values.{at, top, total}
+use Rattle.spectrum.specs.Inner.{_≼_}
+use Rattle.nlsf_stabilize_search.specs.Inner.{keyed, smallestKey}
 
 pub at-first : (v g : List ℤ) (i : ℕ) → i ≡ 0 → 0 < length v → length g ≡ suc (length v)
     → at (diffs (pos 0) v g) i ≡ at v 0 -ℤ (pos 0 +ℤ at g 0)

@@ -9,7 +9,7 @@ ghost use lib.Signed.{shrZ};
 ghost use Rattle.ints.specs.Parts.{up, down};
 ghost use Rattle.spectrum.specs.Distances.{place};
 ghost use Rattle.spectrum.specs.Values.{total};
-ghost use Rattle.nlsf_stabilize_search.specs.Asked.{keyed, keyAt, smallestKey};
+ghost use Rattle.nlsf_stabilize_search.specs.Inner.{keyed, keyAt, smallestKey};
 
 // The key of place i, where x lies above p and the gap g together.
 fn key(x: i32, p: i16, g: i16, i: usize) -> i32

@@ -10,19 +10,22 @@ use lib.Dec.{T}
 use lib.IntN.{ℤ, pos, _+ℤ_}
 use lib.Signed.{ltZ, leZ}
 use lib.ListN.{length}
-use Rattle.ints.specs.Order.{leZ-true, ltZ-true, ltZ-false}
-use Rattle.ints.specs.Sums.{sum-parts}
-use Rattle.lists.specs.Every.{every, every-at, at-every}
-use Rattle.tests.specs.Both.{and-both, both-and}
-use Rattle.tests.specs.Decides.{Decides, decides-alike}
+use Rattle.ints.proofs.Order.{leZ-true, ltZ-true, ltZ-false}
+use Rattle.ints.proofs.Sums.{sum-parts}
+use Rattle.lists.specs.Every.{every}
+use Rattle.lists.proofs.EveryLaws.{every-at, at-every}
+use Rattle.deciding.proofs.Both.{and-both, both-and}
+use Rattle.deciding.specs.Inner.{Decides}
+use Rattle.deciding.proofs.Decides.{decides-alike}
 use Rattle.spectrum.proofs.Extremes.{le-leZ}
 use Rattle.spectrum.proofs.Kept.{Kept, kept-keeps, keeps-kept}
 use Rattle.spectrum.proofs.Results.{kept-at, kept-end, kept-by, unmoved}
 use Rattle.spectrum.specs.Distances.{keeps}
 use Rattle.spectrum.specs.Gaps.{goodGaps}
 use Rattle.spectrum.specs.Stabilising.{stabilise, kept16}
-use Rattle.spectrum.specs.Values.{at, top, _≼_, total}
-use Rattle.nlsf_stabilize_stays.specs.Asked.{stays}
+use Rattle.spectrum.specs.Values.{at, top, total}
+use Rattle.spectrum.specs.Inner.{_≼_}
+use Rattle.nlsf_stabilize_stays.specs.Inner.{stays}
 
 -- ---- what one test or another says
 

@@ -7,7 +7,7 @@ ghost use lib.IntN.{pos, _+ℤ_};
 ghost use lib.ListN.{length};
 ghost use lib.Signed.{ltZ, leZ};
 ghost use Rattle.spectrum.specs.Values.{Mag, top};
-ghost use Rattle.nlsf_stabilize_stays.specs.Asked.{stays};
+ghost use Rattle.nlsf_stabilize_stays.specs.Inner.{stays};
 
 // Whether the gap is negative, or x does not keep it from p.
 fn lost(p: i32, gap: i16, x: i32) -> bool
@@ -25,8 +25,8 @@ fn ends(p: i32, gap: i16) -> bool
     (1 <= gap) & (p + (gap as i32) <= 32768)
 }
 
-// Whether the gaps meet their rule and the vector keeps every one of them. Then their sum is at most 32,768, since they lie side by
-// side below it.
+// Whether the gaps meet their rule and the vector keeps every one of them. Then their sum is at most 32,768, since
+// they lie side by side below it.
 pub fn stays_run(v: &[i16], g: &[i16]) -> bool
     requires { ⌜ length (now g) ≡ suc (length (now v)) ⌝ }
     ensures { λ b. ⌜ b ≡ stays (now (g .entry)) (now (v .entry)) ⌝ }

@@ -5,7 +5,7 @@ ghost use mathlib.Core.List.{[], _∷_};
 ghost use lib.IntN.{natAbs};
 ghost use lib.ListN.{length};
 ghost use Rattle.numerals.specs.Decimal.{natural, decimal};
-ghost use Rattle.numerals.specs.Put.{Put};
+ghost use Rattle.numerals.specs.Inner.{Put};
 
 pub fn put_byte_run(out: &mut [u8], at: usize, byte: u8) -> usize
     requires { ⌜ at < length (now out) ⌝ }

@@ -4,10 +4,10 @@ use mathlib.Core.Path.{_≡_, ap, _∙_}
 use mathlib.Core.List.{List, []}
 use native.Mathlib.Omega.{arith}
 use lib.ListN.{length, getD, length-take, List·getD-eq-default}
-use Rattle.tests.specs.Choice.{by-lt}
+use Rattle.deciding.proofs.Choice.{by-lt}
 use Rattle.entcode.specs.declared.Decoded.{Decoded}
 use Rattle.entcode.specs.Reading.{decOpen}
-use Rattle.packet_view.specs.Opening.{opens}
+use Rattle.packet_view.proofs.Opening.{opens}
 use Rattle.framing.specs.Form.{framesOf}
 use Rattle.framing.specs.Reading.{packetRead}
 use Rattle.framing.specs.Statement.{Accepted}

@@ -7,7 +7,7 @@ use native.Mathlib.Omega.{arith}
 use borrow.Author.Tests.{leb-true, leb-false, le-leb, eqb-true, eqb-false}
 use lib.Dec.{eqb, leb}
 use lib.ListN.{length, replicate}
-use Rattle.tests.specs.Both.{and-both, both-and}
+use Rattle.deciding.proofs.Both.{and-both, both-and}
 use Rattle.lists.specs.Every.{every}
 use Rattle.lists.specs.AtMost.{AtMost}
 use Rattle.framing.specs.declared.Form.{Form}

@@ -9,7 +9,8 @@ use borrow.Author.Tests.{eq-eqb, ne-eqb, eqb-true, leb-true, le-leb, lt-ltb, le-
 use lib.Dec.{eqb}
 use lib.ListN.{length, getD, take, length-append}
 use lib.Seq.{take-suc, take-length}
-use Rattle.lists.specs.Every.{every, every-at, at-every}
+use Rattle.lists.specs.Every.{every}
+use Rattle.lists.proofs.EveryLaws.{every-at, at-every}
 use Rattle.framing.specs.Lengths.{lengthCode, lengthCodes, total}
 use Rattle.framing.specs.Rules.{fitsFrame}
 use Rattle.framing.specs.Writing.{alike}

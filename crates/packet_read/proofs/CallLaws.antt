@@ -7,8 +7,8 @@ use native.Mathlib.Omega.{arith}
 use borrow.Author.Tests.{le-leb}
 use lib.Dec.{leb}
 use lib.ListN.{length, getD, take, drop, List·getD-eq-default}
-use Rattle.tests.specs.Both.{both-and}
-use Rattle.tests.specs.Choice.{by-lt}
+use Rattle.deciding.proofs.Both.{both-and}
+use Rattle.deciding.proofs.Choice.{by-lt}
 use Rattle.framing.specs.declared.Form.{Form}
 use Rattle.framing.specs.declared.Packet.{Packet}
 use Rattle.framing.specs.Toc.{configOf, codeOf}

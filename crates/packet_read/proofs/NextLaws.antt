@@ -7,7 +7,7 @@ use native.Mathlib.Omega.{arith}
 use borrow.Author.Tests.{lt-ltb, le-ltb}
 use lib.ListN.{length, getD, drop, replicate, List·getD-append}
 use lib.Seq.{drop-drop, getD-append-add}
-use Rattle.tests.specs.Choice.{by-lt, chosen-lt}
+use Rattle.deciding.proofs.Choice.{by-lt, chosen-lt}
 use Rattle.framing.specs.declared.Form.{Form}
 use Rattle.framing.specs.Lengths.{lengthOf, widthOf, lengths, widths, total}
 use Rattle.framing.specs.Form.{formOf, behind, firsts, head, room, sizes}

@@ -6,7 +6,7 @@ use mathlib.Core.List.{List}
 use native.Mathlib.Omega.{arith}
 use lib.Dec.{eqb, leb}
 use lib.ListN.{length}
-use Rattle.tests.specs.Choice.{chosen}
+use Rattle.deciding.proofs.Choice.{chosen}
 use Rattle.refusals.specs.First.{firstOf}
 use Rattle.framing.specs.declared.Packet.{Packet}
 use Rattle.framing.specs.Toc.{configOf, codeOf}

@@ -1,2 +1,3 @@
+pub mod Cases
 mod AnswerLaws
 pub mod Longer

@@ -1,3 +1,2 @@
 pub mod PacketText
 pub mod Inner
-pub mod Cases

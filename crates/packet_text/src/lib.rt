@@ -5,7 +5,7 @@ ghost use mathlib.Core.Path.{_≡_};
 ghost use mathlib.Core.List.{[], _∷_};
 ghost use lib.IntN.{pos};
 ghost use lib.ListN.{length};
-ghost use Rattle.numerals.specs.Put.{Put};
+ghost use Rattle.numerals.specs.Inner.{Put};
 ghost use Rattle.listing.specs.Lines.{line};
 ghost use Rattle.listing.specs.Printed.{printed};
 ghost use Rattle.packet_text.specs.PacketText.{frameLine, frameLines, acceptedText, packetText};

@@ -11,8 +11,9 @@ use lib.Dec.{T, eqb, leb}
 use lib.ListN.{length, List·getD-eq-default}
 use mir.Val.{hasKey}
 use types.Run.{OneOf, hit}
-use Rattle.tests.specs.Both.{and-both}
-use Rattle.lists.specs.Every.{every, everyBelow, below-at}
+use Rattle.deciding.proofs.Both.{and-both}
+use Rattle.lists.specs.Every.{every}
+use Rattle.lists.proofs.EveryLaws.{everyBelow, below-at}
 use Rattle.framing.specs.Toc.{durations, duration, inTime}
 use Rattle.framing.proofs.Kept.{duration-most, by-bool}
 

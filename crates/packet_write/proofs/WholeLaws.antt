@@ -7,8 +7,9 @@ use native.Mathlib.Omega.{arith}
 use borrow.Author.Tests.{eq-eqb, ne-eqb, leb-true}
 use lib.Dec.{eqb, ltb}
 use lib.ListN.{length, getD, drop, replicate, List·getD-eq-default}
-use Rattle.tests.specs.Choice.{by-lt}
-use Rattle.lists.specs.Every.{every, every-at}
+use Rattle.deciding.proofs.Choice.{by-lt}
+use Rattle.lists.specs.Every.{every}
+use Rattle.lists.proofs.EveryLaws.{every-at}
 use Rattle.lists.specs.AtMost.{AtMost}
 use Rattle.framing.specs.Rules.{fitsFrame}
 use Rattle.framing.proofs.Shortest.{code-most}
@@ -16,8 +17,7 @@ use lib.Seq.{sets, sets-eq}
 use Rattle.framing.specs.Toc.{byCode}
 use Rattle.framing.specs.Lengths.{lengthCodes}
 use Rattle.framing.specs.Padding.{padCode, padTail}
-use Rattle.framing.specs.Writing.{countByte, laid, alike, shortestCode, bare, shortest, lengthFor, packetOf, writeRule}
-use Rattle.framing.specs.Writing.{Wrote, packetWrite}
+use Rattle.framing.specs.Writing.{countByte, laid, alike, shortestCode, bare, shortest, lengthFor, packetOf, writeRule, Wrote, packetWrite}
 use Rattle.framing.proofs.Written.{writable, packet-length}
 use Rattle.packet_plan.specs.declared.Plan.{Plan}
 use Rattle.packet_plan.specs.Inner.{codesOf}

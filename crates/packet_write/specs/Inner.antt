@@ -5,7 +5,7 @@ use mathlib.Core.List.{List, [], _∷_, _++_}
 use lib.ListN.{length, replicate}
 use Rattle.framing.specs.Padding.{padCode, padTail}
 use Rattle.framing.specs.Writing.{countByte}
-use Rattle.numerals.specs.Put.{Put}
+use Rattle.numerals.specs.Inner.{Put}
 use Rattle.packet_plan.specs.Inner.{codesOf}
 
 -- a text is put at a place of l, and the place behind it is n

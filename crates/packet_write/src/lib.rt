@@ -6,7 +6,7 @@ ghost use lib.Dec.{eqb};
 ghost use lib.ListN.{length, replicate};
 ghost use lib.Seq.{sets};
 ghost use Rattle.lists.specs.AtMost.{AtMost};
-ghost use Rattle.numerals.specs.Put.{Put};
+ghost use Rattle.numerals.specs.Inner.{Put};
 ghost use Rattle.framing.specs.Inner.{Writable};
 ghost use Rattle.framing.specs.Lengths.{lengthCode};
 ghost use Rattle.framing.specs.Padding.{padCode, padTail};

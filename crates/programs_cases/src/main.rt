@@ -1,7 +1,7 @@
 // Replays recorded inputs of the two programs: each record of standard input has an input and the text that the
 // program prints by the crate's answers (docs/RECORDED.md has the layout). Prints how many inputs of each program
 // agreed, and then that all did, or the number of the first that did not.
-ghost use Rattle.records.specs.Places.{Placed, Parted};
+ghost use Rattle.records.specs.Inner.{Placed, Parted};
 use libc::STDIN_FILENO;
 use records::PROGRAM_NUMBERS;
 use records::Parts;

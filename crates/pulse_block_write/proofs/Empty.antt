@@ -6,10 +6,11 @@ use native.Mathlib.Nat.{div-one}
 use native.Mathlib.Omega.{arith}
 use lib.IntN.{ℤ, pos, natAbs}
 use Rattle.entcode.specs.Flat.{Out}
-use Rattle.entcode.specs.WriterFacts.{Core}
+use Rattle.entcode.specs.Inner.Writing.{Core}
 use Rattle.tree.specs.Asks.{symbols}
-use Rattle.tree.specs.AsksLaws.{symbols-cons}
-use Rattle.tree.specs.Told.{Told, midway-start, midway-end}
+use Rattle.tree.proofs.AsksLaws.{symbols-cons}
+use Rattle.tree.specs.Inner.Told.{Told}
+use Rattle.tree.proofs.Told.{midway-start, midway-end}
 use Rattle.silk.specs.PulseSyntax.{headOf, tailOf, each, total, sign}
 use Rattle.silk.specs.PulseWriting.{shiftedBy}
 

@@ -1,5 +1,5 @@
-// A block of a frame's pulses, written by its count and shift (RFC 6716, section 4.2.7.8): its splits, and its signs. A block without
-// pulses says nothing.
+// A block of a frame's pulses, written by its count and shift (RFC 6716, section 4.2.7.8): its splits, and its signs.
+// A block without pulses says nothing.
 ghost use mathlib.Core.Path.{_≡_};
 ghost use mathlib.Core.Bool.{false};
 ghost use mathlib.Core.List.{map};
@@ -7,10 +7,10 @@ ghost use Prim.Native.Nat.{_^_, _<_, _≤_};
 ghost use lib.IntN.{pos, natAbs};
 ghost use lib.ListN.{length};
 ghost use Rattle.entcode.specs.Flat.{out};
-ghost use Rattle.entcode.specs.WriterFacts.{Core};
-ghost use Rattle.tree.specs.Told.{Told};
+ghost use Rattle.entcode.specs.Inner.Writing.{Core};
+ghost use Rattle.tree.specs.Inner.Told.{Told};
 ghost use Rattle.silk.specs.PulseSyntax.{each, total, shell, signRowOf, sign};
-ghost use Rattle.silk.specs.PulseSteps.{PulseRows};
+ghost use Rattle.silk.specs.Inner.Pulses.{PulseRows};
 ghost use Rattle.silk.specs.PulseWriting.{shiftedBy};
 use entcode::Enc;
 use pulse_numbers::FrameNumbers;

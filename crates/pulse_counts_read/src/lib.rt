@@ -1,12 +1,12 @@
-// The pulse counts of a frame's blocks, read (RFC 6716, section 4.2.7.8.2): the first loop of the crate's decode_pulses.rs. The pulses'
-// rows are lent whole.
+// The pulse counts of a frame's blocks, read (RFC 6716, section 4.2.7.8.2): the first loop of the crate's
+// decode_pulses.rs. The pulses' rows are lent whole.
 ghost use mathlib.Core.Path.{_≡_};
 ghost use Prim.Native.Nat.{_^_, _<_, _≤_};
 ghost use Rattle.lists.specs.AtMost.{AtMost};
-ghost use Rattle.entcode.specs.ReaderLaws.{Core};
-ghost use Rattle.tree.specs.Ran.{Ran};
+ghost use Rattle.entcode.specs.Inner.Reading.{Core};
+ghost use Rattle.tree.specs.Inner.Ran.{Ran};
 ghost use Rattle.silk.specs.PulseSyntax.{count, counts};
-ghost use Rattle.silk.specs.PulseSteps.{PulseRows, blocksFrom};
+ghost use Rattle.silk.specs.Inner.Pulses.{PulseRows, blocksFrom};
 use entcode::Dec;
 
 // A block's count before low bits, the number of its low bits, and the reader behind them.

@@ -1,13 +1,13 @@
-// The pulse counts of a frame's blocks, written as the reader reads them (RFC 6716, section 4.2.7.8.2): a block's sum of pulses before
-// low bits (the crate's sum_pulses), behind a 17 for each of its low bits (its nRshifts).
+// The pulse counts of a frame's blocks, written as the reader reads them (RFC 6716, section 4.2.7.8.2): a block's sum
+// of pulses before low bits (the crate's sum_pulses), behind a 17 for each of its low bits (its nRshifts).
 ghost use mathlib.Core.Path.{_≡_};
 ghost use Prim.Native.Nat.{_^_, _<_, _≤_};
 ghost use Rattle.lists.specs.AtMost.{AtMost};
 ghost use Rattle.entcode.specs.Flat.{out};
-ghost use Rattle.entcode.specs.WriterFacts.{Core};
-ghost use Rattle.tree.specs.Told.{Told};
+ghost use Rattle.entcode.specs.Inner.Writing.{Core};
+ghost use Rattle.tree.specs.Inner.Told.{Told};
 ghost use Rattle.silk.specs.PulseSyntax.{countSaid, lowCounts, counts};
-ghost use Rattle.silk.specs.PulseSteps.{PulseRows, blocksFrom};
+ghost use Rattle.silk.specs.Inner.Pulses.{PulseRows, blocksFrom};
 use entcode::Enc;
 
 // What is said after j low bits.

@@ -1,15 +1,14 @@
-// The low bits of a block's pulses, read (RFC 6716, section 4.2.7.8.4): for each place all of them, highest first. The third loop of the
-// crate's decode_pulses.rs. The row is lent.
+// The low bits of a block's pulses, read (RFC 6716, section 4.2.7.8.4): for each place all of them, highest first.
+// The third loop of the crate's decode_pulses.rs. The row is lent.
 ghost use mathlib.Core.Path.{_≡_};
 ghost use Prim.Native.Nat.{_+_, _^_, _<_, _≤_};
 ghost use lib.ListN.{length};
 ghost use Rattle.lists.specs.AtMost.{AtMost};
 ghost use Rattle.sheet.specs.Directory.{lowBitRow};
-ghost use Rattle.entcode.specs.ReaderLaws.{Core};
-ghost use Rattle.tree.specs.Ran.{Ran};
+ghost use Rattle.entcode.specs.Inner.Reading.{Core};
+ghost use Rattle.tree.specs.Inner.Ran.{Ran};
 ghost use Rattle.silk.specs.PulseSyntax.{each, lowBits};
-ghost use Rattle.silk.specs.PulseSteps.{Placed};
-ghost use Rattle.silk.specs.PulsePlaces.{mags, Natural};
+ghost use Rattle.silk.specs.Inner.Pulses.{Placed, mags, Natural};
 use entcode::Dec;
 use entcode::Decoded;
 

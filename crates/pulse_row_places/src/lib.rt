@@ -1,12 +1,12 @@
-// Where the rows that a block's pulses are coded by stand in the pulses' rows (RFC 6716, section 4.2.7.8): of its count behind low bits,
-// of its splits, of its signs. Reader and writer take them from here.
+// Where the rows that a block's pulses are coded by stand in the pulses' rows (RFC 6716, section 4.2.7.8): of its
+// count behind low bits, of its splits, of its signs. Reader and writer take them from here.
 ghost use mathlib.Core.Path.{_≡_};
 ghost use mathlib.Core.Bool.{cond};
 ghost use mathlib.Core.List.{flatten};
 ghost use Prim.Native.Nat.{_+_, _*_, _<_, _≤_, min};
 ghost use lib.Dec.{eqb};
 ghost use Rattle.sheet.specs.Rows.{pulseRows};
-ghost use Rattle.sheet.specs.Places.{Stands};
+ghost use Rattle.sheet.specs.Inner.{Stands};
 
 // Where row 9 is entered after j low bits: after ten, one place later.
 pub fn later_at(j: u32) -> usize

@@ -7,10 +7,11 @@ use native.Mathlib.Omega.{arith}
 use lib.IntN.{ℤ, pos}
 use lib.ListN.{length, set, drop, replicate}
 use Rattle.entcode.specs.declared.Dec.{Dec}
-use Rattle.entcode.specs.ReaderLaws.{Core}
-use Rattle.tree.specs.Ran.{Ran}
+use Rattle.entcode.specs.Inner.Reading.{Core}
+use Rattle.tree.specs.Inner.Ran.{Ran}
 use Rattle.silk.specs.PulseSyntax.{split, shell}
-use Rattle.silk.specs.PulseSteps.{Placed, split-none, one-place, halves}
+use Rattle.silk.specs.Inner.Pulses.{Placed}
+use Rattle.silk.proofs.PulseSteps.{split-none, one-place, halves}
 
 pub no-pulses : {b : List ℕ} {d : Dec} (p : ℕ) (n : ℕ) → p ≡ 0 → n ≡ 16 → Core b d → Placed b d (shell 4 p) 240 (replicate n (pos 0)) d
 no-pulses {b = b} {d = d} p n e l h =

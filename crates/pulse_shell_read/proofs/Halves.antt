@@ -8,12 +8,13 @@ use lib.Dec.{eqb}
 use lib.IntN.{ℤ}
 use lib.ListN.{length, take, drop, length-append, length-drop, take-append-drop, drop-of-length-le}
 use lib.Seq.{drop-drop, length-take-le}
-use Rattle.lists.specs.Parts.{replaced}
+use Rattle.lists.proofs.Parts.{replaced}
 use Rattle.entcode.specs.declared.Dec.{Dec}
-use Rattle.entcode.specs.ReaderLaws.{Core}
-use Rattle.tree.specs.Ran.{Ran}
+use Rattle.entcode.specs.Inner.Reading.{Core}
+use Rattle.tree.specs.Inner.Ran.{Ran}
 use Rattle.silk.specs.PulseSyntax.{split, shell}
-use Rattle.silk.specs.PulseSteps.{PulseRows, Placed, halves}
+use Rattle.silk.specs.Inner.Pulses.{PulseRows, Placed}
+use Rattle.silk.proofs.PulseSteps.{halves}
 
 -- how many of p pulses lie in half h, where `left` lie in the first
 abbrev halfCount : ℕ → ℕ → ℕ → ℕ

@@ -1,15 +1,15 @@
-// The splits of a block's pulses, read (RFC 6716, section 4.2.7.8.3): 16 to 8 to 4 to 2 to 1 places, left half first, depth first. Names
-// as in the crate's shell_coder.rs. The pulses' rows are lent whole.
+// The splits of a block's pulses, read (RFC 6716, section 4.2.7.8.3): 16 to 8 to 4 to 2 to 1 places, left half first,
+// depth first. Names as in the crate's shell_coder.rs. The pulses' rows are lent whole.
 ghost use mathlib.Core.Path.{_≡_};
 ghost use mathlib.Core.Bool.{cond};
 ghost use Prim.Native.Nat.{_-_, _^_, _<_, _≤_};
 ghost use lib.Dec.{eqb};
 ghost use lib.IntN.{pos};
 ghost use lib.ListN.{length, replicate};
-ghost use Rattle.entcode.specs.ReaderLaws.{Core};
-ghost use Rattle.tree.specs.Ran.{Ran};
+ghost use Rattle.entcode.specs.Inner.Reading.{Core};
+ghost use Rattle.tree.specs.Inner.Ran.{Ran};
 ghost use Rattle.silk.specs.PulseSyntax.{split, shell};
-ghost use Rattle.silk.specs.PulseSteps.{PulseRows, Placed};
+ghost use Rattle.silk.specs.Inner.Pulses.{PulseRows, Placed};
 use entcode::Dec;
 use entcode::Decoded;
 
@@ -50,8 +50,8 @@ fn shell_2(packet: &[u8], d: Dec, rows: &[u8], places: &mut [i16], p: u32) -> De
     a.state
 }
 
-// How many of p pulses lie in half h, where `left` lie in the first. Halves are read by a loop, so that the code of a half stands once,
-// where its reader stays in registers.
+// How many of p pulses lie in half h, where `left` lie in the first. Halves are read by a loop, so that the code of a
+// half stands once, where its reader stays in registers.
 fn half_count(h: usize, left: u32, p: u32) -> u32
     requires { ⌜ left ≤ p ⌝ }
     ensures { λ c. ⌜ c ≡ cond (eqb h 0) left (p - left) ⌝ }

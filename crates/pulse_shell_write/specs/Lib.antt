@@ -1,3 +1,1 @@
-pub mod Splits
-pub mod SplitLaws
-pub mod Spoken
+pub mod Inner

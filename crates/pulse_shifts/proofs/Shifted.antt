@@ -9,7 +9,7 @@ use lib.IntN.{ℤ, pos, natAbs}
 use lib.ListN.{length, getD, take, length-map}
 use lib.Seq.{take-suc}
 use Rattle.silk.specs.PulseSyntax.{total}
-use Rattle.silk.specs.PulseLaws.{total-append}
+use Rattle.silk.proofs.PulseLaws.{total-append}
 use Rattle.silk.specs.PulseWriting.{shiftedBy}
 
 pub shifted-size : (j : ℕ) (p : List ℤ) → length (shiftedBy j p) ≡ length p

@@ -1,12 +1,11 @@
-// Which shift each block of a frame's pulses is written with (document 01, "Pulses"): the smallest at which the shifted magnitudes total
-// at most 16.
+// Which shift each block of a frame's pulses is written with (document 01, "Pulses"): the smallest at which the
+// shifted magnitudes total at most 16.
 ghost use mathlib.Core.Path.{_≡_};
 ghost use Prim.Native.Nat.{_*_, _≤_};
 ghost use lib.ListN.{length};
-ghost use Rattle.silk.specs.PulseSyntax.{total};
-ghost use Rattle.silk.specs.PulseBlocks.{rows16};
+ghost use Rattle.silk.specs.PulseSyntax.{total, rows16};
 ghost use Rattle.silk.specs.PulseWriting.{shiftedBy};
-ghost use Rattle.silk.specs.PulsePlans.{Shift, Planned};
+ghost use Rattle.silk.specs.Inner.Pulses.{Shift, Planned};
 use pulse_magnitude::magnitude;
 
 // A block's count before low bits and its shift: 0 and 11 for a block that has none.

@@ -7,11 +7,12 @@ use lib.IntN.{ℤ, pos, natAbs}
 use lib.ListN.{length, getD, set, length-map, List·getD-map}
 use lib.Seq.{set-getD}
 use Rattle.entcode.specs.declared.Dec.{Dec}
-use Rattle.tree.specs.Ran.{Ran}
+use Rattle.tree.specs.Inner.Ran.{Ran}
 use Rattle.silk.specs.PulseSyntax.{each, sign}
-use Rattle.silk.specs.PulseSteps.{sign-none}
-use Rattle.silk.specs.PulsePlaces.{mags, Going, going-natural, going-value, going-next, Ended, going-ended}
-use Rattle.pulse_signs_read.specs.Gathered.{mag, Bare}
+use Rattle.silk.proofs.PulseSteps.{sign-none}
+use Rattle.silk.specs.Inner.Pulses.{mags}
+use Rattle.silk.proofs.PulsePlaces.{Going, going-natural, going-value, going-next, Ended, going-ended}
+use Rattle.pulse_signs_read.specs.Inner.{mag, Bare}
 
 module _ (packet row : List ℕ) (s₀ : List ℤ) (d₀ : Dec) where
   -- those of the first k places

@@ -1,16 +1,16 @@
-// The signs of a block's pulses, read (RFC 6716, section 4.2.7.8.5): one for each place that is not 0; symbol 0 is minus. Names as in the
-// crate's code_signs.rs. The block's row is lent.
+// The signs of a block's pulses, read (RFC 6716, section 4.2.7.8.5): one for each place that is not 0; symbol 0 is
+// minus. Names as in the crate's code_signs.rs. The block's row is lent.
 ghost use mathlib.Core.Path.{_≡_};
 ghost use mathlib.Core.Bool.{true};
 ghost use Prim.Native.Nat.{_^_, _<_, _≤_};
 ghost use lib.IntN.{pos, natAbs};
 ghost use lib.ListN.{length, replicate};
 ghost use Rattle.icdf.specs.Rule.{Icdf};
-ghost use Rattle.entcode.specs.ReaderLaws.{Core};
-ghost use Rattle.tree.specs.Ran.{Ran};
+ghost use Rattle.entcode.specs.Inner.Reading.{Core};
+ghost use Rattle.tree.specs.Inner.Ran.{Ran};
 ghost use Rattle.silk.specs.PulseSyntax.{each, sign};
-ghost use Rattle.silk.specs.PulsePlaces.{mags, Natural};
-ghost use Rattle.pulse_signs_read.specs.Gathered.{Gathered};
+ghost use Rattle.silk.specs.Inner.Pulses.{mags, Natural};
+ghost use Rattle.pulse_signs_read.specs.Inner.{Gathered};
 use entcode::Dec;
 
 // A pulse with its sign, and the reader behind it.
@@ -36,8 +36,8 @@ fn decode_sign(packet: &[u8], d: Dec, row: &[u8], m: i16) -> SignRead
     SignRead { pulse: m, state }
 }
 
-// The places that have a pulse, in their order, and how many. Each place is stored, and the next one takes its place where it has none:
-// no jump depends on them.
+// The places that have a pulse, in their order, and how many. Each place is stored, and the next one takes its place
+// where it has none: no jump depends on them.
 fn pulse_places(places: &[i16], at: &mut [u8; 16]) -> usize
     requires { ⌜ (length (now places) ≡ 16) × (length (now at) ≡ 16) ⌝ }
     ensures { λ n. ⌜ Gathered (now (places .entry)) (now (at .exit)) n 16 ⌝ }

@@ -1,5 +1,5 @@
-// The signs of a block's pulses, written as the reader reads them (RFC 6716, section 4.2.7.8.5). Names as in the crate's code_signs.rs.
-// The block's row is lent.
+// The signs of a block's pulses, written as the reader reads them (RFC 6716, section 4.2.7.8.5). Names as in the
+// crate's code_signs.rs. The block's row is lent.
 ghost use mathlib.Core.Path.{_≡_};
 ghost use mathlib.Core.Bool.{cond};
 ghost use mathlib.Core.List.{map};
@@ -9,10 +9,10 @@ ghost use lib.ListN.{length, take};
 ghost use lib.Signed.{ltZ};
 ghost use Rattle.icdf.specs.Rule.{Icdf, Writable};
 ghost use Rattle.entcode.specs.Flat.{out};
-ghost use Rattle.entcode.specs.WriterFacts.{Core};
-ghost use Rattle.tree.specs.Told.{Told};
+ghost use Rattle.entcode.specs.Inner.Writing.{Core};
+ghost use Rattle.tree.specs.Inner.Told.{Told};
 ghost use Rattle.silk.specs.PulseSyntax.{each, sign};
-ghost use Rattle.pulse_signs_write.specs.Said.{signOf, signsSaid};
+ghost use Rattle.pulse_signs_write.specs.Inner.{signOf, signsSaid};
 use entcode::Enc;
 
 // The symbol of a pulse's sign.
@@ -30,7 +30,8 @@ fn next_place(n: usize, pulse: i16) -> usize
     if pulse == 0 { n } else { n + 1 }
 }
 
-// The symbols of a block's signs are put into symbols, and counted. What is stored for a pulse of 0 is overwritten or not counted.
+// The symbols of a block's signs are put into symbols, and counted. What is stored for a pulse of 0 is overwritten or
+// not counted.
 fn signs_said(symbols: &mut [u8], pulses: &[i16]) -> usize
     requires { ⌜ (length (now symbols) ≡ 16) × (length (now pulses) ≡ 16) ⌝ }
     ensures { λ n. ⌜ (n ≤ 16) × (take n (now (symbols .exit)) ≡ signsSaid (now (pulses .entry))) ⌝ }

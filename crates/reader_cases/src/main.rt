@@ -2,7 +2,7 @@
 // (docs/RECORDED.md has the layout). Prints how many calls of each kind agreed, and then that all did, or the number
 // of the first that did not.
 ghost use lib.ListN.{length};
-ghost use Rattle.records.specs.Places.{Placed, Parted};
+ghost use Rattle.records.specs.Inner.{Placed, Parted};
 use entcode::Dec;
 use entcode::Decoded;
 use libc::STDIN_FILENO;

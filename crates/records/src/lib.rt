@@ -3,7 +3,7 @@
 ghost use Prim.Native.Nat.{_+_, _<_, _≤_};
 ghost use mathlib.Core.Path.{_≡_};
 ghost use lib.ListN.{length};
-ghost use Rattle.records.specs.Places.{Started, Placed, Within, Parted};
+ghost use Rattle.records.specs.Inner.{Started, Placed, Within, Parted};
 use libc::STDOUT_FILENO;
 use numbers::half;
 

@@ -1,7 +1,7 @@
 // States, eleven numbers each, and answers: refusal, value and state (docs/RECORDED.md, "Layout").
 ghost use Prim.Native.Nat.{_+_, _≤_};
 ghost use lib.ListN.{length};
-ghost use Rattle.records.specs.Layout.{stateBytes, answerBytes};
+ghost use Rattle.records.specs.Inner.{stateBytes, answerBytes};
 use crate::numbers::signed;
 use crate::numbers::word_run;
 use entcode::Dec;

@@ -9,19 +9,20 @@ use borrow.Author.Tests.{le-leb, lt-ltb}
 use lib.Dec.{leb, ltb}
 use lib.IntN.{pos}
 use lib.ListN.{length}
-use Rattle.tests.specs.Both.{range-in, both-and}
-use Rattle.icdf.specs.RuleLaws.{symbol-accepts, icdf-accepts}
-use Rattle.refusals.specs.First.{firstOf, first-none, none-first}
+use Rattle.deciding.proofs.Both.{range-in, both-and}
+use Rattle.icdf.proofs.RuleLaws.{symbol-accepts, icdf-accepts}
+use Rattle.refusals.specs.First.{firstOf}
+use Rattle.refusals.proofs.FirstLaws.{first-none, none-first}
 use Rattle.entcode.specs.Models.{Model, bit, raw, num, tab, Sym, Readable, Allowed}
 use Rattle.entcode.specs.Sound.{soundW, gateW}
 use Rattle.entcode.specs.Rules.{exponentOk, countOk, numberOk, askRule, sayRule}
 use Rattle.entcode.specs.Writer.{Writer, openW, writeSym}
-use Rattle.entcode.specs.WriterLaws.{Firm}
+use Rattle.entcode.proofs.WriterLaws.{Firm}
 use Rattle.entcode.specs.Finish.{finishW}
 use Rattle.entcode.specs.Flat.{errOf, errorOf, flat}
-use Rattle.entcode.specs.ReadingLaws.{gate-none}
-use Rattle.entcode.specs.FlatLaws.{as-flat}
-use Rattle.entcode.specs.WritingLaws.{sound-flat, say-open, answered-ok, answered-none}
+use Rattle.entcode.proofs.ReadingLaws.{gate-none}
+use Rattle.entcode.proofs.FlatLaws.{as-flat}
+use Rattle.entcode.proofs.WritingLaws.{sound-flat, say-open, answered-ok, answered-none}
 use Rattle.entcode.specs.Writing.{Sent, takes, written, encSym, finished, encDone, encOpen}
 use Rattle.roundtrip.specs.Statement.{after}
 

@@ -9,11 +9,11 @@ use borrow.Author.Tests.{lt-ltb}
 use lib.ListN.{length, take, drop, set, length-set}
 use lib.Pow.{pow-add, shr-lt}
 use lib.Seq.{take-set-le, drop-set-lt, drop-cons, getD-set-same}
-use Rattle.tests.specs.Choice.{by-lt}
+use Rattle.deciding.proofs.Choice.{by-lt}
 use Rattle.entcode.specs.Room.{Room}
-use Rattle.entcode.specs.RoomLaws.{back-full}
+use Rattle.entcode.proofs.RoomLaws.{back-full}
 use Rattle.entcode.specs.Tail.{Tail, flush1, flush}
-use Rattle.entcode.specs.TailLaws.{flush-stays}
+use Rattle.entcode.proofs.TailLaws.{flush-stays}
 use Rattle.roundtrip.proofs.Digits.{number, pow-split}
 
 -- the raw bytes stored

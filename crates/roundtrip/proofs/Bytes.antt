@@ -7,15 +7,15 @@ use native.Mathlib.Nat.{mod-le}
 use lib.Bits.{or-lt}
 use lib.Dec.{eqb, leb, ltb}
 use lib.ListN.{length, getD, take, drop, set, replicate}
-use Rattle.tests.specs.Choice.{chosen}
+use Rattle.deciding.proofs.Choice.{chosen}
 use Rattle.entcode.specs.Models.{Sym, coded, lo, hi, all, rawN}
 use Rattle.entcode.specs.Cuts.{upper, lower}
 use Rattle.entcode.specs.Front.{Front, unstored, stored, bytesOut, digit, shift, shiftOut}
 use Rattle.entcode.specs.Room.{Room, free, put, puts, back}
 use Rattle.entcode.specs.Tail.{Tail, flush1, flush, spare}
 use Rattle.entcode.specs.Writer.{Writer, normW, cutW, codeW, writeSym, writeAll}
-use Rattle.entcode.specs.WriterLaws.{held-most}
-use Rattle.entcode.specs.ReaderLaws.{Bytes}
+use Rattle.entcode.proofs.WriterLaws.{held-most}
+use Rattle.entcode.specs.Reader.{Bytes}
 use Rattle.entcode.specs.Finish.{bitsOf, emits, spareBits, finOut, finBytes, ending, clear, orLast, leftOver, close, finFront, finTail, finish}
 
 -- every element is a byte

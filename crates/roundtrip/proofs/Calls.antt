@@ -6,16 +6,16 @@ use mathlib.Core.List.{List, [], _∷_}
 use native.Mathlib.Omega.{arith}
 use borrow.Author.Tests.{le-leb}
 use lib.ListN.{length}
-use Rattle.refusals.specs.First.{none-first}
+use Rattle.refusals.proofs.FirstLaws.{none-first}
 use Rattle.entcode.specs.declared.Dec.{Dec}
 use Rattle.entcode.specs.declared.Decoded.{Decoded}
 use Rattle.entcode.specs.Models.{Model, Sym}
 use Rattle.entcode.specs.Cuts.{account}
 use Rattle.entcode.specs.Reader.{opened, readVal, readNext}
 use Rattle.entcode.specs.Reading.{gives, decSym, decOpen}
-use Rattle.entcode.specs.ReadingLaws.{Sound, gate-pass, answered-ok}
+use Rattle.entcode.proofs.ReadingLaws.{Sound, gate-pass, answered-ok}
 use Rattle.entcode.specs.Writer.{Writer, writeSym, writeAll}
-use Rattle.entcode.specs.WriterLaws.{Firm, firm-write}
+use Rattle.entcode.proofs.WriterLaws.{Firm, firm-write}
 use Rattle.entcode.specs.Flat.{Out, flat}
 use Rattle.entcode.specs.Writing.{encSym}
 use Rattle.roundtrip.specs.Statement.{AllAllowed, after, Sends, Right, Reads, Questions, done, ask, Leads, Answers, InStep, CodedRight, CodedReads}

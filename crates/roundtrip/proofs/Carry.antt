@@ -8,9 +8,9 @@ use native.Mathlib.Omega.{arith}
 use borrow.Author.Tests.{eqb-true, eqb-false}
 use lib.Dec.{eqb}
 use lib.ListN.{length, replicate, length-replicate}
-use Rattle.tests.specs.Choice.{by-lt, chosen}
+use Rattle.deciding.proofs.Choice.{by-lt, chosen}
 use Rattle.entcode.specs.Front.{Front, unstored, stored, bytesOut, heldNext, runNext, digit, shift, shiftOut, cutTo}
-use Rattle.entcode.specs.WriterLaws.{held-most}
+use Rattle.entcode.proofs.WriterLaws.{held-most}
 use Rattle.roundtrip.proofs.Digits.{number, run-carry, run-more}
 
 -- the whole number of a front: what is stored (P), what is held, and the value below

@@ -8,11 +8,11 @@ use native.Mathlib.Nat.{add-zero, mul-add-mod-self-left, div-add-mod', mod-lt}
 use lib.Count.{leadingZeros, leading-top}
 use lib.ListN.{length, length-append}
 use lib.Pow.{pow-add, pow-pos, pow-mono}
-use Rattle.tests.specs.Choice.{by-lt, chosen-lt}
+use Rattle.deciding.proofs.Choice.{by-lt, chosen-lt}
 use Rattle.entcode.specs.Front.{Front, unstored, shift, shiftOut}
 use Rattle.entcode.specs.Finish.{cell, roundUp, bitsOf, emits, spareBits, finOut, finBytes}
-use Rattle.entcode.specs.FinishLaws.{Enough, bits-enough}
-use Rattle.entcode.specs.ReaderLaws.{Bytes}
+use Rattle.entcode.proofs.FinishLaws.{Enough, bits-enough}
+use Rattle.entcode.specs.Reader.{Bytes}
 use Rattle.roundtrip.proofs.Digits.{number, number-append, pow-split}
 use Rattle.roundtrip.proofs.Carry.{Tame, frontNumber, shift-number, tame-shift, carry-length}
 use Rattle.roundtrip.proofs.Within.{In, in-part, in-shift}

@@ -12,8 +12,8 @@ use lib.Dec.{eqb, leb, ltb}
 use lib.ListN.{length, getD, take, drop, set, replicate, length-append, length-set, length-replicate, length-drop, getD-replicate, List·getD-append}
 use lib.Pow.{pow-pos, pow-mono}
 use lib.Seq.{take-at, drop-at, take-set-le, drop-set-lt, getD-set-same, getD-set-other, getD-append-add, length-take-le}
-use Rattle.tests.specs.Both.{and-both}
-use Rattle.tests.specs.Choice.{by-lt, chosen, chosen-lt}
+use Rattle.deciding.proofs.Both.{and-both}
+use Rattle.deciding.proofs.Choice.{by-lt, chosen, chosen-lt}
 use Rattle.entcode.specs.Room.{Room}
 use Rattle.entcode.specs.Tail.{Tail}
 use Rattle.entcode.specs.Finish.{clear, orLast, close}

@@ -6,15 +6,15 @@ use mathlib.Core.List.{List, _++_}
 use native.Mathlib.Omega.{arith}
 use lib.ListN.{length, getD, take}
 use lib.Pow.{pow-mono}
-use Rattle.tests.specs.Choice.{by-lt}
+use Rattle.deciding.proofs.Choice.{by-lt}
 use Rattle.entcode.specs.Front.{unstored}
 use Rattle.entcode.specs.Room.{Room, puts}
-use Rattle.entcode.specs.RoomLaws.{Stored, puts-room, puts-full, puts-stays}
+use Rattle.entcode.proofs.RoomLaws.{Stored, puts-room, puts-full, puts-stays}
 use Rattle.entcode.specs.Tail.{Tail}
-use Rattle.entcode.specs.TailLaws.{flush-stays}
+use Rattle.entcode.proofs.TailLaws.{flush-stays}
 use Rattle.entcode.specs.Writer.{Writer}
 use Rattle.entcode.specs.Finish.{bitsOf, emits, spareBits, ending, finBytes, finFront, finTail, finish}
-use Rattle.entcode.specs.FinishLaws.{Enough, bits-enough}
+use Rattle.entcode.proofs.FinishLaws.{Enough, bits-enough}
 use Rattle.roundtrip.proofs.Digits.{number, number-append, prefix}
 use Rattle.roundtrip.proofs.Back.{Flushed, flush-room, flush-full, tailNumber}
 use Rattle.roundtrip.proofs.Progress.{Fine, sizeOf, digitsOf, storedNumber, rawOf}

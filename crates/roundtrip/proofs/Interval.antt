@@ -9,8 +9,9 @@ use borrow.Author.Tests.{leb-true, leb-false}
 use lib.Dec.{leb}
 use Rattle.entcode.specs.Models.{Sym, coded, lo, hi, all, rawN, rawV, Allowed}
 use Rattle.entcode.specs.Cuts.{upper, lower}
-use Rattle.entcode.specs.CutLaws.{Proper, CutOk, cut-ok}
-use Rattle.entcode.specs.ModelLaws.{proper}
+use Rattle.entcode.proofs.CutLaws.{Proper, cut-ok}
+use Rattle.entcode.specs.Inner.Reading.{CutOk}
+use Rattle.entcode.proofs.ModelLaws.{proper}
 use Rattle.roundtrip.specs.Statement.{AllAllowed}
 
 -- ---- an interval: the numbers from low on, size of them, of so many digits and 31 bits

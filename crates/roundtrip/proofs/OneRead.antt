@@ -7,14 +7,15 @@ use mathlib.Core.List.{List}
 use native.Mathlib.Omega.{arith}
 use borrow.Author.Tests.{le-ltb}
 use lib.Dec.{leb}
-use Rattle.tests.specs.Choice.{chosen}
+use Rattle.deciding.proofs.Choice.{chosen}
 use Rattle.entcode.specs.declared.Dec.{Dec}
 use Rattle.entcode.specs.Models.{Model, bit, raw, num, tab, coded, lo, hi, all, rawN, rawV, joined, Allowed}
 use Rattle.entcode.specs.Cuts.{upper, lower}
-use Rattle.entcode.specs.CutLaws.{cut-ok}
-use Rattle.entcode.specs.ModelLaws.{proper, raw-most, raw-small, joined-parts, pick-is}
-use Rattle.entcode.specs.Reader.{shiftR, normR, cutR, cutDown, picked, afterCode, rawVal, rawNext, whole, clamped, marked, readVal, readNext}
-use Rattle.entcode.specs.ReaderLaws.{Bytes, Core, core-cut, core-read}
+use Rattle.entcode.proofs.CutLaws.{cut-ok}
+use Rattle.entcode.proofs.ModelLaws.{proper, raw-most, raw-small, joined-parts, pick-is}
+use Rattle.entcode.specs.Reader.{shiftR, normR, cutR, cutDown, picked, afterCode, rawVal, rawNext, whole, clamped, marked, readVal, readNext, Bytes}
+use Rattle.entcode.specs.Inner.Reading.{Core}
+use Rattle.entcode.proofs.ReaderLaws.{core-cut, core-read}
 use Rattle.entcode.specs.Writer.{Writer, shiftW, normW, cutW, codeW, rawW}
 use Rattle.roundtrip.proofs.Digits.{code}
 use Rattle.roundtrip.proofs.Interval.{Interval, codeI}

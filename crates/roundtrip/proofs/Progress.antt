@@ -7,7 +7,7 @@ use native.Mathlib.Omega.{arith}
 use lib.ListN.{length, take}
 use Rattle.entcode.specs.Front.{unstored, shift, shiftOut}
 use Rattle.entcode.specs.Room.{puts}
-use Rattle.entcode.specs.RoomLaws.{Stored, puts-room, puts-len, puts-full}
+use Rattle.entcode.proofs.RoomLaws.{Stored, puts-room, puts-len, puts-full}
 use Rattle.entcode.specs.Writer.{Writer, shiftW}
 use Rattle.roundtrip.proofs.Digits.{number, number-append}
 use Rattle.roundtrip.proofs.Carry.{Tame, frontNumber, shift-number, tame-shift, carry-length, shift-holds}

@@ -4,12 +4,11 @@ use mathlib.Core.Path.{_≡_, refl, sym, ap, _∙_, subst}
 use mathlib.Core.List.{List}
 use native.Mathlib.Omega.{arith}
 use lib.ListN.{length}
-use Rattle.bitlen.specs.LengthLaws.{length-most}
+use Rattle.bitlen.proofs.LengthLaws.{length-most}
 use Rattle.entcode.specs.declared.Decoded.{Decoded}
 use Rattle.entcode.specs.Models.{Sym}
 use Rattle.entcode.specs.Cuts.{account}
-use Rattle.entcode.specs.Reader.{settled, opened}
-use Rattle.entcode.specs.ReaderLaws.{Bytes}
+use Rattle.entcode.specs.Reader.{settled, opened, Bytes}
 use Rattle.entcode.specs.Reading.{decOpen}
 use Rattle.entcode.specs.Writer.{Writer, openW, writeAll}
 use Rattle.entcode.specs.Finish.{finish, finishW}

@@ -9,10 +9,11 @@ use lib.Arith.{digits-div, digits-mod}
 use lib.Dec.{ltb}
 use lib.ListN.{length}
 use lib.Pow.{pow-add, pow-pos}
-use Rattle.tests.specs.Choice.{chosen}
+use Rattle.deciding.proofs.Choice.{chosen}
 use Rattle.entcode.specs.declared.Dec.{Dec}
-use Rattle.entcode.specs.Reader.{lastOf, fetch, fetches, fill, rawVal, rawNext}
-use Rattle.entcode.specs.ReaderLaws.{Bytes, Core, Filled, fill-kept}
+use Rattle.entcode.specs.Reader.{lastOf, fetch, fetches, fill, rawVal, rawNext, Bytes}
+use Rattle.entcode.specs.Inner.Reading.{Core}
+use Rattle.entcode.proofs.ReaderLaws.{Filled, fill-kept}
 use Rattle.roundtrip.proofs.Digits.{prefix, pow-split}
 
 -- the raw number still ahead of the reader

@@ -7,8 +7,9 @@ use native.Mathlib.Omega.{arith}
 use lib.ListN.{length, take}
 use Rattle.entcode.specs.declared.Dec.{Dec}
 use Rattle.entcode.specs.Models.{Sym, rawN, Allowed}
-use Rattle.entcode.specs.Reader.{settled, opened, readVal, readNext}
-use Rattle.entcode.specs.ReaderLaws.{Bytes, Core, core-read}
+use Rattle.entcode.specs.Reader.{settled, opened, readVal, readNext, Bytes}
+use Rattle.entcode.specs.Inner.Reading.{Core}
+use Rattle.entcode.proofs.ReaderLaws.{core-read}
 use Rattle.entcode.specs.Writer.{Writer, openW, writeSym}
 use Rattle.entcode.specs.Finish.{emits, spareBits, finish}
 use Rattle.roundtrip.specs.Statement.{AllAllowed}

@@ -5,13 +5,13 @@ use mathlib.Core.Path.{_≡_, refl, sym, _∙_}
 use mathlib.Core.List.{List, [], _∷_}
 use native.Mathlib.Omega.{arith}
 use lib.ListN.{length}
-use Rattle.bitlen.specs.LengthLaws.{leading-zeros-length}
+use Rattle.bitlen.proofs.LengthLaws.{leading-zeros-length}
 use Rattle.entcode.specs.Models.{Sym}
 use Rattle.entcode.specs.Cuts.{account}
 use Rattle.entcode.specs.Writer.{Writer, openW, writeSym, writeAll}
-use Rattle.entcode.specs.WriterLaws.{Firm, firm-write}
+use Rattle.entcode.proofs.WriterLaws.{Firm, firm-write}
 use Rattle.entcode.specs.Finish.{finish}
-use Rattle.entcode.specs.FinishLaws.{Enough, bits-enough}
+use Rattle.entcode.proofs.FinishLaws.{Enough, bits-enough}
 use Rattle.roundtrip.specs.Statement.{AllAllowed}
 use Rattle.roundtrip.proofs.Interval.{Interval, runI, openI, rawNumber, run-size}
 use Rattle.roundtrip.proofs.Progress.{Fine}

@@ -8,12 +8,12 @@ use native.Mathlib.Omega.{arith}
 use borrow.Author.Tests.{leb-true}
 use lib.Dec.{leb}
 use lib.ListN.{length, getD, List·getD-eq-default}
-use Rattle.tests.specs.Choice.{by-lt}
+use Rattle.deciding.proofs.Choice.{by-lt}
 use Rattle.entcode.specs.declared.Dec.{Dec}
 use Rattle.entcode.specs.Cuts.{upper, lower}
-use Rattle.entcode.specs.CutLaws.{Proper, CutOk, cut-ok}
-use Rattle.entcode.specs.Reader.{shiftR, normR, settled, fresh, opened, cutR, cutDown}
-use Rattle.entcode.specs.ReaderLaws.{Bytes}
+use Rattle.entcode.proofs.CutLaws.{Proper, cut-ok}
+use Rattle.entcode.specs.Inner.Reading.{CutOk}
+use Rattle.entcode.specs.Reader.{shiftR, normR, settled, fresh, opened, cutR, cutDown, Bytes}
 use Rattle.roundtrip.proofs.Digits.{code, code-step}
 use Rattle.roundtrip.proofs.Interval.{Interval, shiftI, normI, cutI, codeI, openI}
 use Rattle.roundtrip.proofs.Within.{In, Within, code-cut, norm-back}

@@ -18,16 +18,13 @@ use Rattle.entcode.specs.declared.Dec.{Dec}
 use Rattle.entcode.specs.declared.Decoded.{Decoded}
 use Rattle.entcode.specs.Models.{Sym}
 use Rattle.entcode.specs.Cuts.{account}
-use Rattle.entcode.specs.Reader.{opened}
-use Rattle.entcode.specs.ReaderLaws.{Bytes}
+use Rattle.entcode.specs.Reader.{opened, Bytes}
 use Rattle.entcode.specs.Reading.{decOpen}
 use Rattle.entcode.specs.Writer.{Writer, openW}
 use Rattle.entcode.specs.Finish.{finish}
 use Rattle.entcode.specs.Flat.{errorOf, Out, flat}
 use Rattle.entcode.specs.Writing.{Sent, encOpen, encDone}
-use Rattle.roundtrip.specs.Statement.{AllAllowed, after, Sends, Written, Reads, InStep, CodedReads, wroteAll}
-use Rattle.roundtrip.specs.Statement.{Accepts, Fits, FinishedBytes, FinishedLength, FinishedTotal, FinishedOpens, MiddleZero}
-use Rattle.roundtrip.specs.Statement.{ReadsBack, FitsReads, AnswersBack, StaysInStep, FrontDecides}
+use Rattle.roundtrip.specs.Statement.{AllAllowed, after, Sends, Written, Reads, InStep, CodedReads, wroteAll, Accepts, Fits, FinishedBytes, FinishedLength, FinishedTotal, FinishedOpens, MiddleZero, ReadsBack, FitsReads, AnswersBack, StaysInStep, FrontDecides}
 use Rattle.roundtrip.proofs.Interval.{runI, openI, rawNumber}
 use Rattle.roundtrip.proofs.Track.{View}
 use Rattle.roundtrip.proofs.Finished.{total-bytes}

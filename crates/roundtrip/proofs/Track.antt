@@ -8,15 +8,16 @@ use borrow.Author.Tests.{ltb-false, leb-true}
 use lib.Dec.{leb, ltb}
 use lib.ListN.{length, take, drop}
 use lib.Seq.{drop-length}
-use Rattle.tests.specs.Choice.{by-lt}
+use Rattle.deciding.proofs.Choice.{by-lt}
 use Rattle.entcode.specs.Models.{Model, Sym, rawN, rawV, Allowed}
 use Rattle.entcode.specs.Cuts.{upper, lower}
-use Rattle.entcode.specs.CutLaws.{Proper, CutOk, cut-ok}
-use Rattle.entcode.specs.ModelLaws.{proper, raw-most, raw-small}
+use Rattle.entcode.proofs.CutLaws.{Proper, cut-ok}
+use Rattle.entcode.specs.Inner.Reading.{CutOk}
+use Rattle.entcode.proofs.ModelLaws.{proper, raw-most, raw-small}
 use Rattle.entcode.specs.Front.{shiftOut}
-use Rattle.entcode.specs.RoomLaws.{puts-stays, puts-len}
+use Rattle.entcode.proofs.RoomLaws.{puts-stays, puts-len}
 use Rattle.entcode.specs.Tail.{Tail, flush, append}
-use Rattle.entcode.specs.TailLaws.{flush-stays, flush-len, append-slim}
+use Rattle.entcode.proofs.TailLaws.{flush-stays, flush-len, append-slim}
 use Rattle.entcode.specs.Writer.{Writer, openW, shiftW, normW, cutW, codeW, rawW, writeSym, writeAll}
 use Rattle.roundtrip.specs.Statement.{AllAllowed}
 use Rattle.roundtrip.proofs.Digits.{number}

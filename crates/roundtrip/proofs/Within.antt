@@ -9,9 +9,10 @@ use lib.Dec.{leb}
 use lib.ListN.{getD}
 use Rattle.entcode.specs.Models.{Sym}
 use Rattle.entcode.specs.Cuts.{upper, lower}
-use Rattle.entcode.specs.CutLaws.{Proper, CutOk, cut-ok}
-use Rattle.entcode.specs.ModelLaws.{proper}
-use Rattle.entcode.specs.ReaderLaws.{Bytes}
+use Rattle.entcode.proofs.CutLaws.{Proper, cut-ok}
+use Rattle.entcode.specs.Inner.Reading.{CutOk}
+use Rattle.entcode.proofs.ModelLaws.{proper}
+use Rattle.entcode.specs.Reader.{Bytes}
 use Rattle.roundtrip.specs.Statement.{AllAllowed}
 use Rattle.roundtrip.proofs.Digits.{prefix, code, code-step}
 use Rattle.roundtrip.proofs.Interval.{Interval, shiftI, normI, cutI, codeI, symI, runI, sym-size}

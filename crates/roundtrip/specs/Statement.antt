@@ -11,7 +11,7 @@ use Rattle.entcode.specs.declared.Decoded.{Decoded}
 use Rattle.entcode.specs.Models.{Model, Sym, rawN, Allowed}
 use Rattle.entcode.specs.Cuts.{account}
 use Rattle.entcode.specs.Flat.{Out, out, flat}
-use Rattle.entcode.specs.ReaderLaws.{Bytes}
+use Rattle.entcode.specs.Reader.{Bytes}
 use Rattle.entcode.specs.Reading.{decOpen, decSym}
 use Rattle.entcode.specs.Writer.{Writer, openW, writeAll}
 use Rattle.entcode.specs.Writing.{Sent, encOpen, encSym, encDone}

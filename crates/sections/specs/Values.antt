@@ -1,9 +1,7 @@
 -- The numbers of a program's input (document 01): a count of one byte, values of two bytes, high first. Past the end a byte is 0.
 -- Assumes nothing.
 use Prim.Native.Nat.{ℕ, zero, suc, _+_, _*_}
-use mathlib.Core.Path.{_≡_, ap, _∙_}
-use mathlib.Core.List.{List, [], _∷_, _++_}
-use native.Mathlib.Omega.{arith}
+use mathlib.Core.List.{List, [], _∷_}
 use lib.IntN.{ℤ, pos}
 use lib.ListN.{getD}
 use Rattle.ints.specs.Wrap.{wrap16}
@@ -22,11 +20,3 @@ valueAt s i = wrap16 (pos (pairAt s i))
 unfoldable pub valuesAt : List ℕ → ℕ → ℕ → List ℤ
 valuesAt s i zero = []
 valuesAt s i (suc n) = valueAt s i ∷ valuesAt s (i + 2) n
-
--- one value more
-pub values-more : (s : List ℕ) (i n : ℕ) → valuesAt s i n ++ (valueAt s (i + 2 * n) ∷ []) ≡ valuesAt s i (suc n)
-unfolding valuesAt
-values-more s i zero = let e : i + 2 * 0 ≡ i = omega arith in ap (λ (k : ℕ). valueAt s k ∷ []) e
-values-more s i (suc n) =
-    let e : i + 2 * suc n ≡ i + 2 + 2 * n = omega arith in
-    ap (λ (k : ℕ). valueAt s i ∷ (valuesAt s (i + 2) n ++ (valueAt s k ∷ []))) e ∙ ap (λ (l : List ℤ). valueAt s i ∷ l) (values-more s (i + 2) n)

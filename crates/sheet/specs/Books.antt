@@ -1,9 +1,6 @@
--- The two spectrum books (RFC 6716, section 4.2.7.5), one vector to a line, and their shape. Assumes nothing.
-use Prim.Native.Nat.{ℕ, _+_, _-_, _/_}
-use mathlib.Core.Path.{_≡_, refl}
+-- The two spectrum books (RFC 6716, section 4.2.7.5), one vector to a line. Assumes nothing.
+use Prim.Native.Nat.{ℕ}
 use mathlib.Core.List.{List, [], _∷_}
-use lib.ListN.{length}
-use Rattle.lists.specs.Rows.{Grid, grid-of}
 
 -- step in 65,536ths, selectors (a byte for two places) and predictors in 256ths (section 4.2.7.5.2); vectors in
 -- 256ths of half the sampling rate, weights in 512ths (section 4.2.7.5.3); least gaps in 32,768ths of half the
@@ -245,39 +242,4 @@ wideBook =
           (68 ∷ 62 ∷ 66 ∷ 60 ∷ 72 ∷ 117 ∷ 85 ∷ 90 ∷ 118 ∷ 136 ∷ 151 ∷ 142 ∷ 160 ∷ 142 ∷ 155 ∷ []) ∷
           [];
       gaps = 100 ∷ 3 ∷ 40 ∷ 3 ∷ 3 ∷ 3 ∷ 5 ∷ 14 ∷ 14 ∷ 10 ∷ 11 ∷ 3 ∷ 8 ∷ 9 ∷ 7 ∷ 3 ∷ 347 ∷ [];
-    }
-
--- ---- shape
-
--- a book of order n: 32 vectors, weights and selectors, two lists of predictors, and one gap more than the order
-pub record Shaped (n : ℕ) (b : Book) : Type 0 where
-  pub order : b .order ≡ n
-  pub vectors : Grid 32 n (b .vectors)
-  pub weights : Grid 32 n (b .weights)
-  pub selectors : Grid 32 (n / 2) (b .selectors)
-  pub predictors : Grid 2 (n - 1) (b .predictors)
-  pub gaps : length (b .gaps) ≡ n + 1
-
-pub narrow-shaped : Shaped 10 narrowBook
-unfolding narrowBook
-narrow-shaped =
-    record {
-      order = refl;
-      vectors = grid-of 32 10 (narrowBook .vectors) refl;
-      weights = grid-of 32 10 (narrowBook .weights) refl;
-      selectors = grid-of 32 5 (narrowBook .selectors) refl;
-      predictors = grid-of 2 9 (narrowBook .predictors) refl;
-      gaps = refl;
-    }
-
-pub wide-shaped : Shaped 16 wideBook
-unfolding wideBook
-wide-shaped =
-    record {
-      order = refl;
-      vectors = grid-of 32 16 (wideBook .vectors) refl;
-      weights = grid-of 32 16 (wideBook .weights) refl;
-      selectors = grid-of 32 8 (wideBook .selectors) refl;
-      predictors = grid-of 2 15 (wideBook .predictors) refl;
-      gaps = refl;
     }

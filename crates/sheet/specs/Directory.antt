@@ -5,9 +5,6 @@ use mathlib.Core.List.{List, []}
 use lib.ListN.{getD}
 use Rattle.sheet.specs.Rows.{sheet}
 
-abbrev pub rowCount : ℕ
-rowCount = 166
-
 unfoldable pub rowOf : ℕ → List ℕ
 rowOf k = getD sheet k []
 

@@ -133,3 +133,9 @@ excitation signal offset n =
     then (of magnitudes (blockLows bs ms)) (λ vs.
     then (of (λ y. y .pulses) (blockSigns signal offset bs vs)) (λ ps.
     done (record { rate = r; blocks = bs; pulses = ps }))))))
+
+-- ---- a slice of n blocks
+
+unfoldable pub rows16 : {A : Type 0} → ℕ → List A → List (List A)
+rows16 zero v = []
+rows16 (suc n) v = take 16 v ∷ rows16 n (drop 16 v)

@@ -16,8 +16,7 @@ use Rattle.entcode.specs.Rules.{sayRule}
 use Rattle.entcode.specs.Writing.{Sent, answered}
 use Rattle.tree.specs.Asks.{symbols}
 use Rattle.tree.specs.Telling.{writtenAll, allSaid}
-use Rattle.silk.specs.PulseSyntax.{row, Block, Excitation, each, count, total, shell, lowBits, signRowOf, sign, excitation}
-use Rattle.silk.specs.PulseBlocks.{rows16}
+use Rattle.silk.specs.PulseSyntax.{row, Block, Excitation, each, count, total, shell, lowBits, signRowOf, sign, excitation, rows16}
 use Rattle.silk.specs.FrameCalls.{pulseNumbersOk, blocksOf}
 
 -- ---- a block with j low bits

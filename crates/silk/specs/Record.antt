@@ -2,8 +2,9 @@
 use Prim.Native.Nat.{ℕ, _/_, _%_}
 use mathlib.Core.List.{List}
 use lib.IntN.{ℤ, pos}
-use lib.ListN.{set}
+use lib.ListN.{set, length}
 use Rattle.silk.specs.declared.Indices.{Indices}
+use mathlib.Core.Path.{_≡_}
 
 -- a record by its fields, so that equal fields make equal records
 abbrev pub made : List ℤ → List ℤ → List ℤ → ℤ → ℤ → ℤ → ℤ → ℤ → ℤ → ℤ → ℤ → Indices
@@ -68,9 +69,6 @@ withContour x v = putContour x (pos v)
 abbrev pub putInterp : Indices → ℤ → Indices
 putInterp x z = made (x .gains) (x .ltp) (x .nlsf) (x .lag) (x .contour) (x .signal) (x .offset) z (x .period) (x .scale) (x .seed)
 
-abbrev pub withInterp : Indices → ℕ → Indices
-withInterp x v = putInterp x (pos v)
-
 abbrev pub putPeriod : Indices → ℤ → Indices
 putPeriod x z = made (x .gains) (x .ltp) (x .nlsf) (x .lag) (x .contour) (x .signal) (x .offset) (x .interp) z (x .scale) (x .seed)
 
@@ -80,11 +78,14 @@ withPeriod x v = putPeriod x (pos v)
 abbrev pub putScale : Indices → ℤ → Indices
 putScale x z = made (x .gains) (x .ltp) (x .nlsf) (x .lag) (x .contour) (x .signal) (x .offset) (x .interp) (x .period) z (x .seed)
 
-abbrev pub withScale : Indices → ℕ → Indices
-withScale x v = putScale x (pos v)
-
 abbrev pub putSeed : Indices → ℤ → Indices
 putSeed x z = made (x .gains) (x .ltp) (x .nlsf) (x .lag) (x .contour) (x .signal) (x .offset) (x .interp) (x .period) (x .scale) z
 
 abbrev pub withSeed : Indices → ℕ → Indices
 withSeed x v = putSeed x (pos v)
+
+-- the arrays' lengths, which a record of the code always has
+pub record Shape (x : Indices) : Type 0 where
+  pub gains : length (x .gains) ≡ 4
+  pub ltp : length (x .ltp) ≡ 4
+  pub nlsf : length (x .nlsf) ≡ 17

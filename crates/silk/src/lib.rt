@@ -19,8 +19,8 @@ pub struct Indices {
     pub seed: i8,
 }
 
-// The setting of a frame: kHz 8, 12 or 16; 2 or 4 subframes; active 0 or 1; mode 0 independent, 1 independent without LTP scaling, 2 conditional;
-// signal type and lag of the frame before.
+// The setting of a frame: kHz 8, 12 or 16; 2 or 4 subframes; active 0 or 1; mode 0 independent, 1 independent without
+// LTP scaling, 2 conditional; signal type and lag of the frame before.
 pub struct Setting {
     pub khz: u32,
     pub subframes: u32,

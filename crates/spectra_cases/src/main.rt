@@ -4,7 +4,7 @@
 ghost use Prim.Native.Nat.{_+_, _*_, _≤_};
 ghost use mathlib.Core.Path.{_≡_};
 ghost use lib.ListN.{length};
-ghost use Rattle.records.specs.Places.{Parted};
+ghost use Rattle.records.specs.Inner.{Parted};
 use libc::STDIN_FILENO;
 use records::ANSWER_BYTES;
 use records::Parts;

@@ -9,10 +9,12 @@ use lib.Dec.{eqb, leb}
 use lib.IntN.{ℤ, pos}
 use lib.ListN.{length, getD, length-map}
 use Rattle.ints.specs.Parts.{up}
-use Rattle.tests.specs.Both.{and-both}
-use Rattle.tests.specs.Choice.{chosen}
-use Rattle.lists.specs.Every.{every, every-at}
-use Rattle.sheet.specs.Books.{Book, narrowBook, wideBook, Shaped, narrow-shaped, wide-shaped}
+use Rattle.deciding.proofs.Both.{and-both}
+use Rattle.deciding.proofs.Choice.{chosen}
+use Rattle.lists.specs.Every.{every}
+use Rattle.lists.proofs.EveryLaws.{every-at}
+use Rattle.sheet.specs.Books.{Book, narrowBook, wideBook}
+use Rattle.sheet.proofs.BooksLaws.{Shaped, narrow-shaped, wide-shaped}
 use Rattle.spectrum.proofs.PlaceLaws.{length-residuals, length-placed}
 use Rattle.spectrum.specs.Calls.{bookOf}
 use Rattle.spectrum.specs.Gaps.{goodGaps}

@@ -9,10 +9,10 @@ use lib.Dec.{eqb, leb}
 use lib.IntN.{ℤ, pos, negsuc}
 use lib.Signed.{leZ}
 use lib.ListN.{length}
-use Rattle.ints.specs.Order.{parts-alone, leZ-true}
+use Rattle.ints.proofs.Order.{parts-alone, leZ-true}
 use Rattle.ints.specs.Parts.{up, down}
-use Rattle.tests.specs.Both.{and-both, in-range}
-use Rattle.tests.specs.Choice.{chosen}
+use Rattle.deciding.proofs.Both.{and-both, in-range}
+use Rattle.deciding.proofs.Choice.{chosen}
 use Rattle.lists.specs.Every.{every}
 use Rattle.ranges.specs.InRange.{inRange}
 use Rattle.spectrum.specs.Calls.{called, answered, lengthsOk, stabiliseRefusal, stabiliseCall, bookOf, placeIndices, numbersOk, decodeRefusal, decoded, decodeCall}

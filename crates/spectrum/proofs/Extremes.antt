@@ -7,10 +7,11 @@ use native.Mathlib.Nat.{not-le-of-lt}
 use lib.Dec.{T}
 use lib.IntN.{ℤ, pos, negsuc}
 use lib.Signed.{ltZ, leZ, _≤ℤ_}
-use Rattle.ints.specs.Order.{leZ-true, leZ-false, ltZ-true, ltZ-false}
+use Rattle.ints.proofs.Order.{leZ-true, leZ-false, ltZ-true, ltZ-false}
 use Rattle.ints.specs.Parts.{up, down}
-use Rattle.tests.specs.Choice.{chosen}
-use Rattle.spectrum.specs.Values.{_≼_, maxZ, minZ, held, half}
+use Rattle.deciding.proofs.Choice.{chosen}
+use Rattle.spectrum.specs.Inner.{_≼_}
+use Rattle.spectrum.specs.Values.{maxZ, minZ, held, half}
 
 module _ {ℓ κ} {A : Type ℓ} (P : A → Type κ) {x y : A} (a b : ℤ) where
   pub chosen-leZ : (a ≼ b → P x) → (b ≼ a → P y) → P (cond (leZ a b) x y)

@@ -10,7 +10,7 @@ use lib.Dec.{ltb}
 use lib.IntN.{ℤ, _+ℤ_, _-ℤ_}
 use lib.Signed.{leZ}
 use lib.ListN.{length}
-use Rattle.ints.specs.Order.{leZ-false}
+use Rattle.ints.proofs.Order.{leZ-false}
 use Rattle.ints.specs.Parts.{up, down}
 use Rattle.spectrum.proofs.Extremes.{min-left, min-right}
 use Rattle.spectrum.proofs.MoveBounds.{first-most}
@@ -19,7 +19,8 @@ use Rattle.spectrum.specs.Distances.{diffs, least, firstLeast, keeps, pl
 use Rattle.spectrum.specs.Fallback.{fallback}
 use Rattle.spectrum.specs.Gaps.{Good}
 use Rattle.spectrum.specs.Stabilising.{Stable, oneMore, run}
-use Rattle.spectrum.specs.Values.{at, top, _≼_, minZ}
+use Rattle.spectrum.specs.Values.{at, top, minZ}
+use Rattle.spectrum.specs.Inner.{_≼_}
 
 pub record First (l : List ℤ) (n r : ℕ) : Type 0 where
   pub within : r < n

@@ -9,16 +9,17 @@ use native.Mathlib.Nat.{suc-inj}
 use lib.Dec.{eqb}
 use lib.IntN.{ℤ, pos, negsuc, _+ℤ_, _-ℤ_}
 use lib.ListN.{length, set, drop, length-set}
-use Rattle.ints.specs.Order.{leZ-true}
+use Rattle.ints.proofs.Order.{leZ-true}
 use Rattle.ints.specs.Parts.{up, down}
-use Rattle.ints.specs.Sums.{sum-parts, up-sum, down-sum, diff-parts}
-use Rattle.tests.specs.Choice.{chosen}
+use Rattle.ints.proofs.Sums.{sum-parts, up-sum, down-sum, diff-parts}
+use Rattle.deciding.proofs.Choice.{chosen}
 use Rattle.spectrum.proofs.Extremes.{chosen-leZ, le-leZ, max-right, min-left, min-right, min-least, held-above}
 use Rattle.spectrum.specs.Distances.{diffs, least, keeps, place, newLow, newHigh, move}
 use Rattle.spectrum.specs.Fallback.{insert, sorted, sat16, climb, raised, front, lowered, fallback}
 use Rattle.spectrum.specs.Gaps.{Good}
 use Rattle.spectrum.specs.Stabilising.{Stable, oneMore, run}
-use Rattle.spectrum.specs.Values.{at, top, _≼_, maxZ, minZ, total}
+use Rattle.spectrum.specs.Values.{at, top, maxZ, minZ, total}
+use Rattle.spectrum.specs.Inner.{_≼_}
 
 unfoldable pub Kept : ℤ → List ℤ → List ℤ → Type 0
 Kept p [] [] = ⊥

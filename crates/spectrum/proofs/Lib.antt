@@ -1,3 +1,5 @@
+pub mod StoresLaws
+pub mod Cases
 pub mod Extremes
 pub mod Widened
 pub mod SumLaws

@@ -12,11 +12,11 @@ use lib.Dec.{eqb}
 use lib.IntN.{ℤ, pos, negsuc, _+ℤ_, _-ℤ_}
 use lib.Signed.{leZ}
 use lib.ListN.{length, take, drop}
-use Rattle.ints.specs.Order.{parts-alone}
+use Rattle.ints.proofs.Order.{parts-alone}
 use Rattle.ints.specs.Parts.{up, down}
-use Rattle.ints.specs.Sums.{up-sum, down-sum, up-diff, down-diff}
-use Rattle.tests.specs.Both.{both-and}
-use Rattle.tests.specs.Choice.{chosen}
+use Rattle.ints.proofs.Sums.{up-sum, down-sum, up-diff, down-diff}
+use Rattle.deciding.proofs.Both.{both-and}
+use Rattle.deciding.proofs.Choice.{chosen}
 use Rattle.lists.specs.Every.{every}
 use Rattle.spectrum.proofs.Extremes.{le-leZ, held-least, held-most, half-nat}
 use Rattle.spectrum.proofs.Kept.{good-total, length-move}
@@ -25,8 +25,10 @@ use Rattle.spectrum.specs.Distances.{diffs, least, firstLeast, keeps, pl
 use Rattle.spectrum.specs.Gaps.{Good, Ruled}
 use Rattle.spectrum.specs.Stabilising.{stabilise, kept16}
 use Rattle.spectrum.specs.Statement.{SameTwo}
-use Rattle.spectrum.specs.Stores.{fits16, Keeps16, stores, calm}
-use Rattle.spectrum.specs.Values.{at, top, _≼_, held, half, total}
+use Rattle.spectrum.specs.Stores.{fits16, stores, calm}
+use Rattle.spectrum.proofs.StoresLaws.{Keeps16}
+use Rattle.spectrum.specs.Values.{at, top, held, half, total}
+use Rattle.spectrum.specs.Inner.{_≼_}
 
 pub good-at : (g : List ℤ) → Good g → (i : ℕ) → (down (at g i) ≡ 0) × (up (at g i) ≤ up (total g))
 unfolding Good total

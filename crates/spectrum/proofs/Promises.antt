@@ -10,7 +10,7 @@ use lib.IntN.{ℤ, pos}
 use lib.ListN.{length, drop, length-drop}
 use lib.Seq.{length-take-le}
 use Rattle.ints.specs.Parts.{up}
-use Rattle.tests.specs.Choice.{chosen}
+use Rattle.deciding.proofs.Choice.{chosen}
 use Rattle.spectrum.proofs.BookLaws.{book-usable, places-long, gaps-long}
 use Rattle.spectrum.proofs.CallLaws.{Lengths, lengths-are, stabilise-accepted, stabilise-answers, Accepted, decode-accepted, decode-answers}
 use Rattle.spectrum.proofs.MoveBounds.{same-two}
@@ -19,8 +19,7 @@ use Rattle.spectrum.specs.Calls.{Called, called, answered, stabiliseRefu
 use Rattle.spectrum.specs.Gaps.{goodGaps, EveryGap}
 use Rattle.spectrum.specs.Places.{places}
 use Rattle.spectrum.specs.Stabilising.{Stable, stabilise, kept16, whole}
-use Rattle.spectrum.specs.Statement.{Stabilises, StabiliseMoves, StabiliseGaps, StabiliseStays, StabiliseStayed}
-use Rattle.spectrum.specs.Statement.{Decodes, DecodeMoves, DecodeGaps, DecodeWhole}
+use Rattle.spectrum.specs.Statement.{Stabilises, StabiliseMoves, StabiliseGaps, StabiliseStays, StabiliseStayed, Decodes, DecodeMoves, DecodeGaps, DecodeWhole}
 use Rattle.spectrum.specs.Values.{at}
 use Rattle.spectrum.specs.declared.Spectrum.{Spectrum}
 

@@ -8,10 +8,10 @@ use native.Mathlib.Nat.{mul-le-mul, div-le-self}
 use lib.IntN.{ℤ, pos, negsuc, _+ℤ_, _*ℤ_}
 use lib.Signed.{shrZ, quotZ}
 use lib.ListN.{length}
-use Rattle.ints.specs.Order.{parts-alone}
+use Rattle.ints.proofs.Order.{parts-alone}
 use Rattle.ints.specs.Parts.{up, down}
-use Rattle.ints.specs.Quotients.{up-quot, down-quot}
-use Rattle.ints.specs.Sums.{up-sum, down-sum, up-diff, down-diff, up-times, down-times}
+use Rattle.ints.proofs.Quotients.{up-quot, down-quot}
+use Rattle.ints.proofs.Sums.{up-sum, down-sum, up-diff, down-diff, up-times, down-times}
 use Rattle.spectrum.proofs.Extremes.{chosen-ltZ, held-least, held-most}
 use Rattle.spectrum.specs.Places.{placed}
 use Rattle.spectrum.specs.Residuals.{nudged, scaled, predicted, leading, residuals}

@@ -9,20 +9,20 @@ use native.Mathlib.Nat.{suc-inj, not-suc-le-zero, le-of-suc-le-suc}
 use lib.IntN.{ℤ, pos, _+ℤ_}
 use lib.Signed.{leZ}
 use lib.ListN.{length}
-use Rattle.ints.specs.Order.{parts-alone, leZ-true, parts-le}
+use Rattle.ints.proofs.Order.{parts-alone, leZ-true, parts-le}
 use Rattle.ints.specs.Parts.{up, down}
-use Rattle.ints.specs.Sums.{sum-parts}
-use Rattle.tests.specs.Both.{and-both}
+use Rattle.ints.proofs.Sums.{sum-parts}
+use Rattle.deciding.proofs.Both.{and-both}
 use Rattle.lists.specs.Every.{every}
 use Rattle.spectrum.proofs.Extremes.{le-parts}
-use Rattle.spectrum.proofs.Kept.{Kept, good-total, kept-keeps, keeps-kept, fallback-kept, length-fallback}
-use Rattle.spectrum.proofs.Kept.{length-run, run-kept, moves-most, run-still, run-moved}
+use Rattle.spectrum.proofs.Kept.{Kept, good-total, kept-keeps, keeps-kept, fallback-kept, length-fallback, length-run, run-kept, moves-most, run-still, run-moved}
 use Rattle.spectrum.specs.Distances.{keeps}
 use Rattle.spectrum.specs.Fallback.{fallback}
 use Rattle.spectrum.specs.Gaps.{goodGaps, Good, Ruled, EveryGap}
 use Rattle.spectrum.specs.Stabilising.{stabilise}
 use Rattle.spectrum.specs.Statement.{StoresGaps, Twice, ResultWithin}
-use Rattle.spectrum.specs.Values.{at, top, _≼_, total, Within}
+use Rattle.spectrum.specs.Values.{at, top, total, Within}
+use Rattle.spectrum.specs.Inner.{_≼_}
 
 -- ---- the gap set's test
 

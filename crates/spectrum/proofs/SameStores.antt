@@ -9,14 +9,15 @@ use lib.Dec.{eqb}
 use lib.IntN.{ℤ, pos, negsuc, _+ℤ_, _-ℤ_}
 use lib.Signed.{leZ}
 use lib.ListN.{length, set}
-use Rattle.ints.specs.Order.{parts-alone, leZ-true}
-use Rattle.ints.specs.Wrapping.{wrap16-is}
-use Rattle.tests.specs.Both.{and-both}
+use Rattle.ints.proofs.Order.{parts-alone, leZ-true}
+use Rattle.ints.proofs.Wrapping.{wrap16-is}
+use Rattle.deciding.proofs.Both.{and-both}
 use Rattle.lists.specs.Every.{every}
 use Rattle.spectrum.specs.Distances.{keeps, place, centre, newLow, newHigh, move}
 use Rattle.spectrum.specs.Stabilising.{oneMore, run, stabilise, kept16, whole}
 use Rattle.spectrum.specs.Statement.{SameStabiliser}
-use Rattle.spectrum.specs.Stores.{fits16, Keeps16, stores, calm}
+use Rattle.spectrum.specs.Stores.{fits16, stores, calm}
+use Rattle.spectrum.proofs.StoresLaws.{Keeps16}
 use Rattle.spectrum.specs.Values.{at, top, half}
 
 pub kept16-keeps : Keeps16 kept16

@@ -7,8 +7,8 @@ use native.Mathlib.Omega.{arith}
 use native.Mathlib.Nat.{suc-inj}
 use lib.IntN.{ℤ, pos, negsuc, _+ℤ_, _-ℤ_}
 use lib.ListN.{length}
-use Rattle.ints.specs.Order.{parts-same}
-use Rattle.ints.specs.Sums.{sum-parts, diff-parts}
+use Rattle.ints.proofs.Order.{parts-same}
+use Rattle.ints.proofs.Sums.{sum-parts, diff-parts}
 use Rattle.spectrum.proofs.Extremes.{chosen-leZ, chosen-ltZ, le-leZ}
 use Rattle.spectrum.proofs.Kept.{Kept, keeps-kept, run-still}
 use Rattle.spectrum.proofs.MoveBounds.{good-at}
@@ -18,7 +18,8 @@ use Rattle.spectrum.specs.Fallback.{sorted, sat16, climb, raised, front,
 use Rattle.spectrum.specs.Gaps.{Good}
 use Rattle.spectrum.specs.Stabilising.{run}
 use Rattle.spectrum.specs.Statement.{RunSettled}
-use Rattle.spectrum.specs.Values.{at, _≼_, maxZ, minZ, held}
+use Rattle.spectrum.specs.Values.{at, maxZ, minZ, held}
+use Rattle.spectrum.specs.Inner.{_≼_}
 
 max-own : (a b : ℤ) → b ≼ a → maxZ a b ≡ a
 unfolding maxZ

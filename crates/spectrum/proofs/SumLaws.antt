@@ -11,8 +11,8 @@ use lib.Seq.{take-suc}
 use mir.Syntax.{w16, w32}
 use mir.Val.{SFits, toZ, ofZ}
 use Rattle.ints.specs.Parts.{up, down}
-use Rattle.ints.specs.Sums.{up-sum, down-sum}
-use Rattle.ints.specs.Widths.{fits-up, fits-down, parts-fit}
+use Rattle.ints.proofs.Sums.{up-sum, down-sum}
+use Rattle.ints.proofs.Widths.{fits-up, fits-down, parts-fit}
 use Rattle.lists.specs.Every.{every}
 use Rattle.spectrum.specs.Values.{at, total}
 use Rattle.spectrum.proofs.Widened.{read16}

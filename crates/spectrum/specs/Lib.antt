@@ -6,7 +6,6 @@ pub mod Distances
 pub mod Fallback
 pub mod Stabilising
 pub mod Stores
-pub mod Order
 pub mod Calls
 pub mod Statement
-pub mod Cases
+pub mod Inner

@@ -1,6 +1,6 @@
--- What document 01 and RFC 6716, section 4.2.7.5, say of the two calls on a vector besides their definitions: how many moves are
--- made, which gaps are kept, when a vector stays, where the values lie, and that moves in whole numbers would give the same. `store`
--- is what is kept of a number that a move stores. Assumes nothing.
+-- What document 01 and RFC 6716, section 4.2.7.5, say of the two calls on a vector besides their definitions: how
+-- many moves are made, which gaps are kept, when a vector stays, where the values lie, and that moves in whole
+-- numbers would give the same. `store` is what is kept of a number that a move stores. Assumes nothing.
 use Prim.Native.Nat.{ℕ, suc, _≤_, _<_}
 use mathlib.Core.Path.{_≡_}
 use mathlib.Core.Bool.{true}

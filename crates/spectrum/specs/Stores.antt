@@ -1,7 +1,6 @@
 -- The numbers that the moves store, before 16 bits are kept of them, and whether one of them leaves 16 bits. Assumes
 -- nothing.
 use Prim.Native.Nat.{ℕ, zero, suc}
-use mathlib.Core.Path.{_≡_}
 use mathlib.Core.Bool.{Bool, true, _&&_, cond}
 use mathlib.Core.List.{List, [], _∷_}
 use lib.Dec.{eqb}
@@ -14,10 +13,6 @@ use Rattle.spectrum.specs.Values.{at, top, half}
 
 unfoldable pub fits16 : ℤ → Bool
 fits16 z = leZ (negsuc 32767) z && leZ z (pos 32767)
-
--- a store that keeps a number of 16 bits as it is
-abbrev pub Keeps16 : (ℤ → ℤ) → Type 0
-Keeps16 store = (z : ℤ) → fits16 z ≡ true → store z ≡ z
 
 -- what a move at place i stores, in order
 unfoldable pub stores : (ℤ → ℤ) → List ℤ → List ℤ → ℕ → List ℤ

@@ -1,6 +1,6 @@
 -- The values of a line spectrum: whole numbers, in 32,768ths of half the sampling rate. A vector is a list of them,
 -- what a `&[i16]` is in a contract. Assumes nothing.
-use Prim.Native.Nat.{ℕ, _+_, _≤_}
+use Prim.Native.Nat.{ℕ, _≤_}
 use mathlib.Core.Bool.{cond}
 use mathlib.Core.List.{List, [], _∷_}
 use lib.IntN.{ℤ, pos, _+ℤ_}
@@ -14,11 +14,6 @@ at s i = getD s i (pos 0)
 -- the end of the scale
 abbrev pub top : ℤ
 top = pos 32768
-
--- a is at most b: an inequality of naturals, which `omega` reads as it stands
-infix 50 _≼_
-abbrev pub _≼_ : ℤ → ℤ → Type 0
-a ≼ b = up a + down b ≤ up b + down a
 
 unfoldable pub maxZ : ℤ → ℤ → ℤ
 maxZ a b = cond (leZ a b) b a

@@ -1,4 +1,2 @@
 pub mod StabiliserText
-pub mod Answers
-pub mod Cases
-pub mod Longer
+pub mod Inner

@@ -1,5 +1,5 @@
--- What the stabiliser program prints (document 01): its input is a vector and a gap section, each after a one-byte count, of values of
--- two bytes, high first. Assumes nothing.
+-- What the stabiliser program prints (document 01): its input is a vector and a gap section, each after a one-byte
+-- count, of values of two bytes, high first. Assumes nothing.
 use Prim.Native.Nat.{ℕ, _+_, _*_}
 use mathlib.Core.Bool.{Bool, cond}
 use mathlib.Core.List.{List, [], _∷_, _++_}

@@ -2,9 +2,9 @@
 ghost use Prim.Native.Nat.{_+_, _*_, _≤_};
 ghost use mathlib.Core.Path.{_≡_};
 ghost use lib.ListN.{length};
-ghost use Rattle.numerals.specs.Put.{Put};
+ghost use Rattle.numerals.specs.Inner.{Put};
 ghost use Rattle.listing.specs.Printed.{printed};
-ghost use Rattle.stabiliser_text.specs.Answers.{Small};
+ghost use Rattle.stabiliser_text.specs.Inner.{Small};
 ghost use Rattle.stabiliser_text.specs.StabiliserText.{answerText, sectionsText, stabiliserText};
 use listing::put_counted_run;
 use listing::put_line_run;

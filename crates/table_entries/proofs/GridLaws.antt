@@ -7,9 +7,11 @@ use native.Mathlib.Omega.{arith}
 use lib.IntN.{ℤ, pos}
 use lib.ListN.{getD, List·getD-eq-default, List·getD-map}
 use Rattle.ints.specs.Parts.{up}
-use Rattle.lists.specs.Rows.{Grid, getD-inside, grid-past, grid-inside}
-use Rattle.sheet.specs.Books.{Book, Shaped}
-use Rattle.tables.specs.PredictorRow.{predictorRow, predictor-row-at}
+use Rattle.lists.proofs.Rows.{Grid, getD-inside, grid-past, grid-inside}
+use Rattle.sheet.specs.Books.{Book}
+use Rattle.sheet.proofs.BooksLaws.{Shaped}
+use Rattle.tables.specs.Inner.{predictorRow}
+use Rattle.tables.proofs.PredictorRow.{predictor-row-at}
 use Rattle.table_entries.specs.Entries.{noEntry}
 
 -- ---- rows of w entries each: entry i stands in row i / w at i mod w

@@ -1,14 +1,9 @@
 -- Every constant by a number, as one flat list. Assumes nothing.
 use Prim.Native.Nat.{ℕ}
-use mathlib.Core.Bool.{Bool, cond}
 use mathlib.Core.List.{List, [], _∷_, _++_, flatten}
 use lib.ListN.{getD}
 use Rattle.sheet.specs.Rows.{headerRows, indexRows, pulseRows}
 use Rattle.sheet.specs.Books.{Book, narrowBook, wideBook}
-
--- a book by whether it is the wide one
-abbrev pub bookBy : Bool → Book
-bookBy wide = cond wide wideBook narrowBook
 
 -- the tables of a book
 abbrev pub bookTables : Book → List (List ℕ)

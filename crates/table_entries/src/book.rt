@@ -1,9 +1,11 @@
-// Entries of a book, table by table: of the wide one, or of the narrow one. The rows of a table are as long as a constant of its arm.
+// Entries of a book, table by table: of the wide one, or of the narrow one. The rows of a table are as long as a
+// constant of its arm.
 ghost use mathlib.Core.Path.{_≡_};
 ghost use Prim.Native.Nat.{_<_};
 ghost use mathlib.Core.List.{[], flatten};
 ghost use lib.ListN.{getD};
-ghost use Rattle.table_entries.specs.Entries.{noEntry, bookBy, bookTables};
+ghost use Rattle.table_entries.specs.Entries.{noEntry, bookTables};
+ghost use Rattle.table_entries.specs.Inner.{bookBy};
 use crate::entry::NO_ENTRY;
 use crate::entry::byte;
 use crate::entry::gap;

@@ -30,8 +30,9 @@ fn row_entry(table: u32, place: usize) -> u32
     byte_at(&t, place)
 }
 
-// The entry of a table by its number: 0 to 2 the rows of header, indices and pulses; 3 to 7 the narrow book's vectors, weights, selectors,
-// predictors and gaps; 8 to 12 those of the wide book. 65,536 past a table's end, and for any other number.
+// The entry of a table by its number: 0 to 2 the rows of header, indices and pulses; 3 to 7 the narrow book's
+// vectors, weights, selectors, predictors and gaps; 8 to 12 those of the wide book. 65,536 past a table's end, and
+// for any other number.
 #[no_mangle]
 pub extern "C" fn tg_table_entry(table: u32, place: usize) -> u32
     ensures { λ r. ⌜ r ≡ entryOf table place ⌝ }

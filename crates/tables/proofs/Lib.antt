@@ -1,1 +1,2 @@
+pub mod PredictorRow
 pub mod Arms

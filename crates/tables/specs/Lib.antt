@@ -1,1 +1,1 @@
-pub mod PredictorRow
+pub mod Inner

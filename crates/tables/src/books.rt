@@ -1,12 +1,13 @@
-// The two spectrum books: narrow for 8 and 12 kHz, wide for 16 kHz. The rows of a vector stand in the arms of a lookup by its number, which is
-// compiled to loads from read-only data; a constant of all rows would be stored anew at each use.
+// The two spectrum books: narrow for 8 and 12 kHz, wide for 16 kHz. The rows of a vector stand in the arms of a
+// lookup by its number, which is compiled to loads from read-only data; a constant of all rows would be stored anew
+// at each use.
 ghost use mathlib.Core.Path.{_≡_};
 ghost use Prim.Native.Nat.{_<_};
 ghost use mathlib.Core.List.{[], map};
 ghost use lib.IntN.{pos};
 ghost use lib.ListN.{getD};
 ghost use Rattle.sheet.specs.Books.{narrowBook, wideBook};
-ghost use Rattle.tables.specs.PredictorRow.{predictorRow};
+ghost use Rattle.tables.specs.Inner.{predictorRow};
 
 // Vector v, in 256ths.
 pub fn narrow_vector_run(v: usize) -> [u8; 10]

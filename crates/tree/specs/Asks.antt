@@ -2,7 +2,6 @@
 -- Running a tree on a reader is what a decoder answers; the symbols that a record says along it are what an encoder
 -- writes. Assumes nothing.
 use Prim.Native.Nat.{ℕ}
-use mathlib.Core.Path.{_≡_}
 use mathlib.Core.List.{List, [], _∷_}
 use Rattle.entcode.specs.declared.Dec.{Dec}
 use Rattle.entcode.specs.Models.{Model, Sym}
@@ -49,17 +48,3 @@ symbols y (ask m w f) = record { model = m; value = w y } ∷ symbols y (f (w y)
 unfoldable pub meant : {R A : Type 0} → R → Asks R A → A
 meant y (done x) = x
 meant y (ask m w f) = meant y (f (w y))
-
--- ---- symbols and trees
-
--- the symbols lead through the tree to x
-abbrev pub Leads : {R A : Type 0} → Asks R A → List Sym → A → Type 0
-Leads (done y) [] x = y ≡ x
-Leads (done y) (q ∷ l) x = ⊥
-Leads (ask m w f) [] x = ⊥
-Leads (ask m w f) (q ∷ l) x = (q .model ≡ m) × Leads (f (q .value)) l x
-
--- a reader that is asked the symbols' models one after the other gives their values, and ends as z
-abbrev pub Gives : List ℕ → Dec → List Sym → Dec → Type 0
-Gives b d [] z = d ≡ z
-Gives b d (q ∷ l) z = (readVal b (q .model) d ≡ q .value) × Gives b (readNext b (q .model) d) l z

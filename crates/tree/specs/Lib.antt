@@ -1,10 +1,3 @@
-pub mod Always
 pub mod Asks
-pub mod AsksLaws
-pub mod Outcomes
 pub mod Telling
-pub mod Says
-pub mod Told
-pub mod SoundTelling
-pub mod Ran
-pub mod Through
+pub mod Inner

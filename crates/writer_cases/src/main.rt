@@ -3,8 +3,7 @@
 // of the first that did not.
 ghost use Prim.Native.Nat.{_+_, _≤_};
 ghost use lib.ListN.{length};
-ghost use Rattle.records.specs.Layout.{stateBytes};
-ghost use Rattle.records.specs.Places.{Placed, Parted};
+ghost use Rattle.records.specs.Inner.{stateBytes, Placed, Parted};
 use entcode::Enc;
 use entcode::Encoded;
 use libc::STDIN_FILENO;

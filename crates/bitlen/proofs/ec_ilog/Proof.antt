@@ -1,6 +1,6 @@
 -- `ec_ilog` meets its contract: leading zeros and bit length share the 32 digits. Assumes nothing.
 use native.Mathlib.Omega.{arith}
-use Rattle.bitlen.specs.LengthLaws.{leading-zeros-length}
+use Rattle.bitlen.proofs.LengthLaws.{leading-zeros-length}
 use Rattle.bitlen.proofs.ec_ilog.Statement.{statement}
 use Rattle.bitlen.proofs.ec_ilog.Tie as tie
 

@@ -8,10 +8,10 @@ use mir.Syntax.{w8}
 use mir.Val.{toZ}
 use mir.Facts.{toZ-pos}
 use Rattle.entcode.specs.declared.Dec.{Dec}
-use Rattle.tree.specs.Ran.{ran-bind}
-use Rattle.silk.specs.IndexRows.{Reading}
+use Rattle.tree.proofs.Ran.{ran-bind}
+use Rattle.silk.specs.Inner.Indices.{Reading}
 use Rattle.silk.specs.IndexSyntax.{indices}
-use Rattle.silk.specs.IndexSteps.{reading-next}
+use Rattle.silk.proofs.IndexSteps.{reading-next}
 use Rattle.decode_indices.proofs.all_indices.Statement.{statement}
 use Rattle.decode_indices.proofs.all_indices.Tie as tie
 

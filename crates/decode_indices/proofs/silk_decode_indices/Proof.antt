@@ -6,14 +6,14 @@ use native.Mathlib.Omega.{arith}
 use mir.Syntax.{w16}
 use mir.Val.{SFits}
 use mir.Facts.{toZ-ofZ}
-use Rattle.entcode.specs.ReaderLaws.{Bytes}
+use Rattle.entcode.specs.Reader.{Bytes}
 use Rattle.tree.specs.Asks.{Got}
 use Rattle.silk.specs.declared.Indices.{Indices}
-use Rattle.silk.specs.IndexRows.{index-rows}
-use Rattle.silk.specs.IndexParts.{Upto}
-use Rattle.silk.specs.IndexRanges.{Shape}
+use Rattle.silk.proofs.IndexRows.{index-rows}
+use Rattle.silk.specs.Inner.Indices.{Upto}
+use Rattle.silk.specs.Record.{Shape}
 use Rattle.silk.specs.FrameCalls.{indicesRule, indicesGot}
-use Rattle.silk.specs.IndexCalls.{Accepts, rule-accepts, indices-ended, indices-runs, indices-refused}
+use Rattle.silk.proofs.IndexCalls.{Accepts, rule-accepts, indices-ended, indices-runs, indices-refused}
 use Rattle.decode_indices.proofs.silk_decode_indices.Statement.{statement}
 use Rattle.decode_indices.proofs.silk_decode_indices.Tie as tie
 

@@ -2,7 +2,7 @@
 use borrow.Author.Needs.{needs}
 use native.Mathlib.Omega.{arith}
 use borrow.Author.Tests.{eq-eqb, ne-eqb}
-use Rattle.tree.specs.Ran.{ran-done, ran-within}
+use Rattle.tree.proofs.Ran.{ran-done, ran-within}
 use Rattle.silk.specs.IndexSyntax.{voicing}
 use Rattle.decode_indices.proofs.voicing_index.Statement.{statement}
 use Rattle.decode_indices.proofs.voicing_index.Tie as tie

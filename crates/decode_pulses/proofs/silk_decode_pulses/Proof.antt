@@ -4,13 +4,14 @@ use Prim.Native.Nat.{ℕ}
 use native.Mathlib.Omega.{arith}
 use mathlib.Core.Path.{_≡_, sym, ap₂, subst, _∙_}
 use lib.ListN.{length}
-use Rattle.refusals.specs.First.{firstOf, first-none}
+use Rattle.refusals.specs.First.{firstOf}
+use Rattle.refusals.proofs.FirstLaws.{first-none}
 use Rattle.entcode.specs.Sound.{gateR}
-use Rattle.entcode.specs.ReadingLaws.{Open, gate-open}
+use Rattle.entcode.proofs.ReadingLaws.{Open, gate-open}
 use Rattle.silk.specs.FrameCalls.{pulseRule, pulsesRule}
-use Rattle.silk.specs.PulseRowLaws.{pulse-rows}
-use Rattle.silk.specs.PulseCallLaws.{PulseOpen, pulse-open, blocks-most, pulses-read, pulses-refused}
-use Rattle.decode_pulses_run.specs.Excited.{Excited}
+use Rattle.silk.proofs.PulseRowLaws.{pulse-rows}
+use Rattle.silk.proofs.PulseCallLaws.{PulseOpen, pulse-open, blocks-most, pulses-read, pulses-refused}
+use Rattle.decode_pulses_run.specs.Inner.{Excited}
 use Rattle.decode_pulses.proofs.silk_decode_pulses.Statement.{statement}
 use Rattle.decode_pulses.proofs.silk_decode_pulses.Tie as tie
 

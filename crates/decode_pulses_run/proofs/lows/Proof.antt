@@ -3,10 +3,10 @@ use borrow.Author.Needs.{needs}
 use Prim.Native.Nat.{_-_}
 use native.Mathlib.Omega.{arith}
 use mathlib.Core.Path.{sym, _∙_}
-use Rattle.silk.specs.PulsePlaces.{mags}
-use Rattle.silk.specs.PulseRowLaws.{low-bit-in}
-use Rattle.silk.specs.PulseBlocks.{rows16}
-use Rattle.silk.specs.PulseRounds.{Lowering}
+use Rattle.silk.specs.Inner.Pulses.{mags}
+use Rattle.silk.proofs.PulseRowLaws.{low-bit-in}
+use Rattle.silk.specs.PulseSyntax.{rows16}
+use Rattle.silk.proofs.PulseRounds.{Lowering}
 use Rattle.decode_pulses_run.proofs.Rounds.{round-start, round-fits, round-natural, round-has, round-size, round-next, round-kept, round-end}
 use Rattle.decode_pulses_run.proofs.lows.Statement.{statement}
 use Rattle.decode_pulses_run.proofs.lows.Tie as tie

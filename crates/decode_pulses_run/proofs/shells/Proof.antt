@@ -5,7 +5,7 @@ use native.Mathlib.Omega.{arith}
 use mathlib.Core.Path.{_≡_, sym, _∙_}
 use borrow.Rule.Slice.PartMut.{mid-len}
 use lib.ListN.{length}
-use Rattle.silk.specs.PulseRounds.{Splitting, splitting-start, splitting-size, splitting-next, splitting-end}
+use Rattle.silk.proofs.PulseRounds.{Splitting, splitting-start, splitting-size, splitting-next, splitting-end}
 use Rattle.decode_pulses_run.proofs.shells.Statement.{statement}
 use Rattle.decode_pulses_run.proofs.shells.Tie as tie
 

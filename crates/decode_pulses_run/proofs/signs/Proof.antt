@@ -6,12 +6,11 @@ use mathlib.Core.Path.{_≡_, sym, subst, _∙_}
 use mathlib.Core.List.{List, map-id}
 use lib.IntN.{pos}
 use lib.ListN.{length, getD, take, drop}
-use Rattle.tree.specs.Ran.{Ran}
-use Rattle.silk.specs.PulseSyntax.{each, signRowOf, sign}
-use Rattle.silk.specs.PulsePlaces.{mags}
-use Rattle.silk.specs.PulseRowLaws.{sign-good, sign-ends, sign-lent}
-use Rattle.silk.specs.PulseBlocks.{rows16}
-use Rattle.silk.specs.PulseRounds.{Signing, blockOf}
+use Rattle.tree.specs.Inner.Ran.{Ran}
+use Rattle.silk.specs.PulseSyntax.{each, signRowOf, sign, rows16}
+use Rattle.silk.specs.Inner.Pulses.{mags}
+use Rattle.silk.proofs.PulseRowLaws.{sign-good, sign-ends, sign-lent}
+use Rattle.silk.proofs.PulseRounds.{Signing, blockOf}
 use Rattle.decode_pulses_run.proofs.Rounds.{round-start, round-fits, round-natural, round-size, round-next, round-kept, round-end}
 use Rattle.decode_pulses_run.proofs.signs.Statement.{statement}
 use Rattle.decode_pulses_run.proofs.signs.Tie as tie

@@ -5,10 +5,11 @@ use native.Mathlib.Omega.{arith}
 use mathlib.Core.Path.{_≡_, ap, _∙_}
 use lib.ListN.{length, take, drop}
 use Rattle.sheet.specs.Directory.{rowOf}
-use Rattle.sheet.specs.Families.{rate-stands}
-use Rattle.sheet.specs.SheetRule.{row-good}
-use Rattle.silk.specs.PulseRowLaws.{rate-in}
-use Rattle.silk.specs.PulseBlocks.{Small, Sixteen, turned-held}
+use Rattle.sheet.proofs.Families.{rate-stands}
+use Rattle.sheet.proofs.SheetRule.{row-good}
+use Rattle.silk.proofs.PulseRowLaws.{rate-in}
+use Rattle.silk.specs.Inner.Pulses.{Small, Sixteen}
+use Rattle.silk.proofs.PulseBlocks.{turned-held}
 use Rattle.decode_pulses_run.proofs.Chain.{chain}
 use Rattle.decode_pulses_run.proofs.silk_decode_pulses_run.Statement.{statement}
 use Rattle.decode_pulses_run.proofs.silk_decode_pulses_run.Tie as tie

@@ -7,10 +7,10 @@ use native.Mathlib.Omega.{arith}
 use lib.IntN.{pos}
 use Rattle.entcode.specs.declared.Enc.{Enc}
 use Rattle.entcode.specs.Flat.{out}
-use Rattle.silk.specs.IndexRows.{Writing}
-use Rattle.silk.specs.IndexRanges.{Shape}
-use Rattle.silk.specs.IndexTold.{writing-next}
-use Rattle.encode_indices.specs.Parts.{parts-told}
+use Rattle.silk.specs.Inner.Indices.{Writing}
+use Rattle.silk.specs.Record.{Shape}
+use Rattle.silk.proofs.IndexTold.{writing-next}
+use Rattle.encode_indices.proofs.Parts.{parts-told}
 use Rattle.encode_indices.proofs.all_tell.Statement.{statement}
 use Rattle.encode_indices.proofs.all_tell.Tie as tie
 

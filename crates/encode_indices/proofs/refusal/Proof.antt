@@ -5,10 +5,10 @@ use mathlib.Core.Bool.{Bool, cond}
 use Rattle.refusals.specs.First.{firstOf}
 use Rattle.entcode.specs.Flat.{Out, out}
 use Rattle.entcode.specs.Sound.{gateW}
-use Rattle.silk.specs.IndexRanges.{Shape}
+use Rattle.silk.specs.Record.{Shape}
 use Rattle.silk.specs.FrameCalls.{settingOk}
 use Rattle.silk.specs.IndexWriting.{tellRule}
-use Rattle.encode_indices.specs.Calls.{rule-chosen, rule-early, rule-fields}
+use Rattle.encode_indices.proofs.Calls.{rule-chosen, rule-early, rule-fields}
 use Rattle.encode_indices.proofs.refusal.Statement.{statement}
 use Rattle.encode_indices.proofs.refusal.Tie as tie
 

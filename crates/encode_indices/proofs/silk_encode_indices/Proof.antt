@@ -7,10 +7,11 @@ use mir.Val.{SFits}
 use mir.Facts.{toZ-ofZ}
 use Rattle.entcode.specs.Flat.{Out, out}
 use Rattle.silk.specs.declared.IndicesWritten.{IndicesWritten}
-use Rattle.silk.specs.IndexRows.{index-rows}
-use Rattle.silk.specs.IndexRanges.{Shape}
-use Rattle.silk.specs.IndexWriting.{tellRule, IndicesSent, indicesTold, indices-told, indices-untold}
-use Rattle.encode_indices.specs.Calls.{Takes, rule-takes}
+use Rattle.silk.proofs.IndexRows.{index-rows}
+use Rattle.silk.specs.Record.{Shape}
+use Rattle.silk.specs.IndexWriting.{tellRule, IndicesSent, indicesTold}
+use Rattle.silk.proofs.IndexWritingLaws.{indices-told, indices-untold}
+use Rattle.encode_indices.proofs.Calls.{Takes, rule-takes}
 use Rattle.encode_indices.proofs.silk_encode_indices.Statement.{statement}
 use Rattle.encode_indices.proofs.silk_encode_indices.Tie as tie
 

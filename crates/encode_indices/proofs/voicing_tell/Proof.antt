@@ -2,7 +2,7 @@
 use borrow.Author.Needs.{needs}
 use native.Mathlib.Omega.{arith}
 use borrow.Author.Tests.{eq-eqb, ne-eqb}
-use Rattle.tree.specs.Told.{told-done, told-within}
+use Rattle.tree.proofs.Told.{told-done, told-within}
 use Rattle.silk.specs.IndexSyntax.{voicing}
 use Rattle.encode_indices.proofs.voicing_tell.Statement.{statement}
 use Rattle.encode_indices.proofs.voicing_tell.Tie as tie

@@ -10,10 +10,10 @@ use Rattle.refusals.specs.First.{firstOf}
 use Rattle.entcode.specs.Flat.{out}
 use Rattle.entcode.specs.Sound.{gateW}
 use Rattle.entcode.specs.Writing.{sent}
-use Rattle.silk.specs.PulseRowLaws.{pulse-rows}
-use Rattle.silk.specs.PulseCallLaws.{blocks-most}
+use Rattle.silk.proofs.PulseRowLaws.{pulse-rows}
+use Rattle.silk.proofs.PulseCallLaws.{blocks-most}
 use Rattle.silk.specs.PulseWriting.{writeNumbers}
-use Rattle.silk.specs.PulseSent.{Entered, entered, pulses-early, pulses-unfit, pulses-sent}
+use Rattle.silk.proofs.PulseSent.{Entered, entered, pulses-early, pulses-unfit, pulses-sent}
 use Rattle.encode_pulses.proofs.Plan.{plan-suits, plan-says, plan-fits}
 use Rattle.encode_pulses.proofs.silk_encode_pulses.Statement.{statement}
 use Rattle.encode_pulses.proofs.silk_encode_pulses.Tie as tie

@@ -5,8 +5,8 @@ use mathlib.Core.Path.{_≡_}
 use native.Mathlib.Omega.{arith}
 use lib.ListN.{length}
 use Rattle.entcode.specs.Flat.{out}
-use Rattle.silk.specs.PulseRowLaws.{low-bit-in}
-use Rattle.silk.specs.PulseTelling.{LowsTelling}
+use Rattle.silk.proofs.PulseRowLaws.{low-bit-in}
+use Rattle.silk.proofs.PulseTelling.{LowsTelling}
 use Rattle.encode_pulses_run.proofs.Rounds.{block-size, round-start, round-next, round-end}
 use Rattle.encode_pulses_run.proofs.lows.Statement.{statement}
 use Rattle.encode_pulses_run.proofs.lows.Tie as tie

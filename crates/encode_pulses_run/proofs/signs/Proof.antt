@@ -5,8 +5,8 @@ use mathlib.Core.Path.{_≡_, sym}
 use native.Mathlib.Omega.{arith}
 use lib.ListN.{length}
 use Rattle.entcode.specs.Flat.{out}
-use Rattle.silk.specs.PulsePlans.{suited-at}
-use Rattle.silk.specs.PulseTelling.{SignsTelling}
+use Rattle.silk.proofs.PulsePlans.{suited-at}
+use Rattle.silk.proofs.PulseTelling.{SignsTelling}
 use Rattle.encode_pulses_run.proofs.Rounds.{block-size, round-start, round-next, round-end}
 use Rattle.encode_pulses_run.proofs.signs.Statement.{statement}
 use Rattle.encode_pulses_run.proofs.signs.Tie as tie

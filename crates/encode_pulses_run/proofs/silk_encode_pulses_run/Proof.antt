@@ -5,9 +5,9 @@ use mathlib.Core.Path.{_≡_, _∙_}
 use native.Mathlib.Omega.{arith}
 use lib.ListN.{take, drop}
 use Rattle.sheet.specs.Directory.{rowOf}
-use Rattle.sheet.specs.Families.{rate-stands}
-use Rattle.sheet.specs.SheetRule.{row-good, row-writable}
-use Rattle.silk.specs.PulseRowLaws.{rate-in}
+use Rattle.sheet.proofs.Families.{rate-stands}
+use Rattle.sheet.proofs.SheetRule.{row-good, row-writable}
+use Rattle.silk.proofs.PulseRowLaws.{rate-in}
 use Rattle.encode_pulses_run.proofs.Chain.{chain}
 use Rattle.encode_pulses_run.proofs.silk_encode_pulses_run.Statement.{statement}
 use Rattle.encode_pulses_run.proofs.silk_encode_pulses_run.Tie as tie

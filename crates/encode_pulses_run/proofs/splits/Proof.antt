@@ -6,8 +6,8 @@ use mathlib.Core.Logic.{⊎-elim}
 use native.Mathlib.Omega.{arith}
 use lib.ListN.{length}
 use Rattle.entcode.specs.Flat.{out}
-use Rattle.silk.specs.PulsePlans.{suited-at}
-use Rattle.silk.specs.PulseTelling.{SplitsTelling}
+use Rattle.silk.proofs.PulsePlans.{suited-at}
+use Rattle.silk.proofs.PulseTelling.{SplitsTelling}
 use Rattle.encode_pulses_run.proofs.Empty.{splits-untold}
 use Rattle.encode_pulses_run.proofs.Rounds.{block-size, round-start, round-next, round-end}
 use Rattle.encode_pulses_run.proofs.splits.Statement.{statement}

@@ -4,7 +4,7 @@ use native.Mathlib.Omega.{arith}
 use Prim.Native.Nat.{_-_, _*_, _/_, _≤_}
 use mathlib.Core.Path.{sym}
 use native.Mathlib.Nat.{div-mul-le-self, mul-le-mul-left}
-use Rattle.entcode.specs.CutLaws.{upper-some}
+use Rattle.entcode.proofs.CutLaws.{upper-some}
 use Rattle.entcode.proofs.part_top_run.Statement.{statement}
 use Rattle.entcode.proofs.part_top_run.Tie as tie
 

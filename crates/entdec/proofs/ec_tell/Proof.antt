@@ -3,10 +3,10 @@ use borrow.Author.Needs.{needs}
 use native.Mathlib.Omega.{arith}
 use Prim.Native.Nat.{ℕ, _-_}
 use mathlib.Core.Path.{sym, ap, _∙_}
-use Rattle.bitlen.specs.LengthLaws.{length-most}
+use Rattle.bitlen.proofs.LengthLaws.{length-most}
 use Rattle.entcode.specs.Cuts.{account}
 use Rattle.entcode.specs.Reading.{gives, refuses, decTell}
-use Rattle.entcode.specs.ReadingLaws.{gate-open, answered-ok, answered-no}
+use Rattle.entcode.proofs.ReadingLaws.{gate-open, answered-ok, answered-no}
 use Rattle.entdec.proofs.ec_tell.Statement.{statement}
 use Rattle.entdec.proofs.ec_tell.Tie as tie
 

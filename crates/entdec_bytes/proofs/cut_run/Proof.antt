@@ -1,7 +1,7 @@
 -- `cut_run` meets its contract. Assumes nothing.
 use borrow.Author.Needs.{needs}
 use mathlib.Core.Path.{_∙_}
-use Rattle.entcode.specs.ReaderLaws.{settled-cut}
+use Rattle.entcode.proofs.ReaderLaws.{settled-cut}
 use Rattle.entdec_bytes.proofs.cut_run.Statement.{statement}
 use Rattle.entdec_bytes.proofs.cut_run.Tie as tie
 

@@ -3,8 +3,8 @@ use Prim.Native.Nat.{_-_, _^_}
 use native.Mathlib.Omega.{arith}
 use mathlib.Core.Path.{_≡_, refl, sym, _∙_}
 use Rattle.entcode.specs.Reader.{settled}
-use Rattle.entcode.specs.ReaderLaws.{settled-turn, settled-done}
-use Rattle.entdec_bytes.specs.Facts.{Turning}
+use Rattle.entcode.proofs.ReaderLaws.{settled-turn, settled-done}
+use Rattle.entdec_bytes.specs.Inner.{Turning}
 use Rattle.entdec_bytes.proofs.Turns.{turn-on}
 use Rattle.entdec_bytes.proofs.ec_dec_normalize.Statement.{statement}
 use Rattle.entdec_bytes.proofs.ec_dec_normalize.Tie as tie

@@ -1,7 +1,7 @@
 -- `fetch_byte` meets its contract: the byte stands above the window, so the wrapping sum does not wrap. Assumes nothing.
 use borrow.Author.Needs.{needs}
 use native.Mathlib.Omega.{arith}
-use Rattle.entcode.specs.ReaderLaws.{Bytes}
+use Rattle.entcode.specs.Reader.{Bytes}
 use Rattle.entdec_bytes.proofs.Window.{byte-above}
 use Rattle.entdec_bytes.proofs.fetch_byte.Statement.{statement}
 use Rattle.entdec_bytes.proofs.fetch_byte.Tie as tie

@@ -2,9 +2,8 @@
 use Prim.Native.Nat.{_-_, _/_}
 use native.Mathlib.Omega.{arith}
 use mathlib.Core.Path.{_≡_, refl, _∙_}
-use Rattle.entcode.specs.Reader.{fetches}
-use Rattle.entcode.specs.ReaderLaws.{Bytes}
-use Rattle.entdec_bytes.specs.Facts.{Windowed}
+use Rattle.entcode.specs.Reader.{fetches, Bytes}
+use Rattle.entdec_bytes.specs.Inner.{Windowed}
 use Rattle.entdec_bytes.proofs.Window.{fetch-windowed, fill-more, fill-done}
 use Rattle.entdec_bytes.proofs.fill_up.Statement.{statement}
 use Rattle.entdec_bytes.proofs.fill_up.Tie as tie

@@ -1,7 +1,8 @@
 -- `raw_bits_run` meets its contract: the filled window has the bits. Assumes nothing.
 use borrow.Author.Needs.{needs}
 use native.Mathlib.Omega.{arith}
-use Rattle.entcode.specs.ReaderLaws.{Bytes, fill-kept}
+use Rattle.entcode.specs.Reader.{Bytes}
+use Rattle.entcode.proofs.ReaderLaws.{fill-kept}
 use Rattle.entdec_bytes.proofs.raw_bits_run.Statement.{statement}
 use Rattle.entdec_bytes.proofs.raw_bits_run.Tie as tie
 

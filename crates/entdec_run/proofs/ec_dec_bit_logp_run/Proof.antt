@@ -3,9 +3,9 @@ use borrow.Author.Needs.{needs}
 use native.Mathlib.Omega.{arith}
 use mathlib.Core.Path.{ap, _∙_}
 use Rattle.entcode.specs.Models.{bit}
-use Rattle.entcode.specs.ReaderLaws.{Bytes}
+use Rattle.entcode.specs.Reader.{Bytes}
 use Rattle.entcode.specs.Reading.{gives}
-use Rattle.entcode.specs.ReadLaws.{cutting-holds, bit-one, bit-zero, bit-read, took}
+use Rattle.entcode.proofs.ReadLaws.{cutting-holds, bit-one, bit-zero, bit-read, took}
 use Rattle.entdec_run.proofs.ec_dec_bit_logp_run.Statement.{statement}
 use Rattle.entdec_run.proofs.ec_dec_bit_logp_run.Tie as tie
 

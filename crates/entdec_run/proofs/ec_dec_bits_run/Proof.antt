@@ -3,8 +3,8 @@ use borrow.Author.Needs.{needs}
 use native.Mathlib.Omega.{arith}
 use mathlib.Core.Path.{_∙_}
 use Rattle.entcode.specs.Models.{raw}
-use Rattle.entcode.specs.ReaderLaws.{Bytes}
-use Rattle.entcode.specs.ReadLaws.{raw-read, took}
+use Rattle.entcode.specs.Reader.{Bytes}
+use Rattle.entcode.proofs.ReadLaws.{raw-read, took}
 use Rattle.entdec_run.proofs.ec_dec_bits_run.Statement.{statement}
 use Rattle.entdec_run.proofs.ec_dec_bits_run.Tie as tie
 

@@ -3,14 +3,13 @@ use Prim.Native.Nat.{_/_, _^_}
 use mathlib.Core.Path.{refl, ap, _∙_}
 use native.Mathlib.Omega.{arith}
 use native.Mathlib.Nat.{div-mul-le-self}
-use Rattle.icdf.specs.Search.{search-found}
+use Rattle.icdf.proofs.SearchLaws.{search-found}
 use Rattle.entcode.specs.Models.{tab}
-use Rattle.entcode.specs.Reader.{cutDown}
-use Rattle.entcode.specs.ReaderLaws.{Bytes}
+use Rattle.entcode.specs.Reader.{cutDown, Bytes}
 use Rattle.entcode.specs.Reading.{gives}
-use Rattle.entcode.specs.ReadLaws.{Cutting, cutting-holds, tab-cutting, tab-read, took}
+use Rattle.entcode.proofs.ReadLaws.{Cutting, cutting-holds, tab-cutting, tab-read, took}
 use Rattle.entdec_search.specs.declared.Part.{Part}
-use Rattle.entdec_search.specs.Parts.{partOf}
+use Rattle.entdec_search.specs.Inner.{partOf}
 use Rattle.entdec_run.proofs.ec_dec_icdf_run.Statement.{statement}
 use Rattle.entdec_run.proofs.ec_dec_icdf_run.Tie as tie
 

@@ -12,13 +12,14 @@ use Rattle.entcode.specs.declared.Dec.{Dec}
 use Rattle.entcode.specs.declared.Decoded.{Decoded}
 use Rattle.entcode.specs.Models.{num, all, rawBits, Readable}
 use Rattle.entcode.specs.Cuts.{upper, lower}
-use Rattle.entcode.specs.ModelLaws.{num-small, pick-holds}
-use Rattle.bitlen.specs.LengthLaws.{length-most}
-use Rattle.entcode.specs.TailLaws.{append-slim}
-use Rattle.entcode.specs.Reader.{atEnd, sought, cutDown, rawVal, rawNext}
-use Rattle.entcode.specs.ReaderLaws.{Bytes, Core, CoreNext, core-cut}
+use Rattle.entcode.proofs.ModelLaws.{num-small, pick-holds}
+use Rattle.bitlen.proofs.LengthLaws.{length-most}
+use Rattle.entcode.proofs.TailLaws.{append-slim}
+use Rattle.entcode.specs.Reader.{atEnd, sought, cutDown, rawVal, rawNext, Bytes}
+use Rattle.entcode.specs.Inner.Reading.{Core, Holding}
+use Rattle.entcode.proofs.ReaderLaws.{CoreNext, core-cut}
 use Rattle.entcode.specs.Reading.{gives}
-use Rattle.entcode.specs.ReadLaws.{Holding, cutting-holds, num-cutting, num-read, took}
+use Rattle.entcode.proofs.ReadLaws.{cutting-holds, num-cutting, num-read, took}
 use Rattle.entdec_run.proofs.ec_dec_uint_run.Statement.{statement}
 use Rattle.entdec_run.proofs.ec_dec_uint_run.Tie as tie
 

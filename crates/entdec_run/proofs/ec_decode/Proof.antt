@@ -3,7 +3,7 @@ use borrow.Author.Needs.{needs}
 use native.Mathlib.Omega.{arith}
 use Prim.Native.Nat.{_/_}
 use native.Mathlib.Nat.{div-le-self}
-use Rattle.entcode.specs.CutLaws.{step-some}
+use Rattle.entcode.proofs.CutLaws.{step-some}
 use Rattle.entdec_run.proofs.ec_decode.Statement.{statement}
 use Rattle.entdec_run.proofs.ec_decode.Tie as tie
 

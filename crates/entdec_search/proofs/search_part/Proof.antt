@@ -7,9 +7,10 @@ use native.Mathlib.Nat.{le-of-lt, mul-le-mul-left}
 use native.Mathlib.Numerals.{add-one}
 use lib.ListN.{length, getD, drop}
 use Rattle.icdf.specs.Rule.{Icdf}
-use Rattle.icdf.specs.RuleLaws.{entry-below}
-use Rattle.icdf.specs.Search.{search, search-on, search-stop, not-last}
-use Rattle.entcode.specs.ReadLaws.{topOf}
+use Rattle.icdf.proofs.RuleLaws.{entry-below}
+use Rattle.icdf.specs.Search.{search}
+use Rattle.icdf.proofs.SearchLaws.{search-on, search-stop, not-last}
+use Rattle.entcode.specs.Inner.Reading.{topOf}
 use Rattle.entdec_search.proofs.search_part.Statement.{statement}
 use Rattle.entdec_search.proofs.search_part.Tie as tie
 

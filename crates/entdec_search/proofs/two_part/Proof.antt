@@ -2,7 +2,7 @@
 use native.Mathlib.Omega.{arith}
 use native.Mathlib.Nat.{le-of-lt, mul-le-mul-left}
 use borrow.Author.Needs.{needs}
-use Rattle.icdf.specs.RuleLaws.{entry-below}
+use Rattle.icdf.proofs.RuleLaws.{entry-below}
 use Rattle.entdec_search.proofs.TwoEntries.{two-entries}
 use Rattle.entdec_search.proofs.two_part.Statement.{statement}
 use Rattle.entdec_search.proofs.two_part.Tie as tie

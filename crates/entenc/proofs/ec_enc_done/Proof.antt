@@ -1,7 +1,7 @@
 -- `ec_enc_done` meets its contract: the state decides the refusal, and without one it is finished. Assumes nothing.
 use borrow.Author.Needs.{needs}
 use Rattle.entcode.specs.Flat.{Out, out}
-use Rattle.entcode.specs.WritingLaws.{gate-runs, done-takes, done-refuses}
+use Rattle.entcode.proofs.WritingLaws.{gate-runs, done-takes, done-refuses}
 use Rattle.entenc.proofs.ec_enc_done.Statement.{statement}
 use Rattle.entenc.proofs.ec_enc_done.Tie as tie
 

@@ -3,10 +3,10 @@ use borrow.Author.Needs.{needs}
 use Prim.Native.Nat.{ℕ, _-_}
 use mathlib.Core.Path.{ap}
 use native.Mathlib.Omega.{arith}
-use Rattle.bitlen.specs.LengthLaws.{length-most}
+use Rattle.bitlen.proofs.LengthLaws.{length-most}
 use Rattle.entcode.specs.Cuts.{account}
 use Rattle.entcode.specs.Flat.{Out, out}
-use Rattle.entcode.specs.WritingLaws.{gate-runs, tell-takes, tell-refuses}
+use Rattle.entcode.proofs.WritingLaws.{gate-runs, tell-takes, tell-refuses}
 use Rattle.entenc.proofs.ec_tell.Statement.{statement}
 use Rattle.entenc.proofs.ec_tell.Tie as tie
 

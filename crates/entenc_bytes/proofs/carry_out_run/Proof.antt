@@ -7,10 +7,10 @@ use mir.Syntax.{w32}
 use mir.Facts.{toZ-pos}
 use lib.ListN.{replicate}
 use Rattle.entcode.specs.Flat.{Out, out, heldOf}
-use Rattle.entcode.specs.FlatLaws.{put-append}
+use Rattle.entcode.proofs.FlatLaws.{put-append}
 use Rattle.entcode.specs.Front.{stored}
-use Rattle.entcode.specs.WriterFacts.{hold}
-use Rattle.entcode.specs.WriterSteps.{putAll}
+use Rattle.entcode.proofs.WriterFacts.{hold}
+use Rattle.entcode.specs.Inner.Writing.{putAll}
 use Rattle.entenc_bytes.proofs.Digits.{wait-is, hold-is}
 use Rattle.entenc_bytes.proofs.Placing.{put-roomy}
 use Rattle.entenc_bytes.proofs.carry_out_run.Statement.{statement}

@@ -4,9 +4,8 @@ use mathlib.Core.Path.{_≡_, refl, sym, ap, _∙_}
 use native.Mathlib.Omega.{arith}
 use lib.ListN.{length}
 use Rattle.entcode.specs.Flat.{Out, out}
-use Rattle.entcode.specs.FlatLaws.{flushed-done, flushed-step}
-use Rattle.entcode.specs.WriterFacts.{Windowed}
-use Rattle.entcode.specs.WriterSteps.{shed, flushed}
+use Rattle.entcode.proofs.FlatLaws.{flushed-done, flushed-step}
+use Rattle.entcode.specs.Inner.Writing.{Windowed, shed, flushed}
 use Rattle.entenc_bytes.proofs.Window.{shed-kept}
 use Rattle.entenc_bytes.proofs.flush_all_run.Statement.{statement}
 use Rattle.entenc_bytes.proofs.flush_all_run.Tie as tie

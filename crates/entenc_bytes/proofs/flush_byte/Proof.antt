@@ -3,7 +3,7 @@ use borrow.Author.Needs.{needs}
 use Prim.Native.Nat.{_-_, _/_}
 use mathlib.Core.Path.{ap, _∙_}
 use Rattle.entcode.specs.Flat.{Out, out}
-use Rattle.entcode.specs.WriterFacts.{atWindow}
+use Rattle.entcode.proofs.WriterFacts.{atWindow}
 use Rattle.entenc_bytes.proofs.Window.{shed-is}
 use Rattle.entenc_bytes.proofs.flush_byte.Statement.{statement}
 use Rattle.entenc_bytes.proofs.flush_byte.Tie as tie

@@ -5,7 +5,7 @@ use native.Mathlib.Omega.{arith}
 use mir.Facts.{toZ-ofZ}
 use mir.Syntax.{w32}
 use mir.Val.{SFits}
-use Rattle.entcode.specs.FlatLaws.{put-none}
+use Rattle.entcode.proofs.FlatLaws.{put-none}
 use Rattle.entenc_bytes.proofs.Digits.{held-nat, nat-most, held-some, held-none}
 use Rattle.entenc_bytes.proofs.put_held.Statement.{statement}
 use Rattle.entenc_bytes.proofs.put_held.Tie as tie

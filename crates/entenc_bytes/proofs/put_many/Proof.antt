@@ -4,8 +4,7 @@ use native.Mathlib.Omega.{arith}
 use lib.ListN.{length}
 use lib.ListN.{replicate}
 use Rattle.entcode.specs.Flat.{out}
-use Rattle.entcode.specs.WriterFacts.{Roomy}
-use Rattle.entcode.specs.WriterSteps.{putAll}
+use Rattle.entcode.specs.Inner.Writing.{Roomy, putAll}
 use Rattle.entenc_bytes.proofs.Placing.{put-roomy, many-one, many-none}
 use Rattle.entenc_bytes.proofs.put_many.Statement.{statement}
 use Rattle.entenc_bytes.proofs.put_many.Tie as tie

@@ -4,10 +4,11 @@ use Prim.Native.Nat.{ℕ, _+_, _-_, _*_, _/_, _^_, _≤_}
 use mathlib.Core.Path.{_≡_, refl, sym, subst, ap, ap₂, _∙_}
 use native.Mathlib.Omega.{arith}
 use Rattle.entcode.specs.Finish.{bitsOf, endOf, emits, spareBits, cell, roundUp}
-use Rattle.entcode.specs.FinishLaws.{Enough, bits-enough}
+use Rattle.entcode.proofs.FinishLaws.{Enough, bits-enough}
 use Rattle.entcode.specs.Flat.{Out, out}
-use Rattle.entcode.specs.WriterFacts.{Windowed, atWindow}
-use Rattle.entcode.specs.WriterSteps.{digitsOut, fronted, flushed, closed}
+use Rattle.entcode.specs.Inner.Writing.{Windowed, digitsOut, flushed, closed}
+use Rattle.entcode.proofs.WriterFacts.{atWindow}
+use Rattle.entcode.proofs.WriterSteps.{fronted}
 use Rattle.entenc_finish.proofs.Finishing.{digits-front, front-windowed, finished-is}
 use Rattle.entenc_finish.proofs.ec_enc_done_run.Statement.{statement}
 use Rattle.entenc_finish.proofs.ec_enc_done_run.Tie as tie

@@ -6,7 +6,7 @@ use native.Mathlib.Numerals.{add-one}
 use borrow.Author.Tests.{lt-ltb, le-ltb}
 use lib.Count.{leadingZeros}
 use Rattle.entcode.specs.Finish.{cell, roundUp}
-use Rattle.entcode.specs.FinishLaws.{Zeros, zeros, round-up}
+use Rattle.entcode.proofs.FinishLaws.{Zeros, zeros, round-up}
 use Rattle.bitlen.proofs.Shift.{one-shl}
 use Rattle.entenc_finish.proofs.end_bits.Statement.{statement}
 use Rattle.entenc_finish.proofs.end_bits.Tie as tie

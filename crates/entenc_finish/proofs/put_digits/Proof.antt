@@ -4,8 +4,7 @@ use mathlib.Core.Path.{_≡_, refl, sym, subst, _∙_}
 use native.Mathlib.Omega.{arith}
 use lib.ListN.{length}
 use Rattle.entcode.specs.Flat.{heldOf, Out, out}
-use Rattle.entcode.specs.WriterFacts.{Roomy}
-use Rattle.entcode.specs.WriterSteps.{carried, digitsOut}
+use Rattle.entcode.specs.Inner.Writing.{Roomy, carried, digitsOut}
 use Rattle.entenc_finish.proofs.Finishing.{Carried, digits-more, digits-none, carried-kept}
 use Rattle.entenc_finish.proofs.put_digits.Statement.{statement}
 use Rattle.entenc_finish.proofs.put_digits.Tie as tie

@@ -3,9 +3,9 @@ use borrow.Author.Needs.{needs}
 use Prim.Native.Nat.{ℕ, _≤_}
 use mathlib.Core.Path.{sym, ap, _∙_}
 use native.Mathlib.Omega.{arith}
-use Rattle.entcode.specs.CoreLaws.{wrote}
+use Rattle.entcode.proofs.CoreLaws.{wrote}
 use Rattle.entcode.specs.Flat.{out}
-use Rattle.entcode.specs.FlatLaws.{bit-one, bit-zero}
+use Rattle.entcode.proofs.FlatLaws.{bit-one, bit-zero}
 use Rattle.entcode.specs.Models.{bit, Allowed}
 use Rattle.entcode.specs.Writing.{written}
 use Rattle.entenc_run.proofs.Parts.{bit-of, zero-cut, one-cut}

@@ -1,9 +1,9 @@
 -- `ec_enc_bits_run` meets its contract: raw bits have no coded part. Assumes nothing.
 use borrow.Author.Needs.{needs}
 use mathlib.Core.Path.{_∙_}
-use Rattle.entcode.specs.CoreLaws.{wrote}
+use Rattle.entcode.proofs.CoreLaws.{wrote}
 use Rattle.entcode.specs.Flat.{out}
-use Rattle.entcode.specs.FlatLaws.{raw-is}
+use Rattle.entcode.proofs.FlatLaws.{raw-is}
 use Rattle.entcode.specs.Models.{raw}
 use Rattle.entenc_run.proofs.ec_enc_bits_run.Statement.{statement}
 use Rattle.entenc_run.proofs.ec_enc_bits_run.Tie as tie

@@ -4,11 +4,11 @@ use Prim.Native.Nat.{ℕ, _*_, _/_, _^_, _≤_}
 use mathlib.Core.Path.{ap, _∙_}
 use native.Mathlib.Omega.{arith}
 use lib.ListN.{getD}
-use Rattle.icdf.specs.RuleLaws.{entry-below}
-use Rattle.entcode.specs.CoreLaws.{wrote}
+use Rattle.icdf.proofs.RuleLaws.{entry-below}
+use Rattle.entcode.proofs.CoreLaws.{wrote}
 use Rattle.entcode.specs.Flat.{out}
 use Rattle.entcode.specs.Models.{tab, Allowed}
-use Rattle.entcode.specs.WriterSteps.{cut}
+use Rattle.entcode.specs.Inner.Writing.{cut}
 use Rattle.entenc_run.proofs.Parts.{entry-most, symbol-cut, symbol-is}
 use Rattle.entenc_run.proofs.ec_enc_icdf_run.Statement.{statement}
 use Rattle.entenc_run.proofs.ec_enc_icdf_run.Tie as tie

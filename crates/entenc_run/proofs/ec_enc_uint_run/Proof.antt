@@ -5,11 +5,11 @@ use mathlib.Core.Path.{_≡_, ap, _∙_}
 use native.Mathlib.Omega.{arith}
 use lib.Pow.{pow-pos}
 use Rattle.bitlen.specs.Length.{bitLength}
-use Rattle.entcode.specs.CoreLaws.{wrote}
+use Rattle.entcode.proofs.CoreLaws.{wrote}
 use Rattle.entcode.specs.Flat.{Out, out}
-use Rattle.entcode.specs.FlatLaws.{num-plain}
+use Rattle.entcode.proofs.FlatLaws.{num-plain}
 use Rattle.entcode.specs.Models.{num, Allowed}
-use Rattle.entcode.specs.WriterSteps.{appended}
+use Rattle.entcode.specs.Inner.Writing.{appended}
 use Rattle.entenc_run.proofs.Parts.{NumberPart, number-part, number-is, number-few}
 use Rattle.entenc_run.proofs.ec_enc_uint_run.Statement.{statement}
 use Rattle.entenc_run.proofs.ec_enc_uint_run.Tie as tie

@@ -2,7 +2,7 @@
 use borrow.Author.Needs.{needs}
 use Prim.Native.Nat.{suc}
 use native.Mathlib.Omega.{arith}
-use Rattle.entcode.specs.CutLaws.{CutOk}
+use Rattle.entcode.specs.Inner.Reading.{CutOk}
 use Rattle.entcode.specs.Cuts.{upper, lower}
 use Rattle.entenc_run.proofs.Parts.{part-lower, part-cut, ends-cut, ends-stepped}
 use Rattle.entenc_run.proofs.keep_part.Statement.{statement}

@@ -2,8 +2,8 @@
 use borrow.Author.Needs.{needs}
 use mathlib.Core.Path.{refl}
 use native.Mathlib.Omega.{arith}
-use Rattle.numerals.specs.Put.{put-as}
-use Rattle.frame_text.specs.Widened.{widened}
+use Rattle.numerals.proofs.Put.{put-as}
+use Rattle.frame_text.proofs.Widened.{widened}
 use Rattle.frame_text.proofs.put_one_run.Statement.{statement}
 use Rattle.frame_text.proofs.put_one_run.Tie as tie
 

@@ -9,10 +9,11 @@ use lib.ListN.{length, take, getD}
 use lib.Seq.{take-length}
 use mir.Syntax.{w8}
 use mir.Val.{SFits}
-use Rattle.numerals.specs.Put.{Put, put-none, put-then, put-as}
+use Rattle.numerals.specs.Inner.{Put}
+use Rattle.numerals.proofs.Put.{put-none, put-then, put-as}
 use Rattle.listing.specs.Lines.{spaced}
-use Rattle.listing.specs.LineLaws.{spaced-more}
-use Rattle.frame_text.specs.Widened.{widened}
+use Rattle.listing.proofs.LineLaws.{spaced-more}
+use Rattle.frame_text.proofs.Widened.{widened}
 use Rattle.frame_text.proofs.put_small_numbers_run.Statement.{statement}
 use Rattle.frame_text.proofs.put_small_numbers_run.Tie as tie
 

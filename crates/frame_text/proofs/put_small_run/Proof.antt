@@ -5,8 +5,8 @@ use native.Mathlib.Omega.{arith}
 use lib.ListN.{length}
 use mir.Syntax.{w16}
 use mir.Facts.{toZ-pos}
-use Rattle.numerals.specs.Put.{put-as}
-use Rattle.listing.specs.LineLaws.{put-counted}
+use Rattle.numerals.proofs.Put.{put-as}
+use Rattle.listing.proofs.LineLaws.{put-counted}
 use Rattle.frame_text.proofs.put_small_run.Statement.{statement}
 use Rattle.frame_text.proofs.put_small_run.Tie as tie
 

@@ -5,9 +5,9 @@ use native.Mathlib.Omega.{arith}
 use mir.Syntax.{w8}
 use mir.Val.{SFits}
 use mir.Facts.{toZ-ofZ}
-use Rattle.numerals.specs.Put.{put-then}
+use Rattle.numerals.proofs.Put.{put-then}
 use Rattle.listing.specs.Ascii.{ascii}
-use Rattle.silk.specs.IndexRows.{subframes-most}
+use Rattle.silk.proofs.IndexRows.{subframes-most}
 use Rattle.frame_text.specs.FrameText.{indicesText}
 use Rattle.frame_text_indices.proofs.put_indices_run.Statement.{statement}
 use Rattle.frame_text_indices.proofs.put_indices_run.Tie as tie

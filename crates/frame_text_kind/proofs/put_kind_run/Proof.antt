@@ -4,10 +4,10 @@ use native.Mathlib.Omega.{arith}
 use mir.Syntax.{w8, w16}
 use mir.Val.{SFits}
 use mir.Facts.{toZ-pos}
-use Rattle.numerals.specs.Put.{put-then, put-as}
+use Rattle.numerals.proofs.Put.{put-then, put-as}
 use Rattle.listing.specs.Ascii.{ascii}
 use Rattle.frame_text.specs.FrameText.{kindText}
-use Rattle.frame_text.specs.Widened.{widened}
+use Rattle.frame_text.proofs.Widened.{widened}
 use Rattle.frame_text_kind.proofs.put_kind_run.Statement.{statement}
 use Rattle.frame_text_kind.proofs.put_kind_run.Tie as tie
 

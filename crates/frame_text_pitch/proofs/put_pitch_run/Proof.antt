@@ -10,11 +10,11 @@ use lib.ListN.{length, take, getD}
 use mir.Syntax.{w8, w16}
 use mir.Val.{SFits}
 use mir.Facts.{toZ-ofZ}
-use Rattle.numerals.specs.Put.{put-as}
+use Rattle.numerals.proofs.Put.{put-as}
 use Rattle.listing.specs.Ascii.{ascii}
 use Rattle.listing.specs.Lines.{line, counted}
 use Rattle.silk.specs.declared.Indices.{Indices}
-use Rattle.silk.specs.IndexRows.{Subframes, two, four}
+use Rattle.silk.specs.Inner.Indices.{Subframes, two, four}
 use Rattle.frame_text.specs.FrameText.{pitchOf, pitchText}
 use Rattle.frame_text_pitch.proofs.put_pitch_run.Statement.{statement}
 use Rattle.frame_text_pitch.proofs.put_pitch_run.Tie as tie

@@ -9,10 +9,10 @@ use lib.IntN.{pos}
 use lib.ListN.{length}
 use mir.Syntax.{w16}
 use mir.Facts.{toZ-ofZ, toZ-pos}
-use Rattle.numerals.specs.Put.{put-as}
+use Rattle.numerals.proofs.Put.{put-as}
 use Rattle.listing.specs.Ascii.{ascii}
 use Rattle.listing.specs.Lines.{line, counted}
-use Rattle.listing.specs.LineLaws.{put-parts}
+use Rattle.listing.proofs.LineLaws.{put-parts}
 use Rattle.frame_text_pitch.proofs.put_voiced.Statement.{statement}
 use Rattle.frame_text_pitch.proofs.put_voiced.Tie as tie
 

@@ -11,7 +11,7 @@ use mir.Syntax.{w16}
 use mir.Val.{SFits}
 use mir.Facts.{toZ-ofZ}
 use Rattle.numerals.specs.Decimal.{decimal}
-use Rattle.numerals.specs.Put.{put-then, put-as}
+use Rattle.numerals.proofs.Put.{put-then, put-as}
 use Rattle.listing.specs.Lines.{line, numbers}
 use Rattle.frame_text_pulses.proofs.put_block.Statement.{statement}
 use Rattle.frame_text_pulses.proofs.put_block.Tie as tie

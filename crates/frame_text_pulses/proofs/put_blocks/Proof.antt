@@ -7,9 +7,10 @@ use native.Mathlib.Numerals.{add-one}
 use native.Mathlib.Omega.{arith}
 use lib.ListN.{length, drop, length-drop}
 use lib.Seq.{length-take-le}
-use Rattle.numerals.specs.Put.{Put, put-none, put-then, put-as}
+use Rattle.numerals.specs.Inner.{Put}
+use Rattle.numerals.proofs.Put.{put-none, put-then, put-as}
 use Rattle.frame_text.specs.FrameText.{blockLines}
-use Rattle.frame_text_pulses.specs.BlockLaws.{block-more}
+use Rattle.frame_text_pulses.proofs.BlockLaws.{block-more}
 use Rattle.frame_text_pulses.proofs.put_blocks.Statement.{statement}
 use Rattle.frame_text_pulses.proofs.put_blocks.Tie as tie
 

@@ -3,7 +3,7 @@ use borrow.Author.Needs.{needs}
 use native.Mathlib.Omega.{arith}
 use mir.Syntax.{w16}
 use mir.Facts.{toZ-pos}
-use Rattle.numerals.specs.Put.{put-then, put-as}
+use Rattle.numerals.proofs.Put.{put-then, put-as}
 use Rattle.listing.specs.Ascii.{ascii}
 use Rattle.listing.specs.Lines.{spaced, line}
 use Rattle.frame_text.specs.FrameText.{pulsesText}

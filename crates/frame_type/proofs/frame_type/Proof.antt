@@ -6,10 +6,10 @@ use mathlib.Core.Path.{sym, ap, _∙_}
 use native.Mathlib.Omega.{arith}
 use lib.ListN.{length, take, drop}
 use Rattle.entcode.specs.declared.Decoded.{Decoded}
-use Rattle.entcode.specs.ReaderLaws.{Bytes}
-use Rattle.silk.specs.IndexRows.{Row, index-rows, type-row}
+use Rattle.entcode.specs.Reader.{Bytes}
+use Rattle.silk.proofs.IndexRows.{Row, index-rows, type-row}
 use Rattle.frame_type.specs.Kind.{typesOf}
-use Rattle.frame_type.specs.KindLaws.{type-accepts, Types, first-types, refused-types}
+use Rattle.frame_type.proofs.KindLaws.{type-accepts, Types, first-types, refused-types}
 use Rattle.frame_type.proofs.frame_type.Statement.{statement}
 use Rattle.frame_type.proofs.frame_type.Tie as tie
 

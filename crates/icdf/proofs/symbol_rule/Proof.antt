@@ -2,7 +2,7 @@
 use borrow.Author.Needs.{needs}
 use mathlib.Core.Bool.{true}
 use mathlib.Core.Path.{_≡_, sym, _∙_}
-use Rattle.tests.specs.Both.{in-range}
+use Rattle.deciding.proofs.Both.{in-range}
 use Rattle.icdf.specs.Test.{scaleOk, symbolRule}
 use Rattle.icdf.proofs.symbol_rule.Statement.{statement}
 use Rattle.icdf.proofs.symbol_rule.Tie as tie

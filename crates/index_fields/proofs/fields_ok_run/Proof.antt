@@ -3,8 +3,8 @@ use borrow.Author.Needs.{needs}
 use mir.Syntax.{w8}
 use mir.Val.{SFits}
 use mir.Facts.{toZ-ofZ}
-use Rattle.tests.specs.Decides.{decides-as, decides-both}
-use Rattle.index_decides.specs.Tested.{upto-tested}
+use Rattle.deciding.proofs.Decides.{decides-as, decides-both}
+use Rattle.index_decides.proofs.Tested.{upto-tested}
 use Rattle.index_fields.proofs.fields_ok_run.Statement.{statement}
 use Rattle.index_fields.proofs.fields_ok_run.Tie as tie
 

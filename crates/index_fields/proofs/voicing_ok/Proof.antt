@@ -5,7 +5,7 @@ use lib.IntN.{pos}
 use mir.Syntax.{w8}
 use mir.Val.{SFits, toZ, ofZ}
 use mir.Facts.{toZ-ofZ}
-use Rattle.tests.specs.Decides.{decides-as}
+use Rattle.deciding.proofs.Decides.{decides-as}
 use Rattle.index_fields.proofs.voicing_ok.Statement.{statement}
 use Rattle.index_fields.proofs.voicing_ok.Tie as tie
 

@@ -10,8 +10,8 @@ use mir.Val.{SFits}
 use mir.Facts.{toZ-ofZ}
 use Rattle.lists.specs.Every.{every}
 use Rattle.ranges.specs.InRange.{inRange}
-use Rattle.silk.specs.IndexRows.{subframes-least, subframes-most}
-use Rattle.index_decides.specs.Tested.{gains-tested}
+use Rattle.silk.proofs.IndexRows.{subframes-least, subframes-most}
+use Rattle.index_decides.proofs.Tested.{gains-tested}
 use Rattle.index_fields_parts.proofs.gains_ok_run.Statement.{statement}
 use Rattle.index_fields_parts.proofs.gains_ok_run.Tie as tie
 

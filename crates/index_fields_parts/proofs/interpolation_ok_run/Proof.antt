@@ -3,8 +3,8 @@ use native.Mathlib.Omega.{arith}
 use borrow.Author.Tests.{eqb-true, eqb-false}
 use mir.Syntax.{w8}
 use mir.Facts.{toZ-ofZ}
-use Rattle.silk.specs.IndexRows.{only-two}
-use Rattle.index_decides.specs.Tested.{equal-tested, fixed-tested}
+use Rattle.silk.proofs.IndexRows.{only-two}
+use Rattle.index_decides.proofs.Tested.{equal-tested, fixed-tested}
 use Rattle.index_fields_parts.proofs.interpolation_ok_run.Statement.{statement}
 use Rattle.index_fields_parts.proofs.interpolation_ok_run.Tie as tie
 

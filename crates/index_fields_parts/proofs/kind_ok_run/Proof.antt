@@ -7,7 +7,7 @@ use lib.IntN.{pos}
 use mir.Syntax.{w8}
 use mir.Val.{SFits, toZ}
 use mir.Facts.{toZ-ofZ, toZ-pos}
-use Rattle.index_decides.specs.Tested.{kind-tested}
+use Rattle.index_decides.proofs.Tested.{kind-tested}
 use Rattle.index_fields_parts.proofs.kind_ok_run.Statement.{statement}
 use Rattle.index_fields_parts.proofs.kind_ok_run.Tie as tie
 

@@ -7,10 +7,11 @@ use native.Mathlib.Omega.{arith}
 use borrow.Author.Tests.{eq-eqb, ne-eqb}
 use lib.IntN.{pos, natAbs}
 use lib.ListN.{length, getD}
-use Rattle.tests.specs.Decides.{Decides}
-use Rattle.sheet.specs.Books.{narrowBook, wideBook, narrow-shaped, wide-shaped}
+use Rattle.deciding.specs.Inner.{Decides}
+use Rattle.sheet.specs.Books.{narrowBook, wideBook}
+use Rattle.sheet.proofs.BooksLaws.{narrow-shaped, wide-shaped}
 use Rattle.silk.specs.IndexSyntax.{bookOf}
-use Rattle.index_decides.specs.Tested.{residuals-tested}
+use Rattle.index_decides.proofs.Tested.{residuals-tested}
 use Rattle.index_fields_parts.proofs.residuals_ok.Statement.{statement}
 use Rattle.index_fields_parts.proofs.residuals_ok.Tie as tie
 

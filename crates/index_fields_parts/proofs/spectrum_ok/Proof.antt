@@ -5,8 +5,8 @@ use lib.ListN.{getD}
 use mir.Syntax.{w8}
 use mir.Val.{SFits}
 use mir.Facts.{toZ-ofZ}
-use Rattle.tests.specs.Decides.{decides-as, decides-both}
-use Rattle.index_decides.specs.Tested.{upto-tested}
+use Rattle.deciding.proofs.Decides.{decides-as, decides-both}
+use Rattle.index_decides.proofs.Tested.{upto-tested}
 use Rattle.index_fields_parts.proofs.spectrum_ok.Statement.{statement}
 use Rattle.index_fields_parts.proofs.spectrum_ok.Tie as tie
 

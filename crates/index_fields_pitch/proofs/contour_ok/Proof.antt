@@ -8,9 +8,9 @@ use lib.IntN.{pos}
 use mir.Syntax.{w8}
 use mir.Val.{toZ}
 use mir.Facts.{toZ-ofZ, toZ-pos}
-use Rattle.tests.specs.Choice.{chosen}
-use Rattle.silk.specs.IndexRows.{contourSize}
-use Rattle.index_decides.specs.Tested.{upto-tested}
+use Rattle.deciding.proofs.Choice.{chosen}
+use Rattle.silk.specs.Inner.Indices.{contourSize}
+use Rattle.index_decides.proofs.Tested.{upto-tested}
 use Rattle.index_fields_pitch.proofs.contour_ok.Statement.{statement}
 use Rattle.index_fields_pitch.proofs.contour_ok.Tie as tie
 

@@ -3,7 +3,7 @@ use mathlib.Core.Path.{_≡_, sym, _∙_}
 use native.Mathlib.Omega.{arith}
 use lib.IntN.{natAbs}
 use mir.Syntax.{w8}
-use Rattle.silk.specs.IndexParts.{upto-bits}
+use Rattle.silk.proofs.IndexParts.{upto-bits}
 use Rattle.index_fields_pitch.proofs.filter_most.Statement.{statement}
 use Rattle.index_fields_pitch.proofs.filter_most.Tie as tie
 

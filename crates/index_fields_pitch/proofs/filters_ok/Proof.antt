@@ -10,8 +10,8 @@ use mir.Val.{SFits}
 use mir.Facts.{toZ-ofZ}
 use Rattle.lists.specs.Every.{every}
 use Rattle.ranges.specs.InRange.{inRange}
-use Rattle.silk.specs.IndexRows.{subframes-most}
-use Rattle.index_decides.specs.Tested.{filters-tested}
+use Rattle.silk.proofs.IndexRows.{subframes-most}
+use Rattle.index_decides.proofs.Tested.{filters-tested}
 use Rattle.index_fields_pitch.proofs.filters_ok.Statement.{statement}
 use Rattle.index_fields_pitch.proofs.filters_ok.Tie as tie
 

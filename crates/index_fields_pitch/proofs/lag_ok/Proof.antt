@@ -6,8 +6,8 @@ use lib.IntN.{pos}
 use mir.Syntax.{w16}
 use mir.Val.{toZ}
 use mir.Facts.{toZ-ofZ, toZ-pos}
-use Rattle.silk.specs.IndexRows.{Rate, eight, twelve, sixteen}
-use Rattle.index_decides.specs.Tested.{upto-tested}
+use Rattle.silk.specs.Inner.Indices.{Rate, eight, twelve, sixteen}
+use Rattle.index_decides.proofs.Tested.{upto-tested}
 use Rattle.index_fields_pitch.proofs.lag_ok.Statement.{statement}
 use Rattle.index_fields_pitch.proofs.lag_ok.Tie as tie
 

@@ -3,7 +3,7 @@ use borrow.Author.Needs.{needs}
 use mir.Syntax.{w8, w16}
 use mir.Val.{SFits}
 use mir.Facts.{toZ-ofZ}
-use Rattle.tests.specs.Decides.{decides-as, decides-both}
+use Rattle.deciding.proofs.Decides.{decides-as, decides-both}
 use Rattle.index_fields_pitch.proofs.pitch_ok_run.Statement.{statement}
 use Rattle.index_fields_pitch.proofs.pitch_ok_run.Tie as tie
 

@@ -3,7 +3,7 @@ use native.Mathlib.Omega.{arith}
 use borrow.Author.Tests.{eqb-true, eqb-false}
 use mir.Syntax.{w8}
 use mir.Facts.{toZ-ofZ}
-use Rattle.index_decides.specs.Tested.{equal-tested, fixed-tested}
+use Rattle.index_decides.proofs.Tested.{equal-tested, fixed-tested}
 use Rattle.index_fields_pitch.proofs.scale_ok.Statement.{statement}
 use Rattle.index_fields_pitch.proofs.scale_ok.Tie as tie
 

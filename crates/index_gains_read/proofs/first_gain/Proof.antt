@@ -8,8 +8,8 @@ use lib.IntN.{pos}
 use mir.Syntax.{w8}
 use mir.Val.{toZ}
 use mir.Facts.{toZ-pos}
-use Rattle.tree.specs.Ran.{ran-done, ran-ask, ran-within}
-use Rattle.silk.specs.IndexRows.{delta-gain-row, gain-row, gain-low-row}
+use Rattle.tree.proofs.Ran.{ran-done, ran-ask, ran-within}
+use Rattle.silk.proofs.IndexRows.{delta-gain-row, gain-row, gain-low-row}
 use Rattle.silk.specs.IndexSyntax.{firstGain}
 use Rattle.index_gains_read.proofs.first_gain.Statement.{statement}
 use Rattle.index_gains_read.proofs.first_gain.Tie as tie

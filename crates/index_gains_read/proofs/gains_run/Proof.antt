@@ -1,6 +1,6 @@
 -- `index_gains_read::gains_run` meets its contract: the first gain, then the others. Assumes nothing.
 use borrow.Author.Needs.{needs}
-use Rattle.tree.specs.Ran.{ran-bind}
+use Rattle.tree.proofs.Ran.{ran-bind}
 use Rattle.silk.specs.IndexSyntax.{gains}
 use Rattle.index_gains_read.proofs.gains_run.Statement.{statement}
 use Rattle.index_gains_read.proofs.gains_run.Tie as tie

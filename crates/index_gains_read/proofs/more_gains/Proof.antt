@@ -11,12 +11,12 @@ use mir.Syntax.{w8}
 use mir.Val.{toZ}
 use mir.Facts.{toZ-pos}
 use Rattle.entcode.specs.declared.Dec.{Dec}
-use Rattle.entcode.specs.ReaderLaws.{Core}
+use Rattle.entcode.specs.Inner.Reading.{Core}
 use Rattle.tree.specs.Asks.{run}
 use Rattle.silk.specs.declared.Indices.{Indices}
-use Rattle.silk.specs.IndexRows.{subframes-most, subframes-least, delta-gain-row}
+use Rattle.silk.proofs.IndexRows.{subframes-most, subframes-least, delta-gain-row}
 use Rattle.silk.specs.IndexSyntax.{moreGains}
-use Rattle.silk.specs.IndexSteps.{gains-end, gains-next}
+use Rattle.silk.proofs.IndexSteps.{gains-end, gains-next}
 use Rattle.index_gains_read.proofs.more_gains.Statement.{statement}
 use Rattle.index_gains_read.proofs.more_gains.Tie as tie
 

@@ -8,10 +8,11 @@ use lib.IntN.{ℤ, pos, natAbs}
 use lib.ListN.{getD}
 use mir.Syntax.{w8}
 use mir.Val.{toZ, ofZ}
-use Rattle.tree.specs.Told.{told-done, told-ask, told-within}
-use Rattle.silk.specs.IndexRows.{delta-gain-row, gain-row, gain-low-row}
+use Rattle.tree.proofs.Told.{told-done, told-ask, told-within}
+use Rattle.silk.proofs.IndexRows.{delta-gain-row, gain-row, gain-low-row}
 use Rattle.silk.specs.IndexSyntax.{firstGain}
-use Rattle.silk.specs.IndexParts.{Upto, first-most, upto-fits, abs-kept}
+use Rattle.silk.specs.Inner.Indices.{Upto}
+use Rattle.silk.proofs.IndexParts.{first-most, upto-fits, abs-kept}
 use Rattle.index_gains_write.proofs.first_gain_tell.Statement.{statement}
 use Rattle.index_gains_write.proofs.first_gain_tell.Tie as tie
 

@@ -4,10 +4,10 @@ use Prim.Native.Nat.{_<_}
 use mathlib.Core.Path.{_≡_}
 use native.Mathlib.Omega.{arith}
 use lib.ListN.{length}
-use Rattle.tree.specs.Says.{says-means}
-use Rattle.tree.specs.Told.{told-then}
+use Rattle.tree.proofs.Says.{says-means}
+use Rattle.tree.proofs.Told.{told-then}
 use Rattle.silk.specs.IndexSyntax.{gains}
-use Rattle.silk.specs.IndexSays.{first-says}
+use Rattle.silk.proofs.IndexSays.{first-says}
 use Rattle.index_gains_write.proofs.gains_tell_run.Statement.{statement}
 use Rattle.index_gains_write.proofs.gains_tell_run.Tie as tie
 

@@ -9,12 +9,14 @@ use lib.ListN.{length, getD}
 use mir.Syntax.{w8}
 use mir.Val.{toZ, ofZ}
 use Rattle.entcode.specs.Flat.{Out, out}
-use Rattle.tree.specs.Told.{Midway, midway-start, midway-ask, midway-end, told-within}
+use Rattle.tree.specs.Inner.Told.{Midway}
+use Rattle.tree.proofs.Told.{midway-start, midway-ask, midway-end, told-within}
 use Rattle.silk.specs.declared.Indices.{Indices}
-use Rattle.silk.specs.IndexRows.{subframes-most, subframes-least, delta-gain-row}
+use Rattle.silk.proofs.IndexRows.{subframes-most, subframes-least, delta-gain-row}
 use Rattle.silk.specs.IndexSyntax.{moreGains}
-use Rattle.silk.specs.IndexParts.{Upto, upto-fits, abs-kept}
-use Rattle.silk.specs.IndexTold.{gains-told-end, gains-told-next}
+use Rattle.silk.specs.Inner.Indices.{Upto}
+use Rattle.silk.proofs.IndexParts.{upto-fits, abs-kept}
+use Rattle.silk.proofs.IndexTold.{gains-told-end, gains-told-next}
 use Rattle.index_gains_write.proofs.more_gains_tell.Statement.{statement}
 use Rattle.index_gains_write.proofs.more_gains_tell.Tie as tie
 

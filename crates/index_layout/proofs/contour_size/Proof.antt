@@ -1,6 +1,6 @@
 -- `index_layout::contour_size` meets its contract. Assumes nothing.
 use borrow.Author.Tests.{eq-eqb, ne-eqb}
-use Rattle.silk.specs.IndexRows.{contourSize}
+use Rattle.silk.specs.Inner.Indices.{contourSize}
 use Rattle.index_layout.proofs.contour_size.Statement.{statement}
 use Rattle.index_layout.proofs.contour_size.Tie as tie
 

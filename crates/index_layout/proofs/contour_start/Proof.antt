@@ -1,6 +1,6 @@
 -- `index_layout::contour_start` meets its contract. Assumes nothing.
 use borrow.Author.Tests.{eq-eqb, ne-eqb}
-use Rattle.silk.specs.IndexRows.{contourStart}
+use Rattle.silk.specs.Inner.Indices.{contourStart}
 use Rattle.index_layout.proofs.contour_start.Statement.{statement}
 use Rattle.index_layout.proofs.contour_start.Tie as tie
 

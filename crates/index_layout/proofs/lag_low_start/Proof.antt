@@ -1,6 +1,6 @@
 -- `index_layout::lag_low_start` meets its contract. Assumes nothing.
 use borrow.Author.Tests.{eq-eqb, ne-eqb}
-use Rattle.silk.specs.IndexRows.{lagLowStart}
+use Rattle.silk.specs.Inner.Indices.{lagLowStart}
 use Rattle.index_layout.proofs.lag_low_start.Statement.{statement}
 use Rattle.index_layout.proofs.lag_low_start.Tie as tie
 

@@ -1,7 +1,7 @@
 -- `index_layout::order_of` meets its contract. Assumes nothing.
 use mathlib.Core.Path.{sym}
 use borrow.Author.Tests.{eq-eqb, ne-eqb}
-use Rattle.sheet.specs.Books.{narrow-shaped, wide-shaped}
+use Rattle.sheet.proofs.BooksLaws.{narrow-shaped, wide-shaped}
 use Rattle.index_layout.proofs.order_of.Statement.{statement}
 use Rattle.index_layout.proofs.order_of.Tie as tie
 

@@ -6,7 +6,7 @@ use lib.IntN.{natAbs}
 use mir.Syntax.{w8, w16}
 use mir.Val.{SFits}
 use mir.Facts.{toZ-ofZ}
-use Rattle.silk.specs.IndexParts.{upto-bits}
+use Rattle.silk.proofs.IndexParts.{upto-bits}
 use Rattle.silk.specs.FrameCalls.{nextLag}
 use Rattle.index_numbers.proofs.next_lag_run.Statement.{statement}
 use Rattle.index_numbers.proofs.next_lag_run.Tie as tie

@@ -4,7 +4,7 @@ use native.Mathlib.Omega.{arith}
 use mir.Syntax.{w8}
 use mir.Val.{SFits}
 use mir.Facts.{toZ-ofZ}
-use Rattle.silk.specs.IndexParts.{upto-fits}
+use Rattle.silk.proofs.IndexParts.{upto-fits}
 use Rattle.index_numbers.proofs.next_type_run.Statement.{statement}
 use Rattle.index_numbers.proofs.next_type_run.Tie as tie
 

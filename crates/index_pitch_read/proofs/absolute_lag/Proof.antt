@@ -8,8 +8,8 @@ use lib.IntN.{pos}
 use mir.Syntax.{w16}
 use mir.Val.{toZ}
 use mir.Facts.{toZ-pos}
-use Rattle.tree.specs.Ran.{ran-done, ran-ask}
-use Rattle.silk.specs.IndexRows.{lag-row, lag-low-row, lag-low-within}
+use Rattle.tree.proofs.Ran.{ran-done, ran-ask}
+use Rattle.silk.proofs.IndexRows.{lag-row, lag-low-row, lag-low-within}
 use Rattle.silk.specs.IndexSyntax.{absoluteLag}
 use Rattle.index_pitch_read.proofs.absolute_lag.Statement.{statement}
 use Rattle.index_pitch_read.proofs.absolute_lag.Tie as tie

@@ -6,8 +6,8 @@ use lib.IntN.{pos}
 use mir.Syntax.{w8}
 use mir.Val.{toZ}
 use mir.Facts.{toZ-pos}
-use Rattle.tree.specs.Ran.{ran-done, ran-ask}
-use Rattle.silk.specs.IndexRows.{contour-row, contour-within}
+use Rattle.tree.proofs.Ran.{ran-done, ran-ask}
+use Rattle.silk.proofs.IndexRows.{contour-row, contour-within}
 use Rattle.silk.specs.IndexSyntax.{contour}
 use Rattle.index_pitch_read.proofs.contour_index.Statement.{statement}
 use Rattle.index_pitch_read.proofs.contour_index.Tie as tie

@@ -12,13 +12,13 @@ use mir.Syntax.{w8}
 use mir.Val.{toZ}
 use mir.Facts.{toZ-pos}
 use Rattle.entcode.specs.declared.Dec.{Dec}
-use Rattle.entcode.specs.ReaderLaws.{Core}
+use Rattle.entcode.specs.Inner.Reading.{Core}
 use Rattle.tree.specs.Asks.{run}
 use Rattle.silk.specs.declared.Indices.{Indices}
-use Rattle.silk.specs.IndexRows.{subframes-most, filter-row}
+use Rattle.silk.proofs.IndexRows.{subframes-most, filter-row}
 use Rattle.silk.specs.IndexSyntax.{filters}
-use Rattle.silk.specs.IndexSteps.{filters-end, filters-next}
-use Rattle.index_layout.specs.FilterSizes.{size-is, size-most}
+use Rattle.silk.proofs.IndexSteps.{filters-end, filters-next}
+use Rattle.index_layout.proofs.FilterSizes.{size-is, size-most}
 use Rattle.index_pitch_read.proofs.filter_indices.Statement.{statement}
 use Rattle.index_pitch_read.proofs.filter_indices.Tie as tie
 

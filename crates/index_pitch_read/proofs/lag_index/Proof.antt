@@ -4,8 +4,8 @@ use native.Mathlib.Omega.{arith}
 use borrow.Author.Needs.{needs}
 use borrow.Author.Tests.{eq-eqb, ne-eqb}
 use mir.Facts.{toZ-ofZ}
-use Rattle.tree.specs.Ran.{ran-done, ran-ask, ran-within}
-use Rattle.silk.specs.IndexRows.{delta-lag-row}
+use Rattle.tree.proofs.Ran.{ran-done, ran-ask, ran-within}
+use Rattle.silk.proofs.IndexRows.{delta-lag-row}
 use Rattle.silk.specs.IndexSyntax.{lagAfter, lag}
 use Rattle.index_pitch_read.proofs.lag_index.Statement.{statement}
 use Rattle.index_pitch_read.proofs.lag_index.Tie as tie

@@ -6,8 +6,8 @@ use lib.IntN.{pos}
 use mir.Syntax.{w8}
 use mir.Val.{toZ}
 use mir.Facts.{toZ-pos}
-use Rattle.tree.specs.Ran.{ran-ask}
-use Rattle.silk.specs.IndexRows.{period-row}
+use Rattle.tree.proofs.Ran.{ran-ask}
+use Rattle.silk.proofs.IndexRows.{period-row}
 use Rattle.silk.specs.IndexSyntax.{period}
 use Rattle.index_pitch_read.proofs.period_index.Statement.{statement}
 use Rattle.index_pitch_read.proofs.period_index.Tie as tie

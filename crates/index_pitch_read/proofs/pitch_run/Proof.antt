@@ -7,10 +7,10 @@ use mir.Syntax.{w16}
 use mir.Val.{SFits, toZ, ofZ}
 use mir.Facts.{toZ-ofZ}
 use Rattle.entcode.specs.declared.Dec.{Dec}
-use Rattle.tree.specs.Ran.{ran-bind}
-use Rattle.silk.specs.IndexRows.{Reading}
+use Rattle.tree.proofs.Ran.{ran-bind}
+use Rattle.silk.specs.Inner.Indices.{Reading}
 use Rattle.silk.specs.IndexSyntax.{pitch}
-use Rattle.silk.specs.IndexSteps.{reading-next}
+use Rattle.silk.proofs.IndexSteps.{reading-next}
 use Rattle.index_pitch_read.proofs.pitch_run.Statement.{statement}
 use Rattle.index_pitch_read.proofs.pitch_run.Tie as tie
 

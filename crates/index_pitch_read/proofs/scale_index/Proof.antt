@@ -3,9 +3,9 @@ use borrow.Author.Needs.{needs}
 use native.Mathlib.Omega.{arith}
 use Rattle.sheet.specs.Directory.{scaleRow}
 use Rattle.silk.specs.Record.{putScale}
-use Rattle.silk.specs.IndexRows.{scale-row}
+use Rattle.silk.proofs.IndexRows.{scale-row}
 use Rattle.silk.specs.IndexSyntax.{said, scale}
-use Rattle.silk.specs.IndexSteps.{coded-read, fixed-read}
+use Rattle.silk.proofs.IndexSteps.{coded-read, fixed-read}
 use Rattle.index_pitch_read.proofs.scale_index.Statement.{statement}
 use Rattle.index_pitch_read.proofs.scale_index.Tie as tie
 

@@ -6,11 +6,11 @@ use native.Mathlib.Omega.{arith}
 use lib.IntN.{natAbs}
 use mir.Syntax.{w16}
 use mir.Val.{toZ, ofZ}
-use Rattle.tree.specs.Told.{told-done, told-ask}
-use Rattle.silk.specs.IndexRows.{rate-most, lag-row, lag-low-row, lag-low-within}
+use Rattle.tree.proofs.Told.{told-done, told-ask}
+use Rattle.silk.proofs.IndexRows.{rate-most, lag-row, lag-low-row, lag-low-within}
 use Rattle.silk.specs.IndexSyntax.{absoluteLag}
-use Rattle.silk.specs.IndexParts.{upto-fits, abs-kept}
-use Rattle.silk.specs.IndexSays.{high-part, low-part}
+use Rattle.silk.proofs.IndexParts.{upto-fits, abs-kept}
+use Rattle.silk.proofs.IndexSays.{high-part, low-part}
 use Rattle.index_pitch_write.proofs.absolute_lag_tell.Statement.{statement}
 use Rattle.index_pitch_write.proofs.absolute_lag_tell.Tie as tie
 

@@ -6,10 +6,11 @@ use native.Mathlib.Omega.{arith}
 use lib.IntN.{natAbs}
 use mir.Syntax.{w8}
 use mir.Val.{toZ, ofZ}
-use Rattle.tree.specs.Told.{told-done, told-ask}
-use Rattle.silk.specs.IndexRows.{contourStart, contourSize, contour-row, contour-within}
+use Rattle.tree.proofs.Told.{told-done, told-ask}
+use Rattle.silk.specs.Inner.Indices.{contourStart, contourSize}
+use Rattle.silk.proofs.IndexRows.{contour-row, contour-within}
 use Rattle.silk.specs.IndexSyntax.{contour}
-use Rattle.silk.specs.IndexParts.{upto-fits, abs-kept}
+use Rattle.silk.proofs.IndexParts.{upto-fits, abs-kept}
 use Rattle.index_pitch_write.proofs.contour_tell.Statement.{statement}
 use Rattle.index_pitch_write.proofs.contour_tell.Tie as tie
 

@@ -2,8 +2,8 @@
 use borrow.Author.Needs.{needs}
 use mathlib.Core.Path.{refl}
 use native.Mathlib.Omega.{arith}
-use Rattle.tree.specs.Told.{midway-start, midway-asked}
-use Rattle.silk.specs.IndexRows.{delta-lag-row}
+use Rattle.tree.proofs.Told.{midway-start, midway-asked}
+use Rattle.silk.proofs.IndexRows.{delta-lag-row}
 use Rattle.silk.specs.IndexSyntax.{lag}
 use Rattle.index_pitch_write.proofs.delta_tell.Statement.{statement}
 use Rattle.index_pitch_write.proofs.delta_tell.Tie as tie

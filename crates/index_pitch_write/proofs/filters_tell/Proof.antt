@@ -10,13 +10,15 @@ use lib.ListN.{length, getD}
 use mir.Syntax.{w8}
 use mir.Val.{toZ, ofZ}
 use Rattle.entcode.specs.Flat.{Out, out}
-use Rattle.tree.specs.Told.{Midway, midway-start, midway-ask, midway-end, told-within}
+use Rattle.tree.specs.Inner.Told.{Midway}
+use Rattle.tree.proofs.Told.{midway-start, midway-ask, midway-end, told-within}
 use Rattle.silk.specs.declared.Indices.{Indices}
-use Rattle.silk.specs.IndexRows.{subframes-most, filter-row}
+use Rattle.silk.proofs.IndexRows.{subframes-most, filter-row}
 use Rattle.silk.specs.IndexSyntax.{filters}
-use Rattle.silk.specs.IndexParts.{Upto, upto-fits, abs-kept}
-use Rattle.silk.specs.IndexTold.{filters-told-end, filters-told-next}
-use Rattle.index_layout.specs.FilterSizes.{size-is, size-most}
+use Rattle.silk.specs.Inner.Indices.{Upto}
+use Rattle.silk.proofs.IndexParts.{upto-fits, abs-kept}
+use Rattle.silk.proofs.IndexTold.{filters-told-end, filters-told-next}
+use Rattle.index_layout.proofs.FilterSizes.{size-is, size-most}
 use Rattle.index_pitch_write.proofs.filters_tell.Statement.{statement}
 use Rattle.index_pitch_write.proofs.filters_tell.Tie as tie
 

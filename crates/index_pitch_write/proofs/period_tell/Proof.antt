@@ -6,12 +6,13 @@ use lib.IntN.{ℤ, pos, natAbs}
 use mir.Syntax.{w8}
 use mir.Val.{toZ, ofZ}
 use Rattle.entcode.specs.Flat.{out}
-use Rattle.tree.specs.Told.{Told, told-ask}
+use Rattle.tree.specs.Inner.Told.{Told}
+use Rattle.tree.proofs.Told.{told-ask}
 use Rattle.silk.specs.declared.Indices.{Indices}
-use Rattle.silk.specs.IndexRows.{period-row}
+use Rattle.silk.proofs.IndexRows.{period-row}
 use Rattle.silk.specs.IndexSyntax.{filters, period}
-use Rattle.silk.specs.IndexParts.{upto-fits, abs-kept}
-use Rattle.silk.specs.IndexSays.{period-same}
+use Rattle.silk.proofs.IndexParts.{upto-fits, abs-kept}
+use Rattle.silk.proofs.IndexSays.{period-same}
 use Rattle.index_pitch_write.proofs.period_tell.Statement.{statement}
 use Rattle.index_pitch_write.proofs.period_tell.Tie as tie
 

@@ -5,13 +5,13 @@ use mathlib.Core.List.{List}
 use native.Mathlib.Omega.{arith}
 use Rattle.entcode.specs.declared.Enc.{Enc}
 use Rattle.entcode.specs.Flat.{out}
-use Rattle.tree.specs.Says.{says-means}
-use Rattle.tree.specs.Told.{told-then}
-use Rattle.silk.specs.IndexRows.{Writing}
+use Rattle.tree.proofs.Says.{says-means}
+use Rattle.tree.proofs.Told.{told-then}
+use Rattle.silk.specs.Inner.Indices.{Writing}
 use Rattle.silk.specs.IndexSyntax.{relativeLag, pitch}
-use Rattle.silk.specs.IndexRanges.{Shape}
-use Rattle.silk.specs.IndexSays.{lag-says, contour-says, period-says}
-use Rattle.silk.specs.IndexTold.{writing-next}
+use Rattle.silk.specs.Record.{Shape}
+use Rattle.silk.proofs.IndexSays.{lag-says, contour-says, period-says}
+use Rattle.silk.proofs.IndexTold.{writing-next}
 use Rattle.index_pitch_write.proofs.pitch_tell_run.Statement.{statement}
 use Rattle.index_pitch_write.proofs.pitch_tell_run.Tie as tie
 

@@ -7,10 +7,10 @@ use mir.Syntax.{w8}
 use mir.Val.{toZ, ofZ}
 use Rattle.sheet.specs.Directory.{scaleRow}
 use Rattle.silk.specs.Record.{putScale}
-use Rattle.silk.specs.IndexRows.{scale-row}
+use Rattle.silk.proofs.IndexRows.{scale-row}
 use Rattle.silk.specs.IndexSyntax.{said, scale}
-use Rattle.silk.specs.IndexParts.{upto-fits, abs-kept}
-use Rattle.silk.specs.IndexTold.{coded-told, fixed-told}
+use Rattle.silk.proofs.IndexParts.{upto-fits, abs-kept}
+use Rattle.silk.proofs.IndexTold.{coded-told, fixed-told}
 use Rattle.index_pitch_write.proofs.scale_tell.Statement.{statement}
 use Rattle.index_pitch_write.proofs.scale_tell.Tie as tie
 

@@ -3,9 +3,9 @@ use borrow.Author.Needs.{needs}
 use native.Mathlib.Omega.{arith}
 use Rattle.sheet.specs.Directory.{interpolationRow}
 use Rattle.silk.specs.Record.{putInterp}
-use Rattle.silk.specs.IndexRows.{interpolation-row}
+use Rattle.silk.proofs.IndexRows.{interpolation-row}
 use Rattle.silk.specs.IndexSyntax.{said, interpolation}
-use Rattle.silk.specs.IndexSteps.{coded-read, fixed-read}
+use Rattle.silk.proofs.IndexSteps.{coded-read, fixed-read}
 use Rattle.index_single_read.proofs.interpolation_run.Statement.{statement}
 use Rattle.index_single_read.proofs.interpolation_run.Tie as tie
 

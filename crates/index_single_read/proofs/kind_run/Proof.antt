@@ -1,8 +1,8 @@
 -- `index_single_read::kind_run` meets its contract: one symbol of the frame's type row. Assumes nothing.
 use borrow.Author.Needs.{needs}
 use native.Mathlib.Omega.{arith}
-use Rattle.tree.specs.Ran.{ran-done, ran-ask}
-use Rattle.silk.specs.IndexRows.{type-row}
+use Rattle.tree.proofs.Ran.{ran-done, ran-ask}
+use Rattle.silk.proofs.IndexRows.{type-row}
 use Rattle.silk.specs.IndexSyntax.{kind}
 use Rattle.index_single_read.proofs.kind_run.Statement.{statement}
 use Rattle.index_single_read.proofs.kind_run.Tie as tie

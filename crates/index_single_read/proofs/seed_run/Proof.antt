@@ -6,8 +6,8 @@ use lib.IntN.{pos}
 use mir.Syntax.{w8}
 use mir.Val.{toZ}
 use mir.Facts.{toZ-pos}
-use Rattle.tree.specs.Ran.{ran-done, ran-ask}
-use Rattle.silk.specs.IndexRows.{seed-row}
+use Rattle.tree.proofs.Ran.{ran-done, ran-ask}
+use Rattle.silk.proofs.IndexRows.{seed-row}
 use Rattle.silk.specs.IndexSyntax.{seed}
 use Rattle.index_single_read.proofs.seed_run.Statement.{statement}
 use Rattle.index_single_read.proofs.seed_run.Tie as tie

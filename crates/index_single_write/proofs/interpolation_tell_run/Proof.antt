@@ -7,10 +7,10 @@ use mir.Syntax.{w8}
 use mir.Val.{toZ, ofZ}
 use Rattle.sheet.specs.Directory.{interpolationRow}
 use Rattle.silk.specs.Record.{putInterp}
-use Rattle.silk.specs.IndexRows.{interpolation-row}
+use Rattle.silk.proofs.IndexRows.{interpolation-row}
 use Rattle.silk.specs.IndexSyntax.{said, interpolation}
-use Rattle.silk.specs.IndexParts.{upto-fits, abs-kept}
-use Rattle.silk.specs.IndexTold.{coded-told, fixed-told}
+use Rattle.silk.proofs.IndexParts.{upto-fits, abs-kept}
+use Rattle.silk.proofs.IndexTold.{coded-told, fixed-told}
 use Rattle.index_single_write.proofs.interpolation_tell_run.Statement.{statement}
 use Rattle.index_single_write.proofs.interpolation_tell_run.Tie as tie
 

@@ -6,10 +6,10 @@ use native.Mathlib.Omega.{arith}
 use lib.IntN.{ℤ, natAbs}
 use mir.Syntax.{w8}
 use mir.Val.{toZ, ofZ}
-use Rattle.tree.specs.Told.{told-done, told-ask}
-use Rattle.silk.specs.IndexRows.{type-row}
+use Rattle.tree.proofs.Told.{told-done, told-ask}
+use Rattle.silk.proofs.IndexRows.{type-row}
 use Rattle.silk.specs.IndexSyntax.{kind}
-use Rattle.silk.specs.IndexParts.{upto-fits, abs-kept}
+use Rattle.silk.proofs.IndexParts.{upto-fits, abs-kept}
 use Rattle.index_single_write.proofs.kind_tell_run.Statement.{statement}
 use Rattle.index_single_write.proofs.kind_tell_run.Tie as tie
 

@@ -5,9 +5,9 @@ use native.Mathlib.Omega.{arith}
 use lib.IntN.{natAbs}
 use mir.Syntax.{w8}
 use mir.Val.{toZ, ofZ}
-use Rattle.tree.specs.Told.{told-done, told-ask}
-use Rattle.silk.specs.IndexRows.{seed-row}
-use Rattle.silk.specs.IndexParts.{upto-fits, abs-kept}
+use Rattle.tree.proofs.Told.{told-done, told-ask}
+use Rattle.silk.proofs.IndexRows.{seed-row}
+use Rattle.silk.proofs.IndexParts.{upto-fits, abs-kept}
 use Rattle.silk.specs.IndexSyntax.{seed}
 use Rattle.index_single_write.proofs.seed_tell_run.Statement.{statement}
 use Rattle.index_single_write.proofs.seed_tell_run.Tie as tie

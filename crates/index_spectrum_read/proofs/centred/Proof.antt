@@ -7,8 +7,8 @@ use lib.IntN.{pos, _-ℤ_}
 use mir.Syntax.{w8}
 use mir.Val.{SFits, toZ}
 use mir.Facts.{toZ-ofZ, toZ-pos}
-use Rattle.ints.specs.Sums.{up-diff, down-diff}
-use Rattle.ints.specs.Widths.{parts-fit}
+use Rattle.ints.proofs.Sums.{up-diff, down-diff}
+use Rattle.ints.proofs.Widths.{parts-fit}
 use Rattle.index_spectrum_read.proofs.centred.Statement.{statement}
 use Rattle.index_spectrum_read.proofs.centred.Tie as tie
 

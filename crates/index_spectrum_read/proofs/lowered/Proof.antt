@@ -7,9 +7,9 @@ use lib.IntN.{pos, negsuc, _-ℤ_}
 use mir.Syntax.{w8}
 use mir.Val.{SFits, toZ}
 use mir.Facts.{toZ-ofZ, toZ-pos}
-use Rattle.ints.specs.Sums.{diff-parts}
-use Rattle.ints.specs.Order.{parts-same}
-use Rattle.ints.specs.Widths.{parts-fit}
+use Rattle.ints.proofs.Sums.{diff-parts}
+use Rattle.ints.proofs.Order.{parts-same}
+use Rattle.ints.proofs.Widths.{parts-fit}
 use Rattle.index_spectrum_read.proofs.lowered.Statement.{statement}
 use Rattle.index_spectrum_read.proofs.lowered.Tie as tie
 

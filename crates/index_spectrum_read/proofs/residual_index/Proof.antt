@@ -8,8 +8,8 @@ use lib.IntN.{pos, negsuc, _-ℤ_}
 use mir.Syntax.{w8}
 use mir.Val.{toZ, ofZ}
 use mir.Facts.{toZ-ofZ}
-use Rattle.tree.specs.Ran.{ran-done, ran-ask, ran-within}
-use Rattle.silk.specs.IndexRows.{residual-row, extension-row}
+use Rattle.tree.proofs.Ran.{ran-done, ran-ask, ran-within}
+use Rattle.silk.proofs.IndexRows.{residual-row, extension-row}
 use Rattle.silk.specs.IndexSyntax.{residual}
 use Rattle.index_spectrum_read.proofs.residual_index.Statement.{statement}
 use Rattle.index_spectrum_read.proofs.residual_index.Tie as tie

@@ -11,13 +11,13 @@ use mir.Syntax.{w8}
 use mir.Val.{SFits}
 use mir.Facts.{toZ-ofZ}
 use Rattle.entcode.specs.declared.Dec.{Dec}
-use Rattle.entcode.specs.ReaderLaws.{Core}
+use Rattle.entcode.specs.Inner.Reading.{Core}
 use Rattle.sheet.specs.Directory.{residualRow}
 use Rattle.tree.specs.Asks.{run, got}
 use Rattle.silk.specs.declared.Indices.{Indices}
-use Rattle.silk.specs.IndexRows.{rate-most}
+use Rattle.silk.proofs.IndexRows.{rate-most}
 use Rattle.silk.specs.IndexSyntax.{residualPick, residual, residuals}
-use Rattle.silk.specs.IndexSteps.{residuals-end, residuals-next}
+use Rattle.silk.proofs.IndexSteps.{residuals-end, residuals-next}
 use Rattle.index_spectrum_read.proofs.residual_indices.Statement.{statement}
 use Rattle.index_spectrum_read.proofs.residual_indices.Tie as tie
 

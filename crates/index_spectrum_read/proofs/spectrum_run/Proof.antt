@@ -8,12 +8,12 @@ use lib.ListN.{length}
 use mir.Syntax.{w8}
 use mir.Val.{toZ}
 use mir.Facts.{toZ-pos}
-use Rattle.tree.specs.Ran.{ran-ask}
+use Rattle.tree.proofs.Ran.{ran-ask}
 use Rattle.silk.specs.Record.{withNlsf}
-use Rattle.silk.specs.IndexRows.{rate-most, first-index-row}
+use Rattle.silk.proofs.IndexRows.{rate-most, first-index-row}
 use Rattle.silk.specs.IndexSyntax.{bookOf, spectrum}
-use Rattle.silk.specs.IndexSteps.{residuals-picked}
-use Rattle.silk.specs.IndexParts.{order-most}
+use Rattle.silk.proofs.IndexSteps.{residuals-picked}
+use Rattle.silk.proofs.IndexParts.{order-most}
 use Rattle.index_spectrum_read.proofs.spectrum_run.Statement.{statement}
 use Rattle.index_spectrum_read.proofs.spectrum_run.Tie as tie
 

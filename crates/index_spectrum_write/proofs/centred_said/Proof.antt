@@ -9,8 +9,8 @@ use mir.Syntax.{w8}
 use mir.Val.{SFits, toZ, ofZ}
 use mir.Facts.{toZ-ofZ}
 use Rattle.ints.specs.Parts.{up, down}
-use Rattle.ints.specs.Sums.{up-sum, down-sum}
-use Rattle.ints.specs.Order.{leZ-false, is-nat}
+use Rattle.ints.proofs.Sums.{up-sum, down-sum}
+use Rattle.ints.proofs.Order.{leZ-false, is-nat}
 use Rattle.index_spectrum_write.proofs.centred_said.Statement.{statement}
 use Rattle.index_spectrum_write.proofs.centred_said.Tie as tie
 

@@ -8,8 +8,8 @@ use lib.Signed.{ltZ}
 use mir.Syntax.{w8}
 use mir.Val.{SFits, toZ, ofZ}
 use mir.Facts.{toZ-ofZ}
-use Rattle.ints.specs.Sums.{diff-parts}
-use Rattle.ints.specs.Order.{parts-same, ltZ-true, ltZ-false}
+use Rattle.ints.proofs.Sums.{diff-parts}
+use Rattle.ints.proofs.Order.{parts-same, ltZ-true, ltZ-false}
 use Rattle.index_spectrum_write.proofs.extension_said.Statement.{statement}
 use Rattle.index_spectrum_write.proofs.extension_said.Tie as tie
 

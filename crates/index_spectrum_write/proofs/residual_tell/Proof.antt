@@ -10,9 +10,9 @@ use lib.Signed.{leZ}
 use mir.Syntax.{w8}
 use mir.Val.{toZ, ofZ}
 use mir.Facts.{toZ-ofZ}
-use Rattle.ints.specs.Order.{leZ-true}
-use Rattle.tree.specs.Told.{told-done, told-ask, told-within}
-use Rattle.silk.specs.IndexRows.{residual-row, extension-row}
+use Rattle.ints.proofs.Order.{leZ-true}
+use Rattle.tree.proofs.Told.{told-done, told-ask, told-within}
+use Rattle.silk.proofs.IndexRows.{residual-row, extension-row}
 use Rattle.silk.specs.IndexSyntax.{residualSaid, extensionSaid, residual}
 use Rattle.index_spectrum_write.proofs.residual_tell.Statement.{statement}
 use Rattle.index_spectrum_write.proofs.residual_tell.Tie as tie

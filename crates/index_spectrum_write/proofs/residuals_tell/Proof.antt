@@ -11,12 +11,13 @@ use lib.ListN.{length, getD}
 use mir.Syntax.{w8}
 use Rattle.entcode.specs.Flat.{Out, out}
 use Rattle.sheet.specs.Directory.{residualRow}
-use Rattle.tree.specs.Told.{Told, Midway, midway-start, midway-next, midway-end, told-within}
+use Rattle.tree.specs.Inner.Told.{Told, Midway}
+use Rattle.tree.proofs.Told.{midway-start, midway-next, midway-end, told-within}
 use Rattle.silk.specs.declared.Indices.{Indices}
-use Rattle.silk.specs.IndexRows.{rate-most}
+use Rattle.silk.proofs.IndexRows.{rate-most}
 use Rattle.silk.specs.IndexSyntax.{residualPick, residual, residuals}
-use Rattle.silk.specs.IndexParts.{abs-kept}
-use Rattle.silk.specs.IndexTold.{residuals-told-end, residuals-told-next}
+use Rattle.silk.proofs.IndexParts.{abs-kept}
+use Rattle.silk.proofs.IndexTold.{residuals-told-end, residuals-told-next}
 use Rattle.index_spectrum_write.proofs.residuals_tell.Statement.{statement}
 use Rattle.index_spectrum_write.proofs.residuals_tell.Tie as tie
 

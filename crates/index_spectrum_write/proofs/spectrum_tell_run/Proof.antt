@@ -7,11 +7,11 @@ use lib.IntN.{ℤ, pos, natAbs}
 use lib.ListN.{length, getD}
 use mir.Syntax.{w8}
 use mir.Val.{toZ, ofZ}
-use Rattle.silk.specs.IndexRows.{rate-most, first-index-row}
+use Rattle.silk.proofs.IndexRows.{rate-most, first-index-row}
 use Rattle.silk.specs.IndexSyntax.{bookOf}
-use Rattle.silk.specs.IndexSteps.{residuals-picked}
-use Rattle.silk.specs.IndexParts.{upto-fits, abs-kept, order-most}
-use Rattle.silk.specs.IndexTold.{spectrum-told}
+use Rattle.silk.proofs.IndexSteps.{residuals-picked}
+use Rattle.silk.proofs.IndexParts.{upto-fits, abs-kept, order-most}
+use Rattle.silk.proofs.IndexTold.{spectrum-told}
 use Rattle.index_spectrum_write.proofs.spectrum_tell_run.Statement.{statement}
 use Rattle.index_spectrum_write.proofs.spectrum_tell_run.Tie as tie
 

@@ -12,10 +12,11 @@ use lib.ListN.{length, take, drop, length-drop}
 use lib.Seq.{take-all}
 use mir.Syntax.{w16}
 use mir.Facts.{toZ-ofZ}
-use Rattle.tests.specs.Both.{and-both}
-use Rattle.numerals.specs.Put.{Put, put-as}
+use Rattle.deciding.proofs.Both.{and-both}
+use Rattle.numerals.specs.Inner.{Put}
+use Rattle.numerals.proofs.Put.{put-as}
 use Rattle.listing.specs.Lines.{refusedText}
-use Rattle.listing.specs.Printed.{printed-put}
+use Rattle.listing.proofs.PrintedLaws.{printed-put}
 use Rattle.sections.specs.Values.{byteAt, pairAt, valueAt}
 use Rattle.silk.specs.declared.Setting.{Setting}
 use Rattle.lister_text.specs.ListerText.{settingAt, whole, frameText, listerText}

@@ -13,12 +13,12 @@ use lib.Seq.{length-take-le}
 use mir.Syntax.{w8, w32}
 use mir.Val.{Fits, SFits}
 use mir.Facts.{toZ-ofZ}
-use Rattle.ints.specs.Widths.{parts-fit}
-use Rattle.numerals.specs.Put.{put-then, put-as}
-use Rattle.silk.specs.IndexRows.{Rate, eight, twelve, sixteen, subframes-most}
-use Rattle.silk.specs.IndexParts.{Upto}
+use Rattle.ints.proofs.Widths.{parts-fit}
+use Rattle.numerals.proofs.Put.{put-then, put-as}
+use Rattle.silk.specs.Inner.Indices.{Rate, eight, twelve, sixteen, Upto}
+use Rattle.silk.proofs.IndexRows.{subframes-most}
 use Rattle.silk.specs.FrameCalls.{blocksOf}
-use Rattle.silk.specs.PulseCallLaws.{blocks-most}
+use Rattle.silk.proofs.PulseCallLaws.{blocks-most}
 use Rattle.lister_text.proofs.put_frame.Statement.{statement}
 use Rattle.lister_text.proofs.put_frame.Tie as tie
 

@@ -3,9 +3,9 @@ use borrow.Author.Needs.{needs}
 use Prim.Native.Nat.{_≤_}
 use mathlib.Core.Path.{ap, ap₂}
 use native.Mathlib.Omega.{arith}
-use Rattle.numerals.specs.Put.{put-as}
+use Rattle.numerals.proofs.Put.{put-as}
 use Rattle.silk.specs.FrameCalls.{Pulsed, blocksOf}
-use Rattle.silk.specs.PulseCallLaws.{blocks-most}
+use Rattle.silk.proofs.PulseCallLaws.{blocks-most}
 use Rattle.frame_text.specs.FrameText.{pulsesText}
 use Rattle.lister_text.proofs.put_pulses.Statement.{statement}
 use Rattle.lister_text.proofs.put_pulses.Tie as tie

@@ -5,17 +5,17 @@ use Prim.Native.Nat.{ℕ, _≤_}
 use mathlib.Core.Path.{_≡_, sym, ap, ap₂, subst⁻¹, _∙_}
 use mathlib.Core.List.{List}
 use native.Mathlib.Omega.{arith}
-use Rattle.numerals.specs.Put.{put-as}
+use Rattle.numerals.proofs.Put.{put-as}
 use Rattle.listing.specs.Lines.{refusedText}
 use Rattle.entcode.specs.declared.Dec.{Dec}
 use Rattle.entcode.specs.declared.Decoded.{Decoded}
-use Rattle.entcode.specs.ReaderLaws.{Bytes}
+use Rattle.entcode.specs.Reader.{Bytes}
 use Rattle.silk.specs.declared.Indices.{Indices}
 use Rattle.silk.specs.declared.IndicesRead.{IndicesRead}
 use Rattle.silk.specs.declared.Setting.{Setting}
 use Rattle.silk.specs.FrameCalls.{decodeIndices}
 use Rattle.lister_text.specs.ListerText.{indicesOf, acceptedText, readText}
-use Rattle.lister_text.specs.Readings.{Listable, listable, refusal-most}
+use Rattle.lister_text.proofs.Readings.{Listable, listable, refusal-most}
 use Rattle.lister_text.proofs.put_read.Statement.{statement}
 use Rattle.lister_text.proofs.put_read.Tie as tie
 
@@ -46,23 +46,11 @@ refused : (b : List ℕ) (s : Setting) (a : IndicesRead) → (a .refusal ≡ 0 �
 unfolding readText
 refused b s a h = rw (ne-eqb (a .refusal) 0 h)
 
-ec-dec-init-requires : tie.Need-ec-dec-init-requires
-ec-dec-init-requires c κs = search needs
-
-blank-requires : tie.Need-blank-requires
-blank-requires c κs = search needs
-
-silk-decode-indices-requires : tie.Need-silk-decode-indices-requires
-silk-decode-indices-requires c κs = search needs
-
 put-frame-requires : tie.Need-put-frame-requires
 put-frame-requires c κs =
     let r = c .before .before .before in
     let l = accepted r (c .before .if1 .taken) in
     (search needs, ((l .rate, l .subframes), (l .signal, l .offset)))
-
-same-length : tie.Need-same-length
-same-length c = search needs
 
 returns : tie.Need-returns
 returns c =
@@ -79,9 +67,6 @@ put-refused-run-requires c κs =
     let m : r .silk-decode-indices .result .refusal ≤ 4 = subst⁻¹ (λ (a : IndicesRead). a .refusal ≤ 4) (reading r) (refusal-most _ (setting (start r))) in
     (search needs, omega arith)
 
-same-length-2 : tie.Need-same-length-2
-same-length-2 c = search needs
-
 returns-2 : tie.Need-returns-2
 returns-2 c =
     let r = c .before .before .before .before .before .before in
@@ -95,12 +80,12 @@ pub put-read-spec : {M : Type 1} → statement M
 put-read-spec =
     tie.close
     (tie.spec
-    ec-dec-init-requires
-    blank-requires
-    silk-decode-indices-requires
+    (λ c κs. search needs)
+    (λ c κs. search needs)
+    (λ c κs. search needs)
     put-frame-requires
-    same-length
+    (λ c. search needs)
     returns
     put-refused-run-requires
-    same-length-2
+    (λ c. search needs)
     returns-2)

@@ -2,7 +2,7 @@
 use borrow.Author.Needs.{needs}
 use mathlib.Core.List.{[], _∷_, append-assoc}
 use native.Mathlib.Omega.{arith}
-use Rattle.numerals.specs.Put.{put-then, put-as}
+use Rattle.numerals.proofs.Put.{put-then, put-as}
 use Rattle.listing.specs.Lines.{spaced, line}
 use Rattle.listing.proofs.put_line_run.Statement.{statement}
 use Rattle.listing.proofs.put_line_run.Tie as tie

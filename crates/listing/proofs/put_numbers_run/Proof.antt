@@ -10,9 +10,10 @@ use lib.Seq.{take-length}
 use mir.Syntax.{w16}
 use mir.Val.{SFits}
 use mir.Facts.{toZ-ofZ}
-use Rattle.numerals.specs.Put.{Put, put-none, put-then, put-as}
+use Rattle.numerals.specs.Inner.{Put}
+use Rattle.numerals.proofs.Put.{put-none, put-then, put-as}
 use Rattle.listing.specs.Lines.{spaced}
-use Rattle.listing.specs.LineLaws.{spaced-more}
+use Rattle.listing.proofs.LineLaws.{spaced-more}
 use Rattle.listing.proofs.put_numbers_run.Statement.{statement}
 use Rattle.listing.proofs.put_numbers_run.Tie as tie
 

@@ -1,7 +1,7 @@
 -- `put_spaced_run` meets its contract. Assumes nothing.
 use borrow.Author.Needs.{needs}
 use mir.Facts.{toZ-ofZ}
-use Rattle.numerals.specs.Put.{put-then}
+use Rattle.numerals.proofs.Put.{put-then}
 use Rattle.listing.proofs.put_spaced_run.Statement.{statement}
 use Rattle.listing.proofs.put_spaced_run.Tie as tie
 

@@ -1,6 +1,6 @@
 -- `put_start_run` meets its contract. Assumes nothing.
 use borrow.Author.Needs.{needs}
-use Rattle.numerals.specs.Put.{put-then}
+use Rattle.numerals.proofs.Put.{put-then}
 use Rattle.listing.proofs.put_start_run.Statement.{statement}
 use Rattle.listing.proofs.put_start_run.Tie as tie
 

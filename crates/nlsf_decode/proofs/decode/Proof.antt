@@ -16,7 +16,7 @@ use Rattle.spectrum.proofs.CallLaws.{Accepted, decode-accepted}
 use Rattle.spectrum.specs.Calls.{bookOf, decoded}
 use Rattle.spectrum.specs.Stabilising.{Stable, kept16}
 use Rattle.spectrum.specs.Values.{at}
-use Rattle.nlsf_decode.specs.Asked.{Indexed, spectrumOf}
+use Rattle.nlsf_decode.specs.Inner.{Indexed, spectrumOf}
 use Rattle.nlsf_decode.proofs.RowLaws.{Under, wide-under, narrow-under, indexed, decoded-as}
 use Rattle.nlsf_decode.proofs.decode.Statement.{statement}
 use Rattle.nlsf_decode.proofs.decode.Tie as tie

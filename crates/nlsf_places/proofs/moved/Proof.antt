@@ -9,8 +9,8 @@ use lib.Signed.{quotZ}
 use mir.Syntax.{w32}
 use mir.Val.{SFits, toZ, ofZ}
 use mir.Facts.{toZ-ofZ, toZ-pos}
-use Rattle.ints.specs.Sums.{up-sum, down-sum}
-use Rattle.ints.specs.Widths.{parts-fit, quot-fits, times-fits}
+use Rattle.ints.proofs.Sums.{up-sum, down-sum}
+use Rattle.ints.proofs.Widths.{parts-fit, quot-fits, times-fits}
 use Rattle.spectrum.proofs.ResidualBounds.{moved-fits}
 use Rattle.nlsf_places.proofs.moved.Statement.{statement}
 use Rattle.nlsf_places.proofs.moved.Tie as tie

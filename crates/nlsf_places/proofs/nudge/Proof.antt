@@ -9,12 +9,12 @@ use lib.IntN.{ℤ, pos, negsuc, _+ℤ_, _*ℤ_}
 use mir.Syntax.{w8, w32}
 use mir.Val.{SFits, toZ, ofZ}
 use mir.Facts.{toZ-ofZ, sfits-widen}
-use Rattle.ints.specs.Sums.{up-sum, down-sum, up-times, down-times}
-use Rattle.ints.specs.Widths.{fits-up, fits-down, parts-fit, times-fits}
+use Rattle.ints.proofs.Sums.{up-sum, down-sum, up-times, down-times}
+use Rattle.ints.proofs.Widths.{fits-up, fits-down, parts-fit, times-fits}
 use Rattle.spectrum.proofs.Extremes.{chosen-ltZ}
 use Rattle.spectrum.specs.Residuals.{nudged}
 use Rattle.spectrum.specs.Values.{Mag}
-use Rattle.nlsf_places.specs.Asked.{towardZero}
+use Rattle.nlsf_places.specs.Inner.{towardZero}
 use Rattle.nlsf_places.proofs.nudge.Statement.{statement}
 use Rattle.nlsf_places.proofs.nudge.Tie as tie
 

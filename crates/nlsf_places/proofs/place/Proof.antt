@@ -9,8 +9,8 @@ use lib.Signed.{ltZ, quotZ}
 use mir.Syntax.{w16, w32}
 use mir.Val.{SFits, toZ, ofZ}
 use mir.Facts.{toZ-ofZ}
-use Rattle.ints.specs.Order.{parts-alone, ltZ-false}
-use Rattle.ints.specs.Widths.{parts-fit}
+use Rattle.ints.proofs.Order.{parts-alone, ltZ-false}
+use Rattle.ints.proofs.Widths.{parts-fit}
 use Rattle.sheet.specs.Weights.{weight}
 use Rattle.spectrum.proofs.Extremes.{held-hi, held-lo, held-own}
 use Rattle.spectrum.specs.Places.{placed}

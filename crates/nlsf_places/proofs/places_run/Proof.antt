@@ -17,7 +17,7 @@ use Rattle.spectrum.proofs.Results.{within-at}
 use Rattle.spectrum.specs.Places.{placed}
 use Rattle.spectrum.specs.Residuals.{scaled, predicted, listOf}
 use Rattle.spectrum.specs.Values.{at, Mag}
-use Rattle.nlsf_places.specs.Asked.{Rows, rows, predictorAt, predictorBy, residualsBy, placesBy, PlacesOk}
+use Rattle.nlsf_places.specs.Inner.{Rows, rows, predictorAt, predictorBy, residualsBy, placesBy, PlacesOk}
 use Rattle.nlsf_places.proofs.places_run.Statement.{statement}
 use Rattle.nlsf_places.proofs.places_run.Tie as tie
 

@@ -5,9 +5,9 @@ use native.Mathlib.Omega.{arith}
 use borrow.Author.Needs.{needs}
 use lib.Dec.{eqb}
 use lib.ListN.{length, getD}
-use Rattle.tests.specs.Choice.{chosen}
+use Rattle.deciding.proofs.Choice.{chosen}
 use Rattle.spectrum.specs.Residuals.{listOf}
-use Rattle.nlsf_places.specs.Asked.{predictorAt}
+use Rattle.nlsf_places.specs.Inner.{predictorAt}
 use Rattle.nlsf_places.proofs.predictor.Statement.{statement}
 use Rattle.nlsf_places.proofs.predictor.Tie as tie
 

@@ -6,8 +6,8 @@ use lib.IntN.{_+ℤ_}
 use mir.Syntax.{w32}
 use mir.Val.{SFits, toZ, ofZ}
 use mir.Facts.{toZ-ofZ}
-use Rattle.ints.specs.Sums.{up-sum, down-sum}
-use Rattle.ints.specs.Widths.{parts-fit}
+use Rattle.ints.proofs.Sums.{up-sum, down-sum}
+use Rattle.ints.proofs.Widths.{parts-fit}
 use Rattle.spectrum.proofs.ResidualBounds.{scaled-within, predicted-within}
 use Rattle.spectrum.specs.Residuals.{scaled, predicted}
 use Rattle.nlsf_places.proofs.residual.Statement.{statement}

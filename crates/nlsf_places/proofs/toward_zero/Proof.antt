@@ -1,6 +1,6 @@
 -- `toward_zero` meets its contract. Assumes nothing.
 use mir.Facts.{toZ-ofZ}
-use Rattle.nlsf_places.specs.Asked.{towardZero}
+use Rattle.nlsf_places.specs.Inner.{towardZero}
 use Rattle.nlsf_places.proofs.toward_zero.Statement.{statement}
 use Rattle.nlsf_places.proofs.toward_zero.Tie as tie
 

@@ -16,10 +16,10 @@ use Rattle.spectrum.proofs.Kept.{length-move}
 use Rattle.spectrum.proofs.MoveBounds.{place-most}
 use Rattle.spectrum.specs.Distances.{place}
 use Rattle.spectrum.specs.Stabilising.{run, stabilise, kept16}
-use Rattle.nlsf_stabilize_stays.specs.Asked.{stays}
+use Rattle.nlsf_stabilize_stays.specs.Inner.{stays}
 use Rattle.nlsf_stabilize_search.proofs.DiffLaws.{placed}
-use Rattle.nlsf_stabilize_search.specs.Asked.{smallestKey}
-use Rattle.nlsf_stabilize_move.specs.Asked.{MoveOk}
+use Rattle.nlsf_stabilize_search.specs.Inner.{smallestKey}
+use Rattle.nlsf_stabilize_move.specs.Inner.{MoveOk}
 use Rattle.nlsf_stabilize.proofs.RunLaws.{keep-ok, run-start, run-stop, run-on, run-out, stays-keeps}
 use Rattle.nlsf_stabilize.proofs.stabilise_run.Statement.{statement}
 use Rattle.nlsf_stabilize.proofs.stabilise_run.Tie as tie

@@ -8,10 +8,10 @@ use lib.Signed.{leZ}
 use mir.Syntax.{w16, w32}
 use mir.Val.{SFits, toZ, ofZ}
 use mir.Facts.{toZ-ofZ, sfits-widen}
-use Rattle.ints.specs.Order.{parts-alone, leZ-false}
+use Rattle.ints.proofs.Order.{parts-alone, leZ-false}
 use Rattle.ints.specs.Parts.{up, down}
-use Rattle.ints.specs.Sums.{up-diff}
-use Rattle.ints.specs.Widths.{fits-up, fits-down, parts-fit}
+use Rattle.ints.proofs.Sums.{up-diff}
+use Rattle.ints.proofs.Widths.{fits-up, fits-down, parts-fit}
 use Rattle.nlsf_stabilize_fallback.proofs.Downward.{min-yes, min-no}
 use Rattle.spectrum.proofs.Widened.{wide}
 use Rattle.nlsf_stabilize_fallback.proofs.lower_one.Statement.{statement}

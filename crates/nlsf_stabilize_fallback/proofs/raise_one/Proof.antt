@@ -7,10 +7,10 @@ use lib.Signed.{ltZ, leZ}
 use mir.Syntax.{w16, w32}
 use mir.Val.{SFits, toZ, ofZ}
 use mir.Facts.{toZ-ofZ, sfits-widen}
-use Rattle.ints.specs.Order.{parts-alone, ltZ-false}
+use Rattle.ints.proofs.Order.{parts-alone, ltZ-false}
 use Rattle.ints.specs.Parts.{down}
-use Rattle.ints.specs.Sums.{up-sum, down-sum}
-use Rattle.ints.specs.Widths.{fits-up, fits-down, parts-fit}
+use Rattle.ints.proofs.Sums.{up-sum, down-sum}
+use Rattle.ints.proofs.Widths.{fits-up, fits-down, parts-fit}
 use Rattle.spectrum.proofs.Extremes.{le-leZ}
 use Rattle.spectrum.specs.Fallback.{sat16}
 use Rattle.spectrum.specs.Values.{maxZ}

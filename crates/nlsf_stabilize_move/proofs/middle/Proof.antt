@@ -5,8 +5,8 @@ use lib.IntN.{ℤ, pos, _+ℤ_}
 use mir.Syntax.{w16, w32}
 use mir.Val.{SFits, toZ, ofZ}
 use mir.Facts.{toZ-ofZ, sfits-widen}
-use Rattle.ints.specs.Sums.{up-sum, down-sum}
-use Rattle.ints.specs.Widths.{fits-up, fits-down, parts-fit, shr-fits}
+use Rattle.ints.proofs.Sums.{up-sum, down-sum}
+use Rattle.ints.proofs.Widths.{fits-up, fits-down, parts-fit, shr-fits}
 use Rattle.spectrum.proofs.Extremes.{held-hi, held-lo, held-own}
 use Rattle.spectrum.specs.Values.{half}
 use Rattle.spectrum.proofs.Widened.{wide}

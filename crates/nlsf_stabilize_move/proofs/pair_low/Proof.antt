@@ -7,11 +7,11 @@ use lib.Signed.{shrZ}
 use mir.Syntax.{w16, w32}
 use mir.Val.{SFits, toZ, ofZ}
 use mir.Facts.{toZ-ofZ, sfits-widen}
-use Rattle.ints.specs.Widths.{parts-fit}
+use Rattle.ints.proofs.Widths.{parts-fit}
 use Rattle.spectrum.specs.Values.{top, held, half}
 use Rattle.nlsf_stabilize_move.proofs.PairLaws.{half-fits, lo-fits, less-fits, hi-fits, low-near}
 use Rattle.spectrum.proofs.Widened.{wide}
-use Rattle.nlsf_stabilize_move.specs.Asked.{PairOk}
+use Rattle.nlsf_stabilize_move.specs.Inner.{PairOk}
 use Rattle.nlsf_stabilize_move.proofs.pair_low.Statement.{statement}
 use Rattle.nlsf_stabilize_move.proofs.pair_low.Tie as tie
 

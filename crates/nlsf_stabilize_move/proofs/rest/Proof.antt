@@ -5,8 +5,8 @@ use lib.IntN.{ℤ, _-ℤ_}
 use mir.Syntax.{w16, w32}
 use mir.Val.{SFits, toZ, ofZ}
 use mir.Facts.{toZ-ofZ}
-use Rattle.ints.specs.Sums.{up-diff, down-diff}
-use Rattle.ints.specs.Widths.{fits-up, fits-down, parts-fit}
+use Rattle.ints.proofs.Sums.{up-diff, down-diff}
+use Rattle.ints.proofs.Widths.{fits-up, fits-down, parts-fit}
 use Rattle.spectrum.specs.Values.{Mag}
 use Rattle.spectrum.proofs.Widened.{wide}
 use Rattle.nlsf_stabilize_move.proofs.rest.Statement.{statement}

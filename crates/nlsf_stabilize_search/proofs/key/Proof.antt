@@ -9,10 +9,10 @@ use mir.Syntax.{w16, w32}
 use mir.Val.{SFits, toZ, ofZ}
 use mir.Facts.{toZ-ofZ, toZ-pos, sfits-widen}
 use Rattle.ints.specs.Parts.{up, down}
-use Rattle.ints.specs.Sums.{up-sum, down-sum, up-diff, down-diff, up-times, down-times}
-use Rattle.ints.specs.Widths.{fits-up, fits-down, parts-fit, times-fits}
+use Rattle.ints.proofs.Sums.{up-sum, down-sum, up-diff, down-diff, up-times, down-times}
+use Rattle.ints.proofs.Widths.{fits-up, fits-down, parts-fit, times-fits}
 use Rattle.spectrum.specs.Values.{Mag}
-use Rattle.nlsf_stabilize_search.specs.Asked.{keyed}
+use Rattle.nlsf_stabilize_search.specs.Inner.{keyed}
 use Rattle.nlsf_stabilize_search.proofs.key.Statement.{statement}
 use Rattle.nlsf_stabilize_search.proofs.key.Tie as tie
 

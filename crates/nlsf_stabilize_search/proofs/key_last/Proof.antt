@@ -8,7 +8,7 @@ use mir.Syntax.{w16, w32}
 use mir.Val.{SFits}
 use mir.Facts.{toZ-ofZ}
 use Rattle.spectrum.specs.Values.{at, top}
-use Rattle.nlsf_stabilize_search.specs.Asked.{keyed}
+use Rattle.nlsf_stabilize_search.specs.Inner.{keyed}
 use Rattle.nlsf_stabilize_search.proofs.DiffLaws.{at-last}
 use Rattle.nlsf_stabilize_search.proofs.key_last.Statement.{statement}
 use Rattle.nlsf_stabilize_search.proofs.key_last.Tie as tie

@@ -8,11 +8,11 @@ use lib.Signed.{nonNeg, shrZ}
 use mir.Syntax.{w32, w64}
 use mir.Val.{SFits, Fits, toZ, ofZ}
 use mir.Facts.{toZ-ofZ}
-use Rattle.ints.specs.Order.{parts-alone}
+use Rattle.ints.proofs.Order.{parts-alone}
 use Rattle.ints.specs.Parts.{up, down}
-use Rattle.ints.specs.Quotients.{shr-low, shr-high}
-use Rattle.ints.specs.Sums.{up-diff, down-diff, up-times, down-times}
-use Rattle.ints.specs.Widths.{fits-up, fits-down, parts-fit, shr-fits}
+use Rattle.ints.proofs.Quotients.{shr-low, shr-high}
+use Rattle.ints.proofs.Sums.{up-diff, down-diff, up-times, down-times}
+use Rattle.ints.proofs.Widths.{fits-up, fits-down, parts-fit, shr-fits}
 use Rattle.nlsf_stabilize_search.proofs.place_of_run.Statement.{statement}
 use Rattle.nlsf_stabilize_search.proofs.place_of_run.Tie as tie
 

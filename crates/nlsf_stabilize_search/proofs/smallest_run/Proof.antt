@@ -12,7 +12,7 @@ use mir.Val.{SFits, toZ, ofZ}
 use mir.Facts.{toZ-ofZ}
 use Rattle.spectrum.specs.Distances.{diffs}
 use Rattle.spectrum.specs.Values.{at, total}
-use Rattle.nlsf_stabilize_search.specs.Asked.{keyAt}
+use Rattle.nlsf_stabilize_search.specs.Inner.{keyAt}
 use Rattle.nlsf_stabilize_search.proofs.DiffLaws.{Best, best-one, best-newer, best-older, key-found}
 use Rattle.spectrum.proofs.SumLaws.{Near, near-one, sum-one, sum-more, read, nearer, fits}
 use Rattle.spectrum.proofs.Widened.{wide}

@@ -12,7 +12,7 @@ use lib.ListN.{length}
 use mir.Syntax.{w16, w32}
 use mir.Val.{SFits, toZ}
 use mir.Facts.{toZ-ofZ}
-use Rattle.ints.specs.Widths.{parts-fit}
+use Rattle.ints.proofs.Widths.{parts-fit}
 use Rattle.spectrum.specs.Values.{at}
 use Rattle.nlsf_stabilize_stays.proofs.StayLaws.{Passed, lostAt, endsAt, passed-two, stays-not, stays-last, stays-odd}
 use Rattle.spectrum.proofs.Widened.{wide, read16, near}

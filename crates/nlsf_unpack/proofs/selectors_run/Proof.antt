@@ -8,7 +8,8 @@ use native.Mathlib.Omega.{arith}
 use borrow.Author.Tests.{eq-eqb, ne-eqb}
 use lib.Dec.{eqb}
 use lib.ListN.{getD}
-use Rattle.sheet.specs.Books.{narrowBook, narrow-shaped}
+use Rattle.sheet.specs.Books.{narrowBook}
+use Rattle.sheet.proofs.BooksLaws.{narrow-shaped}
 use Rattle.nlsf_unpack.proofs.selectors_run.Statement.{statement}
 use Rattle.nlsf_unpack.proofs.selectors_run.Tie as tie
 

@@ -8,8 +8,8 @@ use borrow.Author.Needs.{needs}
 use borrow.Fn.Kinds.{In}
 use borrow.Fn.PlainCycle.{Measures, is, falls, and}
 use Rattle.numerals.specs.Decimal.{digit, natural}
-use Rattle.numerals.specs.DecimalLaws.{natural-small, natural-next}
-use Rattle.numerals.specs.Put.{put-then, put-as}
+use Rattle.numerals.proofs.DecimalLaws.{natural-small, natural-next}
+use Rattle.numerals.proofs.Put.{put-then, put-as}
 use Rattle.numerals.proofs.put_natural.Reads as put-natural
 use Rattle.numerals.proofs.put_natural.Kinds as put-natural-kinds
 use Rattle.numerals.proofs.+put_natural.Lts-put_natural as put-natural-lts

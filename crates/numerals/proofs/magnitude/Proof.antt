@@ -10,9 +10,9 @@ use lib.Signed.{ltZ, nonNeg}
 use mir.Syntax.{w16, w32}
 use mir.Val.{SFits, toZ, ofZ}
 use mir.Facts.{toZ-ofZ, sfits-widen}
-use Rattle.ints.specs.Order.{parts-alone}
+use Rattle.ints.proofs.Order.{parts-alone}
 use Rattle.ints.specs.Parts.{up, down}
-use Rattle.ints.specs.Widths.{fits-up, fits-down, parts-fit}
+use Rattle.ints.proofs.Widths.{fits-up, fits-down, parts-fit}
 use Rattle.numerals.proofs.magnitude.Statement.{statement}
 use Rattle.numerals.proofs.magnitude.Tie as tie
 

@@ -6,8 +6,8 @@ use native.Mathlib.Omega.{arith}
 use lib.ListN.{length}
 use mir.Facts.{toZ-ofZ}
 use Rattle.numerals.specs.Decimal.{natural}
-use Rattle.numerals.specs.DecimalLaws.{natural-length, decimal-minus, decimal-plain}
-use Rattle.numerals.specs.Put.{put-then, put-as}
+use Rattle.numerals.proofs.DecimalLaws.{natural-length, decimal-minus, decimal-plain}
+use Rattle.numerals.proofs.Put.{put-then, put-as}
 use borrow.Author.Needs.{needs}
 use Rattle.numerals.proofs.put_number_run.Statement.{statement}
 use Rattle.numerals.proofs.put_number_run.Tie as tie

@@ -7,7 +7,7 @@ use mathlib.Core.List.{List}
 use native.Mathlib.Omega.{arith}
 use Rattle.listing.specs.Ascii.{ascii}
 use Rattle.listing.specs.Lines.{refusedText}
-use Rattle.listing.specs.Printed.{printed-put}
+use Rattle.listing.proofs.PrintedLaws.{printed-put}
 use Rattle.framing.specs.declared.Packet.{Packet}
 use Rattle.framing.specs.Reading.{packetRead}
 use Rattle.framing.specs.Statement.{Accepted}

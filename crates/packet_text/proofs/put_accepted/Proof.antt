@@ -1,6 +1,6 @@
 -- `put_accepted` meets its contract. Assumes nothing.
 use borrow.Author.Needs.{needs}
-use Rattle.numerals.specs.Put.{put-then}
+use Rattle.numerals.proofs.Put.{put-then}
 use Rattle.listing.specs.Ascii.{ascii}
 use Rattle.listing.specs.Lines.{spaced, line}
 use Rattle.packet_text.specs.PacketText.{acceptedText}

@@ -3,7 +3,7 @@ use borrow.Author.Needs.{needs}
 use native.Mathlib.Omega.{arith}
 use mir.Syntax.{w16}
 use mir.Facts.{toZ-pos}
-use Rattle.numerals.specs.Put.{put-as}
+use Rattle.numerals.proofs.Put.{put-as}
 use Rattle.listing.specs.Ascii.{ascii}
 use Rattle.packet_text.proofs.put_frame.Statement.{statement}
 use Rattle.packet_text.proofs.put_frame.Tie as tie

@@ -6,7 +6,8 @@ use mathlib.Core.Path.{_≡_, ap}
 use native.Mathlib.Numerals.{add-one}
 use native.Mathlib.Omega.{arith}
 use lib.ListN.{length}
-use Rattle.numerals.specs.Put.{Put, put-none, put-then, put-as}
+use Rattle.numerals.specs.Inner.{Put}
+use Rattle.numerals.proofs.Put.{put-none, put-then, put-as}
 use Rattle.packet_text.specs.PacketText.{frameLines}
 use Rattle.packet_text.proofs.put_frames.Statement.{statement}
 use Rattle.packet_text.proofs.put_frames.Tie as tie

@@ -3,7 +3,7 @@ use borrow.Author.Needs.{needs}
 use native.Mathlib.Omega.{arith}
 use mir.Syntax.{w16}
 use mir.Facts.{toZ-pos}
-use Rattle.numerals.specs.Put.{put-as}
+use Rattle.numerals.proofs.Put.{put-as}
 use Rattle.packet_text.proofs.put_one.Statement.{statement}
 use Rattle.packet_text.proofs.put_one.Tie as tie
 

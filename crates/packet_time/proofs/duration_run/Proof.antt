@@ -6,7 +6,7 @@ use mathlib.Core.List.{List, [], _∷_}
 use borrow.Author.Tests.{eqb-true}
 use lib.Dec.{eqb}
 use mir.Val.{hasKey}
-use Rattle.lists.specs.Every.{everyBelow, below-at}
+use Rattle.lists.proofs.EveryLaws.{everyBelow, below-at}
 use Rattle.framing.specs.Toc.{durations, duration}
 use Rattle.packet_time.proofs.DurationLaws.{arm, skipped}
 use Rattle.packet_time.proofs.duration_run.Statement.{statement}

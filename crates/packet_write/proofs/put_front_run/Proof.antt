@@ -5,7 +5,7 @@ use mathlib.Core.List.{_∷_}
 use native.Mathlib.Omega.{arith}
 use lib.ListN.{length}
 use Rattle.framing.specs.Padding.{padCode}
-use Rattle.numerals.specs.Put.{put-then, put-as}
+use Rattle.numerals.proofs.Put.{put-then, put-as}
 use Rattle.packet_write.specs.Inner.{frontOf}
 use Rattle.packet_write.proofs.PieceLaws.{front-three, front-one}
 use Rattle.packet_write.proofs.put_front_run.Statement.{statement}

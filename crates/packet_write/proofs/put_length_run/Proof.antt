@@ -4,7 +4,7 @@ use mathlib.Core.Path.{_≡_, ap}
 use mathlib.Core.List.{[], _∷_}
 use native.Mathlib.Omega.{arith}
 use lib.ListN.{length}
-use Rattle.numerals.specs.Put.{put-then, put-as}
+use Rattle.numerals.proofs.Put.{put-then, put-as}
 use Rattle.framing.specs.Lengths.{lengthCode}
 use Rattle.packet_plan.proofs.SizeLaws.{code-short, code-long}
 use Rattle.packet_write.proofs.put_length_run.Statement.{statement}

@@ -5,7 +5,8 @@ use mathlib.Core.Path.{_≡_, refl, ap}
 use mathlib.Core.List.{[], _++_}
 use native.Mathlib.Omega.{arith}
 use lib.ListN.{length, getD, length-append}
-use Rattle.numerals.specs.Put.{Put, put-none, put-then, put-as}
+use Rattle.numerals.specs.Inner.{Put}
+use Rattle.numerals.proofs.Put.{put-none, put-then, put-as}
 use Rattle.framing.specs.Lengths.{lengthCode, lengthCodes}
 use Rattle.packet_plan.specs.Inner.{codesOf}
 use Rattle.packet_plan.proofs.SizeLaws.{codes-more}

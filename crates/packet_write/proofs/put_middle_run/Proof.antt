@@ -4,7 +4,7 @@ use Prim.Native.Nat.{_-_}
 use mathlib.Core.Path.{_≡_, ap}
 use native.Mathlib.Omega.{arith}
 use lib.ListN.{length}
-use Rattle.numerals.specs.Put.{put-none, put-as}
+use Rattle.numerals.proofs.Put.{put-none, put-as}
 use Rattle.packet_plan.specs.Inner.{codesOf}
 use Rattle.packet_write.specs.Inner.{middleOf}
 use Rattle.packet_write.proofs.PieceLaws.{middle-some, middle-none}

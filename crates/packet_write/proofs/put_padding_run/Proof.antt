@@ -5,7 +5,7 @@ use mathlib.Core.Path.{_≡_}
 use native.Mathlib.Omega.{arith}
 use lib.ListN.{length, length-replicate}
 use Rattle.framing.specs.Padding.{padCode}
-use Rattle.numerals.specs.Put.{put-none, put-then, put-as}
+use Rattle.numerals.proofs.Put.{put-none, put-then, put-as}
 use Rattle.packet_write.proofs.PieceLaws.{pad-none, pad-some, pad-some-length}
 use Rattle.packet_write.proofs.put_padding_run.Statement.{statement}
 use Rattle.packet_write.proofs.put_padding_run.Tie as tie

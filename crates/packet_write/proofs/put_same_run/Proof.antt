@@ -4,7 +4,8 @@ use Prim.Native.Nat.{ℕ, _-_, _≤_}
 use mathlib.Core.Path.{_≡_, ap}
 use native.Mathlib.Omega.{arith}
 use lib.ListN.{length, replicate, length-replicate, replicate-append-replicate}
-use Rattle.numerals.specs.Put.{Put, put-none, put-then, put-as}
+use Rattle.numerals.specs.Inner.{Put}
+use Rattle.numerals.proofs.Put.{put-none, put-then, put-as}
 use Rattle.packet_write.proofs.put_same_run.Statement.{statement}
 use Rattle.packet_write.proofs.put_same_run.Tie as tie
 

@@ -5,7 +5,7 @@ use mathlib.Core.Path.{_≡_, ap, _∙_}
 use mathlib.Core.List.{List, _++_}
 use native.Mathlib.Omega.{arith}
 use lib.ListN.{length, replicate, length-replicate}
-use Rattle.numerals.specs.Put.{put-then, put-as}
+use Rattle.numerals.proofs.Put.{put-then, put-as}
 use Rattle.framing.specs.Writing.{countByte}
 use Rattle.packet_write.specs.Inner.{frontOf, middleOf, wholeOf}
 use Rattle.packet_write.proofs.PieceLaws.{four, four-length}

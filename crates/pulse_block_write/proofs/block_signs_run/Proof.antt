@@ -7,9 +7,9 @@ use native.Mathlib.Omega.{arith}
 use lib.IntN.{pos, natAbs}
 use lib.ListN.{take, drop}
 use Rattle.entcode.specs.Flat.{out}
-use Rattle.tree.specs.Told.{Told}
+use Rattle.tree.specs.Inner.Told.{Told}
 use Rattle.silk.specs.PulseSyntax.{each, signRowOf, sign}
-use Rattle.silk.specs.PulseRowLaws.{sign-good, sign-writable, sign-lent}
+use Rattle.silk.proofs.PulseRowLaws.{sign-good, sign-writable, sign-lent}
 use Rattle.pulse_block_write.proofs.Empty.{signs-untold}
 use Rattle.pulse_block_write.proofs.block_signs_run.Statement.{statement}
 use Rattle.pulse_block_write.proofs.block_signs_run.Tie as tie

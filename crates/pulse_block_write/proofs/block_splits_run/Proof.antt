@@ -4,7 +4,7 @@ use Prim.Native.Nat.{ℕ}
 use mathlib.Core.Path.{ap, subst, _∙_}
 use mathlib.Core.List.{List}
 use Rattle.entcode.specs.Flat.{out}
-use Rattle.tree.specs.Told.{Told}
+use Rattle.tree.specs.Inner.Told.{Told}
 use Rattle.silk.specs.PulseSyntax.{total, shell}
 use Rattle.silk.specs.PulseWriting.{shiftedBy}
 use Rattle.pulse_block_write.proofs.block_splits_run.Statement.{statement}

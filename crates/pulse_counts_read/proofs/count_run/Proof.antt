@@ -8,14 +8,14 @@ use mathlib.Core.Path.{_≡_, refl, sym, ap, _∙_}
 use mathlib.Core.List.{List}
 use lib.ListN.{length}
 use Rattle.sheet.specs.Directory.{countRow}
-use Rattle.sheet.specs.SheetRule.{row-good}
+use Rattle.sheet.proofs.SheetRule.{row-good}
 use Rattle.entcode.specs.declared.Dec as state
-use Rattle.entcode.specs.ReaderLaws.{Core}
+use Rattle.entcode.specs.Inner.Reading.{Core}
 use Rattle.tree.specs.Asks.{run}
-use Rattle.tree.specs.Ran.{asked}
+use Rattle.tree.proofs.Ran.{asked}
 use Rattle.silk.specs.PulseSyntax.{countSaid, lowCounts, count}
-use Rattle.silk.specs.PulseSteps.{lows-end, lows-next}
-use Rattle.silk.specs.PulseRowLaws.{count-in, count-size, later-in, later-within, later}
+use Rattle.silk.proofs.PulseSteps.{lows-end, lows-next}
+use Rattle.silk.proofs.PulseRowLaws.{count-in, count-size, later-in, later-within, later}
 use Rattle.pulse_counts_read.proofs.count_run.Statement.{statement}
 use Rattle.pulse_counts_read.proofs.count_run.Tie as tie
 

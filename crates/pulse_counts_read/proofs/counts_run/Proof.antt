@@ -6,12 +6,15 @@ use native.Mathlib.Omega.{arith}
 use mathlib.Core.Path.{_≡_, refl, subst, _∙_}
 use mathlib.Core.List.{List}
 use lib.ListN.{length, length-set}
-use Rattle.lists.specs.AtMost.{AtMost, at-most-zeros, at-most-set}
+use Rattle.lists.specs.AtMost.{AtMost}
+use Rattle.lists.proofs.AtMostLaws.{at-most-zeros, at-most-set}
 use Rattle.entcode.specs.declared.Dec.{Dec}
-use Rattle.tree.specs.Ran.{Ran, ran-within}
-use Rattle.tree.specs.Through.{Through, through-start, through-next, through-end}
+use Rattle.tree.specs.Inner.Ran.{Ran}
+use Rattle.tree.proofs.Ran.{ran-within}
+use Rattle.tree.proofs.Through.{Through, through-start, through-next, through-end}
 use Rattle.silk.specs.PulseSyntax.{counts}
-use Rattle.silk.specs.PulseSteps.{blocksFrom, counts-end, counts-next, blocks-stored}
+use Rattle.silk.specs.Inner.Pulses.{blocksFrom}
+use Rattle.silk.proofs.PulseSteps.{counts-end, counts-next, blocks-stored}
 use Rattle.pulse_counts_read.proofs.counts_run.Statement.{statement}
 use Rattle.pulse_counts_read.proofs.counts_run.Tie as tie
 

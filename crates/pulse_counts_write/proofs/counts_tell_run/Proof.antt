@@ -9,15 +9,16 @@ use mathlib.Core.List.{List}
 use mathlib.Core.Logic.{⊎-elim}
 use lib.ListN.{length}
 use Rattle.sheet.specs.Directory.{countRow}
-use Rattle.sheet.specs.SheetRule.{row-good}
+use Rattle.sheet.proofs.SheetRule.{row-good}
 use Rattle.entcode.specs.Models.{tab}
 use Rattle.entcode.specs.Flat.{Out, out}
-use Rattle.entcode.specs.WriterFacts.{Core, Wrote}
-use Rattle.tree.specs.Told.{Told, Midway, midway-start, midway-next, midway-end, told-ask, told-within}
+use Rattle.entcode.specs.Inner.Writing.{Core, Wrote}
+use Rattle.tree.specs.Inner.Told.{Told, Midway}
+use Rattle.tree.proofs.Told.{midway-start, midway-next, midway-end, told-ask, told-within}
 use Rattle.silk.specs.PulseSyntax.{Block, countSaid, lowCounts, count, counts}
-use Rattle.silk.specs.PulseSteps.{blockAt, blocksFrom}
-use Rattle.silk.specs.PulseRowLaws.{count-in}
-use Rattle.silk.specs.PulseTold.{first-writable, lows-said, counts-said, counts-silent}
+use Rattle.silk.specs.Inner.Pulses.{blockAt, blocksFrom}
+use Rattle.silk.proofs.PulseRowLaws.{count-in}
+use Rattle.silk.proofs.PulseTold.{first-writable, lows-said, counts-said, counts-silent}
 use Rattle.pulse_counts_write.proofs.counts_tell_run.Statement.{statement}
 use Rattle.pulse_counts_write.proofs.counts_tell_run.Tie as tie
 

@@ -5,10 +5,11 @@ use mathlib.Core.Path.{_≡_, refl, _∙_}
 use native.Mathlib.Omega.{arith}
 use lib.ListN.{length}
 use Rattle.entcode.specs.Flat.{Out, out}
-use Rattle.tree.specs.Told.{Midway, midway-start, midway-asked, midway-end, told-within}
+use Rattle.tree.specs.Inner.Told.{Midway}
+use Rattle.tree.proofs.Told.{midway-start, midway-asked, midway-end, told-within}
 use Rattle.silk.specs.PulseSyntax.{Block, countSaid, lowCounts}
-use Rattle.silk.specs.PulseRowLaws.{later-in, later-within, later}
-use Rattle.silk.specs.PulseTold.{said-writable, lows-left, lows-said}
+use Rattle.silk.proofs.PulseRowLaws.{later-in, later-within, later}
+use Rattle.silk.proofs.PulseTold.{said-writable, lows-left, lows-said}
 use Rattle.pulse_counts_write.proofs.later_tell.Statement.{statement}
 use Rattle.pulse_counts_write.proofs.later_tell.Tie as tie
 

@@ -13,8 +13,8 @@ use mir.Syntax.{w16, w32}
 use mir.Val.{Fits, SFits}
 use Rattle.entcode.specs.declared.Dec.{Dec}
 use Rattle.silk.specs.PulseSyntax.{each, lowBits}
-use Rattle.silk.specs.PulseSteps.{Placed}
-use Rattle.silk.specs.PulsePlaces.{mags, Going, going-start, going-natural, going-value, going-next, Ended, going-ended}
+use Rattle.silk.specs.Inner.Pulses.{Placed, mags}
+use Rattle.silk.proofs.PulsePlaces.{Going, going-start, going-natural, going-value, going-next, Ended, going-ended}
 use Rattle.pulse_lows_read.proofs.all_lows.Statement.{statement}
 use Rattle.pulse_lows_read.proofs.all_lows.Tie as tie
 

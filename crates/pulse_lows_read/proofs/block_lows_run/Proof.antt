@@ -6,10 +6,10 @@ use mathlib.Core.Path.{_≡_}
 use mathlib.Core.List.{List}
 use lib.IntN.{ℤ}
 use Rattle.entcode.specs.declared.Dec.{Dec}
-use Rattle.entcode.specs.ReaderLaws.{Core}
+use Rattle.entcode.specs.Inner.Reading.{Core}
 use Rattle.silk.specs.PulseSyntax.{each, lowBits}
-use Rattle.silk.specs.PulseSteps.{Placed, no-lows}
-use Rattle.silk.specs.PulsePlaces.{mags, Natural}
+use Rattle.silk.specs.Inner.Pulses.{Placed, mags, Natural}
+use Rattle.silk.proofs.PulseSteps.{no-lows}
 use Rattle.pulse_lows_read.proofs.block_lows_run.Statement.{statement}
 use Rattle.pulse_lows_read.proofs.block_lows_run.Tie as tie
 

@@ -7,13 +7,13 @@ use mathlib.Core.Path.{_≡_, sym, ap, _∙_}
 use mathlib.Core.List.{List}
 use lib.ListN.{length}
 use lib.Pow.{pow-mono, pow-add}
-use Rattle.sheet.specs.SheetRule.{row-good}
+use Rattle.sheet.proofs.SheetRule.{row-good}
 use Rattle.entcode.specs.declared.Dec.{Dec}
-use Rattle.entcode.specs.ReaderLaws.{Core}
+use Rattle.entcode.specs.Inner.Reading.{Core}
 use Rattle.tree.specs.Asks.{run}
 use Rattle.silk.specs.PulseSyntax.{lowBits}
-use Rattle.silk.specs.PulseSteps.{bits-end, bits-next}
-use Rattle.silk.specs.PulseRowLaws.{low-bit-size}
+use Rattle.silk.proofs.PulseSteps.{bits-end, bits-next}
+use Rattle.silk.proofs.PulseRowLaws.{low-bit-size}
 use Rattle.pulse_lows_read.proofs.low_bits.Statement.{statement}
 use Rattle.pulse_lows_read.proofs.low_bits.Tie as tie
 

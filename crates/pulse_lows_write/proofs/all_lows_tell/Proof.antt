@@ -10,9 +10,9 @@ use mir.Facts.{toZ-ofZ}
 use mir.Syntax.{w16}
 use mir.Val.{SFits}
 use Rattle.entcode.specs.Flat.{Out, out}
-use Rattle.tree.specs.Told.{midway-start, told-within}
+use Rattle.tree.proofs.Told.{midway-start, told-within}
 use Rattle.silk.specs.PulseSyntax.{lowBits}
-use Rattle.silk.specs.PulseTold.{ToldTo, place-told, places-told}
+use Rattle.silk.proofs.PulseTold.{ToldTo, place-told, places-told}
 use Rattle.pulse_lows_write.proofs.all_lows_tell.Statement.{statement}
 use Rattle.pulse_lows_write.proofs.all_lows_tell.Tie as tie
 

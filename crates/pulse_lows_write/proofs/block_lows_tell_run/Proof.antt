@@ -1,6 +1,6 @@
 -- `block_lows_tell_run` meets its contract. Assumes nothing.
 use borrow.Author.Needs.{needs}
-use Rattle.silk.specs.PulseTold.{no-lows-told}
+use Rattle.silk.proofs.PulseTold.{no-lows-told}
 use Rattle.pulse_lows_write.proofs.block_lows_tell_run.Statement.{statement}
 use Rattle.pulse_lows_write.proofs.block_lows_tell_run.Tie as tie
 

@@ -4,12 +4,13 @@ use Prim.Native.Nat.{ℕ, _-_, _*_, _/_, _%_, _^_, _≤_}
 use native.Mathlib.Omega.{arith}
 use mathlib.Core.Path.{_≡_, refl, _∙_}
 use lib.ListN.{length}
-use Rattle.sheet.specs.SheetRule.{row-good, row-writable}
+use Rattle.sheet.proofs.SheetRule.{row-good, row-writable}
 use Rattle.entcode.specs.Flat.{Out, out}
-use Rattle.tree.specs.Told.{Midway, midway-start, midway-end, told-within}
+use Rattle.tree.specs.Inner.Told.{Midway}
+use Rattle.tree.proofs.Told.{midway-start, midway-end, told-within}
 use Rattle.silk.specs.PulseSyntax.{lowBits}
-use Rattle.silk.specs.PulseRowLaws.{low-bit-size}
-use Rattle.silk.specs.PulseTold.{bit-told, bits-silent}
+use Rattle.silk.proofs.PulseRowLaws.{low-bit-size}
+use Rattle.silk.proofs.PulseTold.{bit-told, bits-silent}
 use Rattle.pulse_lows_write.proofs.low_bits_tell.Statement.{statement}
 use Rattle.pulse_lows_write.proofs.low_bits_tell.Tie as tie
 

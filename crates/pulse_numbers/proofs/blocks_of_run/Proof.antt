@@ -1,7 +1,7 @@
 -- `blocks_of_run` meets its contract. Assumes nothing.
 use borrow.Author.Needs.{needs}
 use native.Mathlib.Omega.{arith}
-use Rattle.silk.specs.PulseCallLaws.{places-most}
+use Rattle.silk.proofs.PulseCallLaws.{places-most}
 use Rattle.pulse_numbers.proofs.blocks_of_run.Statement.{statement}
 use Rattle.pulse_numbers.proofs.blocks_of_run.Tie as tie
 

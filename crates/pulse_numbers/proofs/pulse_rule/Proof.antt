@@ -5,7 +5,7 @@ use mathlib.Core.Path.{sym, ap, _∙_}
 use borrow.Author.Tests.{eq-eqb, ne-eqb}
 use Prim.Native.Nat.{ℕ, _*_}
 use Rattle.silk.specs.FrameCalls.{pulseRule}
-use Rattle.silk.specs.PulseCallLaws.{pulse-numbers, blocks-most}
+use Rattle.silk.proofs.PulseCallLaws.{pulse-numbers, blocks-most}
 use Rattle.pulse_numbers.proofs.pulse_rule.Statement.{statement}
 use Rattle.pulse_numbers.proofs.pulse_rule.Tie as tie
 

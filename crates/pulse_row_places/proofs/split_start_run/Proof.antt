@@ -4,7 +4,7 @@ use Prim.Native.Nat.{_+_, _-_, _*_, _/_, _≤_}
 use mathlib.Core.Path.{_≡_}
 use native.Mathlib.Nat.{mul-le-mul}
 use native.Mathlib.Omega.{arith}
-use Rattle.sheet.specs.Families.{shell-stands}
+use Rattle.sheet.proofs.Families.{shell-stands}
 use Rattle.pulse_row_places.proofs.split_start_run.Statement.{statement}
 use Rattle.pulse_row_places.proofs.split_start_run.Tie as tie
 

@@ -4,9 +4,10 @@ use Prim.Native.Nat.{_+_, _*_}
 use native.Mathlib.Omega.{arith}
 use mathlib.Core.Path.{refl, ap, _∙_}
 use lib.ListN.{length}
-use Rattle.sheet.specs.Places.{Stands, stands-in, lent}
-use Rattle.sheet.specs.SheetRule.{row-good}
-use Rattle.silk.specs.PulseSteps.{split-none, split-some}
+use Rattle.sheet.specs.Inner.{Stands}
+use Rattle.sheet.proofs.Places.{stands-in, lent}
+use Rattle.sheet.proofs.SheetRule.{row-good}
+use Rattle.silk.proofs.PulseSteps.{split-none, split-some}
 use Rattle.pulse_shell_read.proofs.decode_split.Statement.{statement}
 use Rattle.pulse_shell_read.proofs.decode_split.Tie as tie
 

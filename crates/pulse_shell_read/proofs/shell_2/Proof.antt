@@ -8,7 +8,7 @@ use lib.IntN.{ℤ}
 use lib.ListN.{length, set}
 use mir.Facts.{toZ-pos}
 use mir.Syntax.{w16}
-use Rattle.silk.specs.PulseSteps.{one-place, halves}
+use Rattle.silk.proofs.PulseSteps.{one-place, halves}
 use Rattle.pulse_shell_read.proofs.shell_2.Statement.{statement}
 use Rattle.pulse_shell_read.proofs.shell_2.Tie as tie
 

@@ -6,14 +6,15 @@ use mathlib.Core.Path.{_≡_, refl, _∙_}
 use mathlib.Core.List.{List}
 use lib.ListN.{length, getD}
 use Rattle.entcode.specs.Flat.{Out, out}
-use Rattle.tree.specs.Told.{midway-start, told-of, told-within}
-use Rattle.silk.specs.PulseTold.{ToldTo, place-told, places-told, split-told}
-use Rattle.sheet.specs.Places.{Stands, stands-in, lent}
-use Rattle.sheet.specs.Directory.{rowCount}
-use Rattle.sheet.specs.SheetRule.{row-good, row-writable}
-use Rattle.pulse_shell_write.specs.Splits.{Part, partsOf, allOf, splitOf, noPart}
-use Rattle.pulse_shell_write.specs.SplitLaws.{itself}
-use Rattle.pulse_shell_write.specs.Spoken.{spoken, shell-told, Stored}
+use Rattle.tree.proofs.Told.{midway-start, told-of, told-within}
+use Rattle.silk.proofs.PulseTold.{ToldTo, place-told, places-told, split-told}
+use Rattle.sheet.specs.Inner.{Stands}
+use Rattle.sheet.proofs.Places.{stands-in, lent}
+use Rattle.sheet.proofs.DirectoryLaws.{rowCount}
+use Rattle.sheet.proofs.SheetRule.{row-good, row-writable}
+use Rattle.pulse_shell_write.specs.Inner.{Part, partsOf, allOf, noPart, spoken, Stored}
+use Rattle.pulse_shell_write.proofs.SplitLaws.{splitOf, itself}
+use Rattle.pulse_shell_write.proofs.Spoken.{shell-told}
 use Rattle.pulse_shell_write.proofs.silk_shell_encoder_run.Statement.{statement}
 use Rattle.pulse_shell_write.proofs.silk_shell_encoder_run.Tie as tie
 

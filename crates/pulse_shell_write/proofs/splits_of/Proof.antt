@@ -2,7 +2,7 @@
 use borrow.Author.Needs.{needs}
 use Prim.Native.Nat.{_+_, _≤_}
 use native.Mathlib.Omega.{arith}
-use Rattle.pulse_shell_write.specs.SplitLaws.{eight, placeOf, places-total, all-sums, left-sums}
+use Rattle.pulse_shell_write.proofs.SplitLaws.{eight, placeOf, places-total, all-sums, left-sums}
 use Rattle.pulse_shell_write.proofs.splits_of.Statement.{statement}
 use Rattle.pulse_shell_write.proofs.splits_of.Tie as tie
 

@@ -7,10 +7,10 @@ use mathlib.Core.List.{List}
 use lib.Dec.{eqb}
 use lib.ListN.{length, getD, take}
 use lib.Seq.{take-all, take-suc}
-use Rattle.tests.specs.Choice.{chosen}
-use Rattle.pulse_shell_write.specs.Splits.{partsOf, noPart}
-use Rattle.pulse_shell_write.specs.SplitLaws.{At, part-at, parts-length}
-use Rattle.pulse_shell_write.specs.Spoken.{spoken, Gathered, gathered-none, gathered-next}
+use Rattle.deciding.proofs.Choice.{chosen}
+use Rattle.pulse_shell_write.specs.Inner.{partsOf, noPart, spoken, Gathered}
+use Rattle.pulse_shell_write.proofs.SplitLaws.{At, part-at, parts-length}
+use Rattle.pulse_shell_write.proofs.Spoken.{gathered-none, gathered-next}
 use Rattle.pulse_shell_write.proofs.spoken_of.Statement.{statement}
 use Rattle.pulse_shell_write.proofs.spoken_of.Tie as tie
 

@@ -6,9 +6,11 @@ use native.Mathlib.Numerals.{add-one}
 use native.Mathlib.Omega.{arith}
 use lib.ListN.{length, take, drop, length-set, length-drop}
 use lib.Seq.{length-take-le}
-use Rattle.lists.specs.AtMost.{at-most-zeros}
-use Rattle.silk.specs.PulseBlocks.{rows16, rows-counted}
-use Rattle.silk.specs.PulsePlans.{Shift, rows-snoc, planned-start, planned-next, Planned}
+use Rattle.lists.proofs.AtMostLaws.{at-most-zeros}
+use Rattle.silk.specs.PulseSyntax.{rows16}
+use Rattle.silk.proofs.PulseBlocks.{rows-counted}
+use Rattle.silk.specs.Inner.Pulses.{Shift, Planned}
+use Rattle.silk.proofs.PulsePlans.{rows-snoc, planned-start, planned-next}
 use Rattle.pulse_shifts.proofs.plan_run.Statement.{statement}
 use Rattle.pulse_shifts.proofs.plan_run.Tie as tie
 

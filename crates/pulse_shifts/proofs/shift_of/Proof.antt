@@ -10,7 +10,7 @@ use lib.Dec.{leb}
 use lib.IntN.{ℤ}
 use Rattle.silk.specs.PulseSyntax.{total}
 use Rattle.silk.specs.PulseWriting.{shiftedBy, firstFrom}
-use Rattle.silk.specs.PulseSayable.{leastShift}
+use Rattle.silk.specs.Inner.Pulses.{leastShift}
 use Rattle.pulse_shifts.proofs.Search.{first-here, first-next, first-none}
 use Rattle.pulse_shifts.proofs.shift_of.Statement.{statement}
 use Rattle.pulse_shifts.proofs.shift_of.Tie as tie

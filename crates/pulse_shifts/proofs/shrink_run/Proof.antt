@@ -12,7 +12,7 @@ use mir.Syntax.{w16}
 use mir.Val.{SFits}
 use mir.Facts.{toZ-ofZ}
 use Rattle.silk.specs.PulseWriting.{shiftedBy}
-use Rattle.silk.specs.PulseLaws.{at-most-total}
+use Rattle.silk.proofs.PulseLaws.{at-most-total}
 use Rattle.pulse_shifts.proofs.Shifted.{shifted-size, shifted-at}
 use Rattle.pulse_shifts.proofs.shrink_run.Statement.{statement}
 use Rattle.pulse_shifts.proofs.shrink_run.Tie as tie

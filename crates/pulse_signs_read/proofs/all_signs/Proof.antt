@@ -11,8 +11,9 @@ use mir.Facts.{toZ-ofZ}
 use mir.Syntax.{w16}
 use mir.Val.{SFits}
 use Rattle.entcode.specs.declared.Dec.{Dec}
-use Rattle.silk.specs.PulsePlaces.{mags, going-start, going-next}
-use Rattle.pulse_signs_read.specs.Gathered.{behind, Gathered}
+use Rattle.silk.specs.Inner.Pulses.{mags}
+use Rattle.silk.proofs.PulsePlaces.{going-start, going-next}
+use Rattle.pulse_signs_read.specs.Inner.{behind, Gathered}
 use Rattle.pulse_signs_read.proofs.Signing.{Signing, signing-mag, signing-natural, signing-bare, signing-ended}
 use Rattle.pulse_signs_read.proofs.all_signs.Statement.{statement}
 use Rattle.pulse_signs_read.proofs.all_signs.Tie as tie

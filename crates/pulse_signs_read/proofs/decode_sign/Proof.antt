@@ -7,11 +7,11 @@ use mir.Facts.{toZ-ofZ}
 use mir.Syntax.{w16}
 use mir.Val.{SFits}
 use Rattle.ints.specs.Parts.{up}
-use Rattle.ints.specs.Sums.{up-neg, down-neg}
-use Rattle.ints.specs.Widths.{fits-up, parts-fit}
-use Rattle.tree.specs.Ran.{Ran}
+use Rattle.ints.proofs.Sums.{up-neg, down-neg}
+use Rattle.ints.proofs.Widths.{fits-up, parts-fit}
+use Rattle.tree.specs.Inner.Ran.{Ran}
 use Rattle.silk.specs.PulseSyntax.{sign}
-use Rattle.silk.specs.PulseSteps.{sign-minus, sign-plus}
+use Rattle.silk.proofs.PulseSteps.{sign-minus, sign-plus}
 use Rattle.pulse_signs_read.proofs.decode_sign.Statement.{statement}
 use Rattle.pulse_signs_read.proofs.decode_sign.Tie as tie
 

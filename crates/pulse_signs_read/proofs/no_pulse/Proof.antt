@@ -12,8 +12,8 @@ use lib.ListN.{length, getD, drop, replicate}
 use lib.Seq.{drop-cons, drop-length}
 use mir.Syntax.{w16}
 use mir.Val.{SFits, ofZ}
-use Rattle.tests.specs.Both.{and-both}
-use Rattle.pulse_magnitude.specs.Bits.{zero-of}
+use Rattle.deciding.proofs.Both.{and-both}
+use Rattle.pulse_magnitude.proofs.Bits.{zero-of}
 use Rattle.pulse_signs_read.proofs.no_pulse.Statement.{statement}
 use Rattle.pulse_signs_read.proofs.no_pulse.Tie as tie
 

@@ -11,8 +11,9 @@ use lib.IntN.{ℤ, pos, negsuc, natAbs}
 use lib.ListN.{length, getD, set, length-set}
 use mir.Syntax.{w16}
 use mir.Val.{SFits, ofZ, boolByte}
-use Rattle.pulse_signs_read.specs.Gathered.{mag, Gathered, gathered-start, gathered-none, gathered-some}
-use Rattle.pulse_magnitude.specs.Bits.{zero-of}
+use Rattle.pulse_signs_read.specs.Inner.{mag, Gathered}
+use Rattle.pulse_signs_read.proofs.Gathered.{gathered-start, gathered-none, gathered-some}
+use Rattle.pulse_magnitude.proofs.Bits.{zero-of}
 use Rattle.pulse_signs_read.proofs.pulse_places.Statement.{statement}
 use Rattle.pulse_signs_read.proofs.pulse_places.Tie as tie
 

@@ -7,13 +7,13 @@ use mathlib.Core.List.{List, [], _∷_}
 use lib.IntN.{ℤ, pos}
 use lib.ListN.{length, replicate}
 use Rattle.entcode.specs.declared.Dec.{Dec}
-use Rattle.entcode.specs.ReaderLaws.{Core}
+use Rattle.entcode.specs.Inner.Reading.{Core}
 use Rattle.tree.specs.Asks.{got, run}
-use Rattle.tree.specs.Ran.{Ran}
-use Rattle.tree.specs.Through.{before}
+use Rattle.tree.specs.Inner.Ran.{Ran}
+use Rattle.tree.proofs.Through.{before}
 use Rattle.silk.specs.PulseSyntax.{each, sign}
-use Rattle.silk.specs.PulseSteps.{each-next}
-use Rattle.silk.specs.PulsePlaces.{mags}
+use Rattle.silk.proofs.PulseSteps.{each-next}
+use Rattle.silk.specs.Inner.Pulses.{mags}
 use Rattle.pulse_signs_read.proofs.silk_decode_signs_run.Statement.{statement}
 use Rattle.pulse_signs_read.proofs.silk_decode_signs_run.Tie as tie
 

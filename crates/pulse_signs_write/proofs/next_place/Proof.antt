@@ -5,8 +5,8 @@ use mathlib.Core.Path.{_≡_, ap}
 use lib.IntN.{pos}
 use mir.Syntax.{w16}
 use mir.Val.{ofZ}
-use Rattle.pulse_signs_write.specs.SaidLaws.{none-said, one-said}
-use Rattle.pulse_magnitude.specs.Bits.{zero-of}
+use Rattle.pulse_signs_write.proofs.SaidLaws.{none-said, one-said}
+use Rattle.pulse_magnitude.proofs.Bits.{zero-of}
 use Rattle.pulse_signs_write.proofs.next_place.Statement.{statement}
 use Rattle.pulse_signs_write.proofs.next_place.Tie as tie
 

@@ -12,8 +12,8 @@ use lib.Signed.{ltZ}
 use mir.Facts.{toZ-ofZ}
 use mir.Syntax.{w16}
 use mir.Val.{SFits}
-use Rattle.pulse_signs_write.specs.Said.{signOf, signsSaid}
-use Rattle.pulse_signs_write.specs.SaidLaws.{few-said, gathered}
+use Rattle.pulse_signs_write.specs.Inner.{signOf, signsSaid}
+use Rattle.pulse_signs_write.proofs.SaidLaws.{few-said, gathered}
 use Rattle.pulse_signs_write.proofs.signs_said.Statement.{statement}
 use Rattle.pulse_signs_write.proofs.signs_said.Tie as tie
 

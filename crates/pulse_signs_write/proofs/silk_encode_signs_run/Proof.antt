@@ -9,9 +9,9 @@ use lib.ListN.{length, getD}
 use lib.Seq.{length-take-le, getD-take}
 use Rattle.icdf.specs.Rule.{Writable}
 use Rattle.entcode.specs.Flat.{Out, out}
-use Rattle.tree.specs.Told.{told-within}
-use Rattle.pulse_signs_write.specs.Said.{signsSaid}
-use Rattle.pulse_signs_write.specs.SaidLaws.{signs-bits, SignsTo, signs-start, sign-more, signs-end}
+use Rattle.tree.proofs.Told.{told-within}
+use Rattle.pulse_signs_write.specs.Inner.{signsSaid}
+use Rattle.pulse_signs_write.proofs.SaidLaws.{signs-bits, SignsTo, signs-start, sign-more, signs-end}
 use Rattle.pulse_signs_write.proofs.silk_encode_signs_run.Statement.{statement}
 use Rattle.pulse_signs_write.proofs.silk_encode_signs_run.Tie as tie
 

@@ -10,7 +10,8 @@ use lib.ListN.{length, take, length-set}
 use lib.Seq.{take-all, take-suc-set}
 use mir.Syntax.{w16}
 use mir.Facts.{toZ-ofZ}
-use Rattle.sections.specs.Values.{valuesAt, values-more}
+use Rattle.sections.specs.Values.{valuesAt}
+use Rattle.sections.proofs.ValuesLaws.{values-more}
 use Rattle.sections.proofs.fill_run.Statement.{statement}
 use Rattle.sections.proofs.fill_run.Tie as tie
 

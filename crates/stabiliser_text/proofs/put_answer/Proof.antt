@@ -4,7 +4,7 @@ use borrow.Author.Tests.{eq-eqb, ne-eqb}
 use native.Mathlib.Omega.{arith}
 use mir.Syntax.{w16}
 use mir.Facts.{toZ-pos}
-use Rattle.numerals.specs.Put.{put-then, put-as}
+use Rattle.numerals.proofs.Put.{put-then, put-as}
 use Rattle.listing.specs.Ascii.{ascii}
 use Rattle.stabiliser_text.specs.StabiliserText.{answerText}
 use Rattle.stabiliser_text.proofs.put_answer.Statement.{statement}

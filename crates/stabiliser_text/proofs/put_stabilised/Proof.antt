@@ -3,9 +3,9 @@ use borrow.Author.Needs.{needs}
 use mathlib.Core.Path.{_≡_, ap, ap₂, _∙_}
 use native.Mathlib.Omega.{arith}
 use lib.ListN.{length}
-use Rattle.numerals.specs.Put.{put-as}
+use Rattle.numerals.proofs.Put.{put-as}
 use Rattle.spectrum.specs.Calls.{Called, stabiliseCall}
-use Rattle.stabiliser_text.specs.Answers.{small}
+use Rattle.stabiliser_text.proofs.Answers.{small}
 use Rattle.stabiliser_text.specs.StabiliserText.{answerText}
 use Rattle.stabiliser_text.proofs.put_stabilised.Statement.{statement}
 use Rattle.stabiliser_text.proofs.put_stabilised.Tie as tie

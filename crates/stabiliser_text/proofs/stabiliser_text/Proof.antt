@@ -7,9 +7,10 @@ use mathlib.Core.List.{List}
 use native.Mathlib.Omega.{arith}
 use lib.ListN.{length}
 use lib.Seq.{length-take-le}
-use Rattle.numerals.specs.Put.{Put, put-as}
+use Rattle.numerals.specs.Inner.{Put}
+use Rattle.numerals.proofs.Put.{put-as}
 use Rattle.listing.specs.Lines.{refusedText}
-use Rattle.listing.specs.Printed.{printed-put}
+use Rattle.listing.proofs.PrintedLaws.{printed-put}
 use Rattle.sections.specs.Values.{byteAt}
 use Rattle.stabiliser_text.specs.StabiliserText.{gapsAt, sectionsText, stabiliserText}
 use Rattle.stabiliser_text.proofs.stabiliser_text.Statement.{statement}

@@ -1,6 +1,6 @@
 -- `tg_table_entry` meets its contract: the tables of the rows, of the narrow book and of the wide book are parts of one list. Assumes nothing.
 use borrow.Author.Needs.{needs}
-use Rattle.table_entries.specs.EntryLaws.{table-rows, table-narrow, table-wide, table-none}
+use Rattle.table_entries.proofs.EntryLaws.{table-rows, table-narrow, table-wide, table-none}
 use Rattle.table_entries.proofs.tg_table_entry.Statement.{statement}
 use Rattle.table_entries.proofs.tg_table_entry.Tie as tie
 

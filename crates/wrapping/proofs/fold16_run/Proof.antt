@@ -9,11 +9,11 @@ use lib.Signed.{ltZ}
 use mir.Syntax.{w16, w32}
 use mir.Val.{SFits}
 use mir.Facts.{toZ-ofZ, sfits-widen}
-use Rattle.ints.specs.Order.{parts-alone, ltZ-true, ltZ-false}
+use Rattle.ints.proofs.Order.{parts-alone, ltZ-true, ltZ-false}
 use Rattle.ints.specs.Parts.{up, down}
-use Rattle.ints.specs.Sums.{sum-parts, up-sum, down-sum, diff-parts, up-diff, down-diff}
-use Rattle.ints.specs.Widths.{fits-up, fits-down, parts-fit}
-use Rattle.ints.specs.Wrapping.{wrap16-is}
+use Rattle.ints.proofs.Sums.{sum-parts, up-sum, down-sum, diff-parts, up-diff, down-diff}
+use Rattle.ints.proofs.Widths.{fits-up, fits-down, parts-fit}
+use Rattle.ints.proofs.Wrapping.{wrap16-is}
 use Rattle.wrapping.proofs.fold16_run.Statement.{statement}
 use Rattle.wrapping.proofs.fold16_run.Tie as tie
 

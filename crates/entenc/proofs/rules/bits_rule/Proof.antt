@@ -1,7 +1,7 @@
 -- `bits_rule` meets its contract: each return has the tests that led to it. Assumes nothing.
 use native.Mathlib.Omega.{arith}
 use borrow.Author.Tests.{lt-ltb, le-ltb}
-use Rattle.tests.specs.Both.{in-range}
+use Rattle.deciding.proofs.Both.{in-range}
 use Rattle.bitlen.proofs.Shift.{one-shl}
 use Rattle.entenc.proofs.rules.bits_rule.Statement.{statement}
 use Rattle.entenc.proofs.rules.bits_rule.Tie as tie

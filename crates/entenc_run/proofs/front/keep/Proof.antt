@@ -3,10 +3,10 @@ use borrow.Author.Needs.{needs}
 use Prim.Native.Nat.{ℕ, _+_, _-_}
 use mathlib.Core.Path.{_≡_, ap, _∙_}
 use native.Mathlib.Omega.{arith}
-use Rattle.entcode.specs.CoreLaws.{cut-step}
+use Rattle.entcode.proofs.CoreLaws.{cut-step}
 use Rattle.entcode.specs.Flat.{out}
-use Rattle.entcode.specs.WriterFacts.{atTurn}
-use Rattle.entcode.specs.WriterSteps.{settled}
+use Rattle.entcode.proofs.WriterFacts.{atTurn}
+use Rattle.entcode.specs.Inner.Writing.{settled}
 use Rattle.entenc_run.proofs.Turns.{cut-is}
 use Rattle.entenc_run.proofs.front.keep.Statement.{statement}
 use Rattle.entenc_run.proofs.front.keep.Tie as tie

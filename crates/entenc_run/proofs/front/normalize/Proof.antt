@@ -4,9 +4,8 @@ use mathlib.Core.Path.{_≡_, refl, sym, ap, _∙_}
 use native.Mathlib.Omega.{arith}
 use lib.ListN.{length}
 use Rattle.entcode.specs.Flat.{Out, out}
-use Rattle.entcode.specs.FlatLaws.{settled-done, settled-turn}
-use Rattle.entcode.specs.WriterFacts.{Ready}
-use Rattle.entcode.specs.WriterSteps.{turned, settled}
+use Rattle.entcode.proofs.FlatLaws.{settled-done, settled-turn}
+use Rattle.entcode.specs.Inner.Writing.{Ready, turned, settled}
 use Rattle.entenc_run.proofs.Turns.{turn-ready}
 use Rattle.entenc_run.proofs.front.normalize.Statement.{statement}
 use Rattle.entenc_run.proofs.front.normalize.Tie as tie

@@ -3,7 +3,7 @@ use borrow.Author.Needs.{needs}
 use Prim.Native.Nat.{_+_, _*_, _%_, _^_}
 use mathlib.Core.Path.{ap, _∙_}
 use Rattle.entcode.specs.Flat.{Out, out}
-use Rattle.entcode.specs.WriterFacts.{atTurn}
+use Rattle.entcode.proofs.WriterFacts.{atTurn}
 use Rattle.entenc_run.proofs.Turns.{turn-is}
 use Rattle.entenc_run.proofs.front.turn.Statement.{statement}
 use Rattle.entenc_run.proofs.front.turn.Tie as tie

@@ -2,10 +2,10 @@
 use borrow.Author.Needs.{needs}
 use Prim.Native.Nat.{ℕ, _+_, _*_, _^_}
 use mathlib.Core.Path.{_≡_, ap, _∙_}
-use Rattle.entcode.specs.CoreLaws.{append-step}
+use Rattle.entcode.proofs.CoreLaws.{append-step}
 use Rattle.entcode.specs.Flat.{Out, out}
-use Rattle.entcode.specs.FlatLaws.{append-is}
-use Rattle.entcode.specs.WriterFacts.{atWindow}
+use Rattle.entcode.proofs.FlatLaws.{append-is}
+use Rattle.entcode.proofs.WriterFacts.{atWindow}
 use Rattle.entcode.proofs.Window.{window-sum}
 use Rattle.entenc_run.proofs.tail.append.Statement.{statement}
 use Rattle.entenc_run.proofs.tail.append.Tie as tie

@@ -3,7 +3,7 @@ use borrow.Author.Needs.{needs}
 use mathlib.Core.Path.{_∙_}
 use native.Mathlib.Omega.{arith}
 use Rattle.entcode.specs.Flat.{out}
-use Rattle.entcode.specs.FlatLaws.{spared-full, spared-free}
+use Rattle.entcode.proofs.FlatLaws.{spared-full, spared-free}
 use Rattle.entenc_run.proofs.tail.spare_for.Statement.{statement}
 use Rattle.entenc_run.proofs.tail.spare_for.Tie as tie
 

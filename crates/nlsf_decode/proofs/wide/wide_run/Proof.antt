@@ -3,11 +3,12 @@ use mathlib.Core.Path.{_≡_, refl, sym, _∙_}
 use mathlib.Core.List.{map}
 use borrow.Author.Needs.{needs}
 use lib.IntN.{pos}
-use Rattle.sheet.specs.Books.{wideBook, wide-shaped}
+use Rattle.sheet.specs.Books.{wideBook}
+use Rattle.sheet.proofs.BooksLaws.{wide-shaped}
 use Rattle.spectrum.proofs.BookLaws.{wide-usable}
 use Rattle.spectrum.specs.Values.{total}
 use Rattle.nlsf_stabilize_stays.proofs.StayLaws.{stays-still}
-use Rattle.nlsf_places.specs.Asked.{Rows, rows}
+use Rattle.nlsf_places.specs.Inner.{Rows, rows}
 use Rattle.nlsf_decode.proofs.RowLaws.{RowsOf, Handed, places-asked, handed}
 use Rattle.nlsf_decode.proofs.wide.wide_run.Statement.{statement}
 use Rattle.nlsf_decode.proofs.wide.wide_run.Tie as tie

@@ -16,7 +16,7 @@ use mir.Facts.{toZ-ofZ, sfits-widen}
 use Rattle.lists.specs.Every.{every}
 use Rattle.spectrum.specs.Gaps.{goodGaps}
 use Rattle.spectrum.specs.Values.{at, top, total}
-use Rattle.nlsf_stabilize.specs.Asked.{ruledSum}
+use Rattle.nlsf_stabilize.specs.Inner.{ruledSum}
 use Rattle.spectrum.proofs.SumLaws.{Near, sum-more, read, nearer, fits, every-more}
 use Rattle.nlsf_stabilize.proofs.gaps.ruled_sum_run.Statement.{statement}
 use Rattle.nlsf_stabilize.proofs.gaps.ruled_sum_run.Tie as tie

@@ -5,7 +5,7 @@ use lib.ListN.{getD}
 use mir.Syntax.{w16}
 use mir.Val.{SFits}
 use mir.Facts.{toZ-ofZ}
-use Rattle.sheet.specs.Books.{narrow-shaped, wide-shaped}
+use Rattle.sheet.proofs.BooksLaws.{narrow-shaped, wide-shaped}
 use Rattle.table_entries.proofs.GridLaws.{gap-past, gap-inside}
 use Rattle.table_entries.proofs.book.gaps_entry.Statement.{statement}
 use Rattle.table_entries.proofs.book.gaps_entry.Tie as tie

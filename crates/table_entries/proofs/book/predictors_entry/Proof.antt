@@ -1,7 +1,7 @@
 -- `predictors_entry` meets its contract: the lists are 9 or 15 long, and stand 10 or 16 apart. Assumes nothing.
 use borrow.Author.Needs.{needs}
 use native.Mathlib.Omega.{arith}
-use Rattle.sheet.specs.Books.{narrow-shaped, wide-shaped}
+use Rattle.sheet.proofs.BooksLaws.{narrow-shaped, wide-shaped}
 use Rattle.table_entries.proofs.GridLaws.{past, predictor-inside}
 use Rattle.table_entries.proofs.book.predictors_entry.Statement.{statement}
 use Rattle.table_entries.proofs.book.predictors_entry.Tie as tie

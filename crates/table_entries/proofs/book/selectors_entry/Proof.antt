@@ -1,7 +1,7 @@
 -- `selectors_entry` meets its contract: the rows are 5 or 8 wide. Assumes nothing.
 use borrow.Author.Needs.{needs}
 use lib.Dec.{lit<}
-use Rattle.sheet.specs.Books.{narrow-shaped, wide-shaped}
+use Rattle.sheet.proofs.BooksLaws.{narrow-shaped, wide-shaped}
 use Rattle.table_entries.proofs.GridLaws.{past, inside}
 use Rattle.table_entries.proofs.book.selectors_entry.Statement.{statement}
 use Rattle.table_entries.proofs.book.selectors_entry.Tie as tie

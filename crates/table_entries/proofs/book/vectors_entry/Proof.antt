@@ -1,7 +1,7 @@
 -- `vectors_entry` meets its contract: the rows are 10 or 16 wide. Assumes nothing.
 use borrow.Author.Needs.{needs}
 use lib.Dec.{lit<}
-use Rattle.sheet.specs.Books.{narrow-shaped, wide-shaped}
+use Rattle.sheet.proofs.BooksLaws.{narrow-shaped, wide-shaped}
 use Rattle.table_entries.proofs.GridLaws.{past, inside}
 use Rattle.table_entries.proofs.book.vectors_entry.Statement.{statement}
 use Rattle.table_entries.proofs.book.vectors_entry.Tie as tie

@@ -2,7 +2,7 @@
 use borrow.Author.Needs.{needs}
 use mathlib.Core.Path.{sym, _∙_}
 use lib.ListN.{List·getD-eq-default}
-use Rattle.lists.specs.Rows.{getD-inside}
+use Rattle.lists.proofs.Rows.{getD-inside}
 use Rattle.table_entries.specs.Entries.{noEntry}
 use Rattle.table_entries.proofs.entry.byte_at.Statement.{statement}
 use Rattle.table_entries.proofs.entry.byte_at.Tie as tie

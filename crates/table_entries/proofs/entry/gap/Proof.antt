@@ -10,7 +10,7 @@ use mir.Syntax.{w16, w32}
 use mir.Val.{SFits, Fits}
 use mir.Facts.{toZ-ofZ}
 use Rattle.ints.specs.Parts.{up}
-use Rattle.ints.specs.Order.{ltZ-true}
+use Rattle.ints.proofs.Order.{ltZ-true}
 use Rattle.table_entries.proofs.entry.gap.Statement.{statement}
 use Rattle.table_entries.proofs.entry.gap.Tie as tie
 

@@ -1,4 +1,0 @@
-pub mod Fields
-pub mod Parts
-pub mod Accepted
-pub mod Calls

@@ -1,0 +1,7 @@
+pub mod DirectoryLaws
+pub mod SheetRule
+pub mod Places
+pub mod Families
+pub mod Probabilities
+pub mod BooksLaws
+pub mod WeightsLaws

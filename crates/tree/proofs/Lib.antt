@@ -1,0 +1,9 @@
+pub mod Always
+pub mod AsksLaws
+pub mod Outcomes
+pub mod TellingLaws
+pub mod Says
+pub mod Told
+pub mod SoundTelling
+pub mod Ran
+pub mod Through
