@@ -1,14 +1,20 @@
 # make           the static library, every function in it proved
+# make archives  the same, and beside it the lookup of table entries that the comparison links
 # make check     the gate: all proofs and tests
 # make bench     our speed beside the crate's and libopus's, into docs/BENCH.md
 # make install   header, library and pkg-config file under PREFIX
 PREFIX ?= /usr/local
 library = target/staticlib/libtignarops.a
+sources := crates.txt $(shell find crates -type f -name '*.rt' -o -type f -name '*.antt')
 
-.PHONY: all check bench install
+.PHONY: all archives check bench install
 
-all:
-	rt staticlib tignarops
+all: $(library)
+
+archives: $(library) target/staticlib/libtable_entries.a
+
+target/staticlib/lib%.a: $(sources)
+	rt staticlib $*
 
 check:
 	bash .ci/run

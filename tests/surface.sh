@@ -1,11 +1,12 @@
 #!/usr/bin/env bash
 # What users hold: the library installed under a folder of its own, C programs that find it by pkg-config,
 # one that lists document 01's frame and one the packets of Ogg Opus files, and the Rust bindings' tests.
+# The status is 3 where something was left out for want of a tool.
 set -eu
 cd "$(dirname "$0")/.."
 
 source tests/x86_64.sh
-have make pkg-config cargo || { echo "surface: no $missing; left out"; exit 0; }
+have make pkg-config cargo || leave_out surface "$missing"
 place=$(mktemp -d)
 trap 'rm -rf "$place"' EXIT
 
@@ -76,9 +77,9 @@ says() { # STATUS LINE ARGUMENT...: what opus_file answers to standard input, an
 not_opus() { printf 'OggS\0\6'; head -c 16 /dev/zero; printf '\26\45\223\14\1\23OpusTags'; head -c 11 /dev/zero; }
 
 opus_files() {
-    pkg-config --exists ogg || { echo 'surface: no libogg; left out'; return; }
+    pkg-config --exists ogg || leave_out surface 'libogg for the C example of Ogg Opus files'
     example opus_file tignarops ogg
-    have espeak-ng opusenc opusinfo || { echo "surface: no $missing; left out"; return; }
+    have espeak-ng opusenc opusinfo || leave_out surface "$missing for the C example of Ogg Opus files"
     espeak-ng -w "$place/voice.wav" 'Every packet of this voice is listed, and every frame lies in its packet.'
     local size
     for size in 10 20 40 60; do speech "of_$size" --bitrate 8 --framesize "$size"; done
@@ -97,9 +98,9 @@ opus_files() {
     says 2 'usage: .*' one two </dev/null
     echo 'surface: the C example lists Ogg Opus files as opusinfo has them'
 }
-opus_files
-
 # ---- the bindings
 
 export TIGNAROPS_LIB_DIR=$place/lib CARGO_TARGET_DIR=${CARGO_TARGET_DIR:-$PWD/target/bindings}
 cargo test --offline --quiet --manifest-path bindings/rust/Cargo.toml
+
+opus_files

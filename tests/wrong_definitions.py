@@ -6,6 +6,7 @@ Each edit changes one definition of the coder (crates/entcode/specs) or of frame
 crate, and the laws that are no longer proved (not those that only cite them). Fails if an edit is accepted, does not apply, or is refused otherwise.
 Usage: tests/wrong_definitions.py
 """
+import concurrent.futures
 import os
 import re
 import shutil
@@ -54,36 +55,50 @@ def check(tree, crate):
     return run.returncode == 0, list(dict.fromkeys(REFUSED.findall(said))), said
 
 
+def copy_of(tmp, worker):
+    """A tree of a worker's own, with what is proved already."""
+    tree = os.path.join(tmp, str(worker))
+    for part in "crates", "target/rlib", "target/stamp":
+        if os.path.isdir(os.path.join(ROOT, part)):
+            shutil.copytree(os.path.join(ROOT, part), os.path.join(tree, part), symlinks=True)
+    shutil.copy(os.path.join(ROOT, "crates.txt"), tree)
+    return tree
+
+
+def tried(tree, edited, checked, edit):
+    """Whether an edit is refused by its law, and a line that says so."""
+    name, law, file, right, wrong = edit
+    path = os.path.join(tree, "crates", edited, "specs", file)
+    with open(path, encoding="utf-8") as f:
+        text = f.read()
+    if text.count(right) != 1:
+        return False, "DOES NOT APPLY  %s" % name
+    with open(path, "w", encoding="utf-8") as f:
+        f.write(text.replace(right, wrong))
+    ok, laws, _ = check(tree, checked)
+    with open(path, "w", encoding="utf-8") as f:
+        f.write(text)
+    names = [refused for _, refused in laws]
+    if ok or law not in names:
+        return False, "%s  %s" % ("ACCEPTED" if ok else "NOT REFUSED BY " + law, name)
+    return True, "refused  %s: %s %s" % (name, laws[0][0], ", ".join(names))
+
+
+def worker(tree, edits):
+    """Tries edits of one crate, after that the crate is proved without them."""
+    ok, _, said = check(tree, edits[0][1])
+    if not ok:
+        return [(False, "the tree as it stands is refused:\n" + said)]
+    return [tried(tree, *edit) for edit in edits]
+
+
 def main():
-    failed = 0
-    with tempfile.TemporaryDirectory() as tmp:
-        tree = os.path.join(tmp, "tree")
-        shutil.copytree(os.path.join(ROOT, "crates"), os.path.join(tree, "crates"))
-        shutil.copy(os.path.join(ROOT, "crates.txt"), tree)
-        for crate in sorted(set(checked for _, checked, _ in EDITS)):
-            ok, laws, said = check(tree, crate)
-            if not ok:
-                print("the tree as it stands is refused:\n" + said)
-                return 1
-        for edited, checked, (name, law, file, right, wrong) in EDITS:
-            path = os.path.join(tree, "crates", edited, "specs", file)
-            with open(path) as f:
-                text = f.read()
-            if text.count(right) != 1:
-                print("DOES NOT APPLY  %s" % name, flush=True)
-                failed += 1
-                continue
-            with open(path, "w") as f:
-                f.write(text.replace(right, wrong))
-            ok, laws, said = check(tree, checked)
-            with open(path, "w") as f:
-                f.write(text)
-            names = [refused for _, refused in laws]
-            if ok or law not in names:
-                print("%s  %s" % ("ACCEPTED" if ok else "NOT REFUSED BY " + law, name), flush=True)
-                failed += 1
-            else:
-                print("refused  %s: %s %s" % (name, laws[0][0], ", ".join(names)), flush=True)
+    shares = [[edit for edit in EDITS if edit[1] == checked] for checked in dict.fromkeys(checked for _, checked, _ in EDITS)]
+    with tempfile.TemporaryDirectory() as tmp, concurrent.futures.ThreadPoolExecutor() as pool:
+        trees = [copy_of(tmp, k) for k in range(len(shares))]
+        results = [result for share in pool.map(worker, trees, shares) for result in share]
+    print(*(line for _, line in results), sep="\n")
+    failed = sum(not good for good, _ in results)
     print("%d edits, %d not refused" % (len(EDITS), failed))
     return 1 if failed else 0
 

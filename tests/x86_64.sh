@@ -25,3 +25,9 @@ have() {
     done
     [ -z "$run" ] || [ -n "${RUSTC:-}" ] || { missing="Rust for $CARGO_BUILD_TARGET"; return 1; }
 }
+
+# A step that cannot run for want of something says so, and its status is 3.
+leave_out() { # STEP WHAT
+    echo "$1: no $2; left out"
+    exit 3
+}
