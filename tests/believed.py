@@ -7,6 +7,7 @@ specs/ holds a declaration that none of them reaches. A variable that is spelled
 reached than too little.
 Usage: tests/believed.py [--write] [CHECKOUT]
 """
+import itertools
 import pathlib
 import re
 import sys
@@ -17,7 +18,8 @@ HEAD = re.compile(r'\s*((?:(?:abbrev|unfoldable|pub) )*)(?:(record|data)\s+(\S+)
 FUNCTION = re.compile(  # attributes; signature and contract; name: up to a brace at a line's end that is no contract's
     r'^((?:#\[[^\n]*\]\s*)*)((?:pub(?:\(crate\))? )?(?:extern "C" )?fn (\w+).*?)(?<!requires )(?<!ensures )\{(?:\n.*?^)?\}$',
     re.M | re.S)
-CITED = re.compile(r'RFC \d+|sections? \d[\d.]*\d(?:(?:, | and | to )\d[\d.]*\d)*|document 01(?:, "[^"]+")?')
+NUMBER = r'\d+(?:\.\d+)*'
+CITED = re.compile(rf'RFC \d+|sections? {NUMBER}(?:(?:, | and | to ){NUMBER})*|document 0\d(?:, "[^"]+"|, item \d+)?')
 HANDS_OUT = 'packet_view', 'packet_read'  # rooms whose public calls hand out references, which C cannot hold
 
 
@@ -135,15 +137,15 @@ class Project:
     # ---- the document
 
     def cited(self, file, line):
-        """What the comment right above a declaration cites, or else the file's first comment."""
+        """What the comment right above a declaration cites, or else its section's heading, or else the file's first comment."""
         lines = (self.top / file).read_text('utf-8').split('\n')
-        above = []
-        while line > 1 and lines[line - 2].lstrip().startswith('--'):
-            line -= 1
-            above.insert(0, lines[line - 1])
-        first = lines[:next(i for i, text in enumerate(lines) if not text.startswith('--'))]
-        for comment in above, first:
-            found = CITED.findall(' '.join(text.lstrip(' -') for text in comment))
+        block = lambda start: list(itertools.takewhile(lambda text: text.lstrip().startswith('--'), lines[start:]))
+        above = line - 1
+        while lines[above - 1].lstrip().startswith('--'):
+            above -= 1
+        headings = [i for i in range(line - 1) if lines[i].startswith('-- ----')]
+        for start in [above] + headings[-1:] + [0]:
+            found = CITED.findall(' '.join(text.lstrip(' -') for text in block(start)))
             if found:
                 return ', '.join(dict.fromkeys(found))
         return ''
@@ -166,8 +168,9 @@ class Project:
         yield 'Every definition on which the contracts of the exported calls, of the public calls on references (' + ', '.join(
             f'`{room}`' for room in HANDS_OUT) + '), the'
         yield "programs' texts and the stated theorems rest, in reading order: from the ground up, in a file from its top. Lines are counted"
-        yield 'without blank ones and comments. What is cited is the section of RFC 6716 or of the document named, by the definition\'s own'
-        yield 'comment or else by its file\'s. `tests/believed.py --write` writes this page, and the gate fails where it is stale.'
+        yield 'without blank ones and comments. What is cited is the section of RFC 6716 or of the document named, by the definition\'s'
+        yield 'own comment, or else by the heading that it stands under, or else by its file\'s first comment.'
+        yield '`tests/believed.py --write` writes this page, and the gate fails where it is stale.'
         yield ''
         yield '| Reached from | How many | Definitions | Lines |'
         yield '|---|---|---|---|'

@@ -1,4 +1,5 @@
--- The code's writer, a flat state beside the buffer, read as the definitions' record, and back. Assumes nothing.
+-- The code's writer, a flat state beside the buffer (document 01, "Numbers a caller may bring"), read as the definitions'
+-- record, and back. Assumes nothing.
 use Prim.Native.Nat.{ℕ, zero, suc}
 use mathlib.Core.List.{List}
 use lib.ListN.{length}

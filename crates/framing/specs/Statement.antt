@@ -1,7 +1,7 @@
--- What the theorems of `proofs/Theorems` say of whole packets: a written length reads back, in two bytes from 252 on;
--- what was written reads back frame by frame at the length asked for; the parts that reading names lie in order,
--- apart and inside the packet; the shortest packet is the shortest; what was read can be written again. Assumes
--- nothing.
+-- What the theorems of `proofs/Theorems` say of whole packets (document 02, item 1): a written length reads back, in
+-- two bytes from 252 on; what was written reads back frame by frame at the length asked for; the parts that reading
+-- names lie in order, apart and inside the packet; the shortest packet is the shortest; what was read can be written
+-- again. Assumes nothing.
 use Prim.Native.Nat.{ℕ, _+_, _≤_, _<_}
 use mathlib.Core.Path.{_≡_}
 use mathlib.Core.List.{List, [], _++_}

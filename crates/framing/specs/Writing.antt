@@ -1,7 +1,7 @@
--- How a packet is laid out of its frames, and what writing one leaves and answers: the shortest form, or exactly the
--- length asked for. Refusals: 1 for a buffer above 16,384 bytes; 6 where the frames' bytes are not as many as the
--- sizes say; 8 for no room or a length below the shortest; 10 for no frame, a frame above 1,275 bytes, more than 120
--- ms; 11 for a configuration above 11. Assumes nothing.
+-- How a packet is laid out of its frames (RFC 6716, section 3; document 02, item 1), and what writing one leaves and
+-- answers: the shortest form, or exactly the length asked for. Refusals: 1 for a buffer above 16,384 bytes; 6 where
+-- the frames' bytes are not as many as the sizes say; 8 for no room or a length below the shortest; 10 for no frame,
+-- a frame above 1,275 bytes, more than 120 ms; 11 for a configuration above 11. Assumes nothing.
 use Prim.Native.Nat.{ℕ, _+_, _-_, _*_, _%_}
 use mathlib.Core.Bool.{Bool, true, false, _&&_, not, cond}
 use mathlib.Core.List.{List, [], _∷_, _++_}

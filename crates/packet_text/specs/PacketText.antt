@@ -1,5 +1,5 @@
--- What the packet lister prints of its input, the bytes of one whole packet: configuration, arrangement, start and
--- size of each frame; or the refusal. Assumes nothing.
+-- What the packet lister (document 02, item 1) prints of its input, the bytes of one whole packet: configuration,
+-- arrangement, start and size of each frame; or the refusal. Assumes nothing.
 use Prim.Native.Nat.{ℕ, zero, suc}
 use mathlib.Core.Bool.{cond}
 use mathlib.Core.List.{List, [], _∷_, _++_}

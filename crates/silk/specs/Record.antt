@@ -1,4 +1,5 @@
--- The side-index record by its fields, and with some of them changed. No other place spells a record out. Assumes nothing.
+-- The side-index record (document 01, "Side indices") by its fields, and with some of them changed. No other place spells
+-- a record out. Assumes nothing.
 use Prim.Native.Nat.{ℕ, _/_, _%_}
 use mathlib.Core.List.{List}
 use lib.IntN.{ℤ, pos}

@@ -1,5 +1,5 @@
--- The numbers that the moves store, before 16 bits are kept of them, and whether one of them leaves 16 bits. Assumes
--- nothing.
+-- The numbers that the moves store (document 01, "Line spectra"), before 16 bits are kept of them, and whether one of
+-- them leaves 16 bits. Assumes nothing.
 use Prim.Native.Nat.{ℕ, zero, suc}
 use mathlib.Core.Bool.{Bool, true, _&&_, cond}
 use mathlib.Core.List.{List, [], _∷_}

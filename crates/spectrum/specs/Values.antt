@@ -1,5 +1,5 @@
--- The values of a line spectrum: whole numbers, in 32,768ths of half the sampling rate. A vector is a list of them,
--- what a `&[i16]` is in a contract. Assumes nothing.
+-- The values of a line spectrum (RFC 6716, section 4.2.7.5): whole numbers, in 32,768ths of half the sampling rate. A
+-- vector is a list of them, what a `&[i16]` is in a contract. Assumes nothing.
 use Prim.Native.Nat.{ℕ, _≤_}
 use mathlib.Core.Bool.{cond}
 use mathlib.Core.List.{List, [], _∷_}
