@@ -88,7 +88,7 @@ Nanoseconds of ours, and that as a ratio to the others': below 1 ours is faster.
 
 {}
 A symbol's call gets the state by value and gives it back, 44 bytes each way. The account of a reader, which tests the state,
-changes nothing and gives it back, takes {} ns, {}.
+changes nothing and gives it back, takes {} ns, {}
 ",
             self.table(vec!["ours, ns".to_string()], cells),
             cell(self.handed.times[0], 1),
@@ -104,8 +104,8 @@ changes nothing and gives it back, takes {} ns, {}.
             symbols.filter(|row| row.times[1].is_some_and(|time| handed > Some(2.0 * time)));
         let short: Vec<&str> = short.map(|row| row.name.as_str()).collect();
         match short[..] {
-            [] => "less than twice the crate's time for any symbol".to_string(),
-            _ => format!("more than twice the crate's time for: {}", short.join("; ")),
+            [] => "less than twice the crate's time for any symbol.".to_string(),
+            _ => format!("more than twice the crate's time for\n\n- {}", short.join("\n- ")),
         }
     }
 
