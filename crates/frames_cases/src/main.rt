@@ -14,7 +14,6 @@ use records::calls::WRITE_PULSES;
 use writing::write_agrees;
 use writing::writing_run;
 
-mod frame; // frame.rt: the parts of a call by their bytes
 mod reading; // reading.rt: the calls that read
 mod writing; // writing.rt: the calls that write
 

@@ -1,20 +1,20 @@
 // Recorded calls that write a frame: each is asked once more, and compared with what it should answer and leave.
 ghost use Prim.Native.Nat.{_+_, _*_, _≤_};
 ghost use lib.ListN.{length};
-use crate::frame::Numbers;
-use crate::frame::indices_run;
-use crate::frame::kept_run;
-use crate::frame::numbers_run;
 use entcode::Enc;
 use entcode::Encoded;
+use record_bytes::numbers::value;
+use record_bytes::slices::fill_run;
+use record_bytes::slices::fill_up;
+use record_frames::Numbers;
+use record_frames::indices_run;
+use record_frames::kept_run;
+use record_frames::numbers_run;
+use record_states::encoded_run;
+use record_states::same_encoded;
+use record_states::writer_run;
 use records::ANSWER_BYTES;
 use records::Parts;
-use records::numbers::value;
-use records::slices::fill_run;
-use records::slices::fill_up;
-use records::states::encoded_run;
-use records::states::same_encoded;
-use records::states::writer_run;
 use silk::Indices;
 use silk::IndicesWritten;
 

@@ -3,12 +3,12 @@
 // agreed, and then that all did, or the number of the first that did not.
 ghost use Rattle.records.specs.Inner.{Placed, Parted};
 use libc::STDIN_FILENO;
+use record_bytes::slices::fill_up;
 use records::PROGRAM_NUMBERS;
 use records::Parts;
 use records::Place;
 use records::calls::FRAME_LISTER;
 use records::calls::NLSF_STABILISER;
-use records::slices::fill_up;
 
 // ---- one input
 
@@ -63,7 +63,7 @@ fn agrees(buf: &[u8], p: Place, s: Parts) -> bool
     let to = p.to;
     let rest = s.rest;
     let end = s.end;
-    let size = records::numbers::word_run(buf, s.at);
+    let size = record_bytes::numbers::word_run(buf, s.at);
     prints_of(size, s.call, &buf[from..to], s.how, &buf[rest..end])
 }
 

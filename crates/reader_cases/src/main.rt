@@ -1,11 +1,13 @@
 // Replays recorded calls of the reader: each record of standard input has a call and the crate's answer
 // (docs/RECORDED.md has the layout). Prints how many calls of each kind agreed, and then that all did, or the number
 // of the first that did not.
-ghost use lib.ListN.{length};
 ghost use Rattle.records.specs.Inner.{Placed, Parted};
 use entcode::Dec;
 use entcode::Decoded;
 use libc::STDIN_FILENO;
+use record_bytes::numbers::word_run;
+use record_states::decoded_run;
+use record_states::reader_run;
 use records::ANSWER_BYTES;
 use records::Parts;
 use records::Place;
@@ -17,9 +19,6 @@ use records::calls::BITS;
 use records::calls::NUMBER;
 use records::calls::OPEN;
 use records::calls::TABLE;
-use records::numbers::word_run;
-use records::states::decoded_run;
-use records::states::reader_run;
 
 fn ask(call: u8, packet: &[u8], d: Dec, number: u32, table: &[u8]) -> Decoded {
     if call == OPEN {
@@ -59,7 +58,7 @@ fn agrees(buf: &[u8], p: Place, s: Parts) -> bool
     let number = word_run(buf, s.at + ANSWER_BYTES);
     let should = decoded_run(buf, s.at);
     let a = ask(s.call, &buf[from..to], d, number, &buf[rest..end]);
-    records::states::same_decoded(a, should)
+    record_states::same_decoded(a, should)
 }
 
 fn report(p: Place) {

@@ -1,19 +1,10 @@
--- The layout's sizes, where a replay may stand in its file, and where a record and its parts may. Assumes nothing.
+-- Where a replay may stand in its file, and where the parts of a record may. Assumes nothing.
 use Prim.Native.Nat.{ℕ, _<_, _≤_}
 use mathlib.Core.Path.{_≡_}
 use mathlib.Core.List.{List}
 use lib.ListN.{length}
 use Rattle.records.specs.declared.Place.{Place}
-use Rattle.records.specs.declared.Head.{Head}
 use Rattle.records.specs.declared.Parts.{Parts}
-
--- eleven numbers
-abbrev pub stateBytes : ℕ
-stateBytes = 44
-
--- refusal, value and the state handed back
-abbrev pub answerBytes : ℕ
-answerBytes = 52
 
 -- before the first record
 pub record Started (p : Place) : Type 0 where
@@ -28,12 +19,6 @@ pub record Placed (b : List ℕ) (p : Place) : Type 0 where
   pub starts : p .from ≤ p .to
   pub ends : p .to ≤ length b
   pub state : p .last ≤ length b
-
--- the rest of a record that begins at a place
-pub record Within (b : List ℕ) (place : ℕ) (h : Head) : Type 0 where
-  pub behind : place < h .at
-  pub ordered : h .at ≤ h .end
-  pub ends : h .end ≤ length b
 
 -- the parts of a record
 pub record Parted (b : List ℕ) (s : Parts) : Type 0 where

@@ -3,19 +3,15 @@
 ghost use Prim.Native.Nat.{_+_, _<_, _≤_};
 ghost use mathlib.Core.Path.{_≡_};
 ghost use lib.ListN.{length};
-ghost use Rattle.records.specs.Inner.{Started, Placed, Within, Parted};
+ghost use Rattle.records.specs.Inner.{Started, Placed, Parted};
 use libc::STDOUT_FILENO;
-use numbers::half;
+use record_head::BROKEN;
+use record_head::head_run;
 
 pub mod calls; // calls.rt: the numbers of calls
-pub mod numbers; // numbers.rt: numbers by their bytes
-pub mod slices; // slices.rt: slices filled and compared
-pub mod states; // states.rt: states and answers
 
 // ---- the layout
 
-// How many bytes a record begins with: its size, its call, how the call is given.
-const HEAD_BYTES: usize = 4;
 // A state, eleven numbers; and an answer: refusal, value and the state handed back.
 pub const STATE_BYTES: usize = 44;
 
@@ -30,10 +26,8 @@ pub const FRAME_NUMBERS: usize = 72;
 
 pub const PROGRAM_NUMBERS: usize = 4;
 
-// The call of a record of bytes, and of one that breaks the layout.
+// The call of a record of bytes.
 const BYTES: u8 = 0;
-
-const BROKEN: u8 = 255;
 
 // ---- where a replay stands
 
@@ -64,41 +58,6 @@ pub fn start() -> Place
 }
 
 // ---- a record
-
-// What a record begins with, and where the rest of it stands.
-pub struct Head {
-    pub call: u8,
-    pub how: u8,
-    pub at: usize,
-    pub end: usize,
-}
-
-// The record at a place; nothing where it is cut short.
-fn head_run(buf: &[u8], place: usize) -> Head
-    requires { ⌜ place < length (now buf) ⌝ }
-    ensures { λ h. ⌜ Within (now (buf .entry)) place h ⌝ }
-{
-    let n = buf.len();
-    let mut h = Head {
-        call: BROKEN,
-        how: 0,
-        at: n,
-        end: n,
-    };
-    if n - place < HEAD_BYTES {
-        return h;
-    }
-    let size = half(buf[place], buf[place + 1]);
-    let at = place + HEAD_BYTES;
-    if n - at < size {
-        return h;
-    }
-    h.call = buf[place + 2];
-    h.how = buf[place + 3];
-    h.at = at;
-    h.end = at + size;
-    h
-}
 
 // Where the parts of a record stand: its answer and numbers up to what it is given besides, that up to its end, its
 // state, the state that it hands back, the two ends of the bytes after it, and the next record. Of bytes, and of a

@@ -6,14 +6,14 @@ ghost use mathlib.Core.Path.{_≡_};
 ghost use lib.ListN.{length};
 ghost use Rattle.records.specs.Inner.{Parted};
 use libc::STDIN_FILENO;
+use record_bytes::numbers::word_run;
+use record_bytes::slices::fill_run;
 use records::ANSWER_BYTES;
 use records::Parts;
 use records::Place;
 use records::READER_NUMBERS;
 use records::STATE_BYTES;
 use records::calls::DECODE;
-use records::numbers::word_run;
-use records::slices::fill_run;
 use spectrum::Moves;
 use spectrum::Spectrum;
 
@@ -24,7 +24,7 @@ fn indices(bytes: &[u8]) -> Spectrum
     requires { ⌜ 17 ≤ length (now bytes) ⌝ }
 {
     let mut index = [0i8; 17];
-    records::slices::fill_small_run(&mut index, bytes);
+    record_bytes::slices::fill_small_run(&mut index, bytes);
     Spectrum { index: index }
 }
 

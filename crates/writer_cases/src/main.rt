@@ -3,10 +3,15 @@
 // of the first that did not.
 ghost use Prim.Native.Nat.{_+_, _≤_};
 ghost use lib.ListN.{length};
-ghost use Rattle.records.specs.Inner.{stateBytes, Placed, Parted};
+ghost use Rattle.record_states.specs.Inner.{stateBytes};
+ghost use Rattle.records.specs.Inner.{Placed, Parted};
 use entcode::Enc;
 use entcode::Encoded;
 use libc::STDIN_FILENO;
+use record_bytes::numbers::word_run;
+use record_bytes::slices::fill_up;
+use record_states::encoded_run;
+use record_states::writer_run;
 use records::ANSWER_BYTES;
 use records::Parts;
 use records::Place;
@@ -19,10 +24,6 @@ use records::calls::FINISH;
 use records::calls::NUMBER;
 use records::calls::OPEN;
 use records::calls::TABLE;
-use records::numbers::word_run;
-use records::slices::fill_up;
-use records::states::encoded_run;
-use records::states::writer_run;
 
 // What is asked, and what it should answer.
 struct Call {
@@ -61,7 +62,7 @@ fn leaves(c: Call, lent: &mut [u8], table: &[u8], before: &[u8], after: &[u8]) -
     fill_up(lent, before, 0);
     let a = ask(c, lent, table);
     let left = fill_up(lent, after, 0);
-    records::states::same_encoded(a, c.should) & (after.len() == before.len()) & left
+    record_states::same_encoded(a, c.should) & (after.len() == before.len()) & left
 }
 
 fn leaves_in(c: Call, table: &[u8], before: &[u8], after: &[u8]) -> bool {

@@ -1,13 +1,13 @@
 // States, eleven numbers each, and answers: refusal, value and state (docs/RECORDED.md, "Layout").
 ghost use Prim.Native.Nat.{_+_, _≤_};
 ghost use lib.ListN.{length};
-ghost use Rattle.records.specs.Inner.{stateBytes, answerBytes};
-use crate::numbers::signed;
-use crate::numbers::word_run;
+ghost use Rattle.record_states.specs.Inner.{stateBytes, answerBytes};
 use entcode::Dec;
 use entcode::Decoded;
 use entcode::Enc;
 use entcode::Encoded;
+use record_bytes::numbers::signed;
+use record_bytes::numbers::word_run;
 
 pub fn reader_run(buf: &[u8], at: usize) -> Dec
     requires { ⌜ at + stateBytes ≤ length (now buf) ⌝ }

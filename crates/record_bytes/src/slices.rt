@@ -1,5 +1,5 @@
-// Slices filled from the bytes of a record. Each function also tells whether the slice held the same before, so that
-// a call's answer is compared by filling it in once more.
+// Slices filled from the bytes of a record, or compared with them. A function that fills also tells whether the slice
+// held the same before, so that a call's answer is compared by filling it in once more.
 ghost use Prim.Native.Nat.{_+_, _*_, _<_, _≤_};
 ghost use lib.ListN.{length};
 use crate::numbers::small;
@@ -36,6 +36,21 @@ pub fn fill_small_run(values: &mut [i8], bytes: &[u8]) -> bool
         let x = small(bytes[i]);
         held = (values[i] == x) & held;
         values[i] = x;
+        i += 1;
+    }
+    held
+}
+
+// Whether the bytes hold these values of one byte, and no more.
+pub fn same_small(values: &[i8], bytes: &[u8]) -> bool {
+    let n = values.len();
+    if bytes.len() != n {
+        return false;
+    }
+    let mut held = true;
+    let mut i = 0;
+    while i < n {
+        held = (values[i] == small(bytes[i])) & held;
         i += 1;
     }
     held

@@ -2,10 +2,11 @@
 // (docs/RECORDED.md, "Layout").
 ghost use Prim.Native.Nat.{_+_, _≤_};
 ghost use lib.ListN.{length};
-use records::numbers::small;
-use records::numbers::value;
-use records::numbers::word_run;
-use records::slices::fill_small_run;
+use record_bytes::numbers::small;
+use record_bytes::numbers::value;
+use record_bytes::numbers::word_run;
+use record_bytes::slices::fill_small_run;
+use record_bytes::slices::same_small;
 use silk::Indices;
 
 // ---- side indices, 34 bytes
@@ -34,28 +35,14 @@ pub fn indices_run(bytes: &[u8]) -> Indices
     }
 }
 
-fn same_four(a: &[i8; 4], b: &[i8; 4]) -> bool {
-    (a[0] == b[0]) & (a[1] == b[1]) & (a[2] == b[2]) & (a[3] == b[3])
-}
-
-fn same_spectrum(a: &[i8; 17], b: &[i8; 17]) -> bool {
-    let mut ok = true;
-    let mut i = 0;
-    while i < 17 {
-        ok = (a[i] == b[i]) & ok;
-        i += 1;
-    }
-    ok
-}
-
 // Whether these are the side indices that the bytes hold.
 pub fn same_indices_run(x: Indices, bytes: &[u8]) -> bool
     requires { ⌜ 34 ≤ length (now bytes) ⌝ }
 {
     let y = indices_run(bytes);
-    same_four(&x.gains, &y.gains)
-        & same_four(&x.ltp, &y.ltp)
-        & same_spectrum(&x.nlsf, &y.nlsf)
+    same_small(&x.gains, &bytes[0..4])
+        & same_small(&x.ltp, &bytes[4..8])
+        & same_small(&x.nlsf, &bytes[8..25])
         & (x.lag == y.lag)
         & (x.contour == y.contour)
         & (x.signal == y.signal)

@@ -3,8 +3,8 @@ use borrow.Author.Needs.{needs}
 use Prim.Native.Nat.{_-_, _≤_}
 use mathlib.Core.Path.{_≡_}
 use lib.ListN.{length}
-use Rattle.records.proofs.slices.fill_up.Statement.{statement}
-use Rattle.records.proofs.slices.fill_up.Tie as tie
+use Rattle.record_bytes.proofs.slices.fill_up.Statement.{statement}
+use Rattle.record_bytes.proofs.slices.fill_up.Tie as tie
 
 abbrev Inv-loop : tie.InvT-loop
 Inv-loop room₀ given filler held₀ i₀ room held i = (i ≤ length room₀) × (length room ≡ length room₀)

@@ -3,8 +3,8 @@ use borrow.Author.Needs.{needs}
 use Prim.Native.Nat.{_-_, _≤_}
 use mathlib.Core.Path.{_≡_}
 use lib.ListN.{length}
-use Rattle.records.proofs.slices.fill_run.Statement.{statement}
-use Rattle.records.proofs.slices.fill_run.Tie as tie
+use Rattle.record_bytes.proofs.slices.fill_small_run.Statement.{statement}
+use Rattle.record_bytes.proofs.slices.fill_small_run.Tie as tie
 
 abbrev Inv-loop : tie.InvT-loop
 Inv-loop values₀ bytes held₀ i₀ values held i = (i ≤ length values₀) × (length values ≡ length values₀)
@@ -12,9 +12,9 @@ Inv-loop values₀ bytes held₀ i₀ values held i = (i ≤ length values₀) �
 abbrev μ-loop : tie.MeasureT-loop
 μ-loop values₀ bytes held₀ i₀ values held i = length values₀ - i
 
-pub fill-run-spec : {M : Type 1} → statement M
-fill-run-spec =
+pub fill-small-run-spec : {M : Type 1} → statement M
+fill-small-run-spec =
     tie.close
-    (tie.spec Inv-loop μ-loop (λ c. search needs) (λ c κs. search needs) (λ c. search needs) (λ c. search needs)
+    (tie.spec Inv-loop μ-loop (λ c. search needs) (λ c. search needs) (λ c κs. search needs) (λ c. search needs)
     (λ c. search needs) (λ c. search needs) (λ c. search needs) (λ c. search needs) (λ c. search needs)
-    (λ c. search needs) (λ c. search needs))
+    (λ c. search needs))
