@@ -91,8 +91,8 @@ both P b d w s Q f t x =
     subst₂ Q (sym (symbol-read b d (s .model) (reader-gate b d w (f .beside) (t .gate)) (t .allowed .readable))) (sym (t .is)) x
 
 -- the last state of the writer passes the gate, where every accepted call before it did
-pub reads-of : (b : List ℕ) (ss : List Sym) (d : Dec) (w : Writer) (q : Out) → Sends (flat w) ss q → gateW (q .buf) (q .state) ≡ 0 → d .error ≡ 0
-    → Follows Any b d w ss → Reads b d (flat w) ss
+pub reads-of : (b : List ℕ) (ss : List Sym) (d : Dec) (w : Writer) (q : Out) → Sends (flat w) ss q → gateW (q .buf) (q .state) ≡ 0
+    → d .error ≡ 0 → Follows Any b d w ss → Reads b d (flat w) ss
 reads-of b [] d w q h g z f = tells b d w f (subst⁻¹ (λ (o : Out). gateW (o .buf) (o .state) ≡ 0) h g)
 reads-of b (s ∷ ss) d w q h g z f =
     let t = took w s (h .0) in
@@ -111,8 +111,9 @@ coded-of b [] d w q h f = tt
 coded-of b (s ∷ ss) d w q h f =
     let t = took w s (h .0) in
     let n = readNext b (s .model) d in
+    let u = follows-beside NoRaw b n (writeSym w s) ss (f .1) in
     both NoRaw b d w s (λ (a : Decoded) (o : Out). CodedRight a s o × CodedReads b (a .state) o ss) (f .0) t (
-      record { refusal = refl; account = same-account b n (writeSym w s) (follows-beside NoRaw b n (writeSym w s) ss (f .1)); value = f .0 .value },
+      record { refusal = refl; account = same-account b n (writeSym w s) u; value = f .0 .value },
       coded-of b ss n (writeSym w s) q (subst (λ (o : Out). Sends o ss q) (t .is) (h .1)) (f .1),
     )
 

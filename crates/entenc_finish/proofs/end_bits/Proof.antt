@@ -1,5 +1,5 @@
--- `end_bits` meets its contract: the leading zeros leave a cell that fits in the range, the sum does not wrap, and the test is the definition's.
--- Assumes nothing.
+-- `end_bits` meets its contract: the leading zeros leave a cell that fits in the range, the sum does not wrap, and the test is the
+-- definition's. Assumes nothing.
 use borrow.Author.Needs.{needs}
 use Prim.Native.Nat.{_+_, _-_, _<_, _≤_}
 use mathlib.Core.Path.{_≡_}
