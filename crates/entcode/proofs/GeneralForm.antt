@@ -1,15 +1,17 @@
 -- Reading by the general form of RFC 6716 section 4.1.2: the sought number is ft - min(floor(value / step) + 1, ft),
 -- the symbol is the one whose [fl, fh) holds it, and the range becomes step (fh - fl), or range - step (ft - fh)
--- where fl is 0. Every model's reader does just that. Assumes nothing.
-use Prim.Native.Nat.{ℕ, zero, suc, _-_, _*_, _/_, _^_, _≤_, _<_}
-use mathlib.Core.Path.{_≡_, refl}
+-- where fl is 0. Every model's reader does just that. And section 5.1.1, the writer's coded part, in the RFC's words.
+-- Assumes nothing.
+use Prim.Native.Nat.{ℕ, zero, suc, _+_, _-_, _*_, _/_, _^_, _≤_, _<_}
+use mathlib.Core.Path.{_≡_, refl, ap, ap₂}
 use native.Mathlib.Omega.{arith}
-use native.Mathlib.Nat.{mul-comm, mul-sub, mul-le-mul-left, le-div-iff-mul-le, div-lt-iff-lt-mul}
+use native.Mathlib.Nat.{mul-comm, mul-sub, mul-le-mul-left, div-mul-le-self, le-div-iff-mul-le, div-lt-iff-lt-mul}
 use Rattle.entcode.specs.Models.{Model, coded, lo, hi, all, Readable, Allowed}
 use Rattle.entcode.specs.Cuts.{upper, lower}
 use Rattle.entcode.proofs.CutLaws.{Proper, step-some}
 use Rattle.entcode.proofs.ModelLaws.{proper, Holds, pick-holds, pick-is}
 use Rattle.entcode.specs.Reader.{sought, pick}
+use Rattle.entcode.specs.Writer.{Writer, withFront, normW, codeW}
 
 -- the sought number lies in a piece exactly where the value lies in its part
 pub sought-in : (R val fl fh ft : ℕ) → 2 ^ 23 < R → Proper fl fh ft → lower R fh ft ≤ val → val < upper R fl ft
@@ -70,3 +72,26 @@ cut-later R fl fh ft a b =
       mul-le-mul-left (R / ft) b,
       mul-le-mul-left (R / ft) a,
     )
+
+-- ---- section 5.1.1
+
+-- a writer with this range and this value, renormalised
+abbrev pub codedTo : Writer → ℕ → ℕ → Writer
+codedTo w rng val =
+    normW (normW (withFront w (record { rng = rng; val = val; held = w .front .held; run = w .front .run }) (w .tail .room) (w .total)))
+
+-- fl = 0: range - range / ft * (ft - fh), and the value as it was
+pub code-first : (w : Writer) (fh ft : ℕ) → codeW w 0 fh ft ≡ codedTo w (w .front .rng - w .front .rng / ft * (ft - fh)) (w .front .val)
+code-first w fh ft =
+    ap (codedTo w (w .front .rng - w .front .rng / ft * (ft - fh)))
+    (let e : w .front .val + (w .front .rng - w .front .rng) ≡ w .front .val = omega arith in e)
+
+-- fl > 0: range / ft * (fh - fl), and value + range - range / ft * (ft - fl)
+pub code-later : (w : Writer) (fl fh ft : ℕ) → suc fl < fh → fh ≤ ft
+    → codeW w (suc fl) fh ft
+    ≡ codedTo w (w .front .rng / ft * (fh - suc fl)) (w .front .val + w .front .rng - w .front .rng / ft * (ft - suc fl))
+code-later w fl fh ft a b =
+    let R = w .front .rng in
+    let v : w .front .val + (R - R / ft * (ft - suc fl)) ≡ w .front .val + R - R / ft * (ft - suc fl)
+    = omega (arith, mul-sub (R / ft) ft (suc fl), div-mul-le-self R ft) in
+    ap₂ (codedTo w) (cut-later R fl fh ft a b) v

@@ -17,7 +17,7 @@ fn round_up(n: u32, k: u32) -> u32
     ensures { λ r. ⌜ r ≡ roundUp n (2 ^ k) ⌝ }
 {
     let last = (1u32 << k) - 1;
-    let sum = n + last;
+    let sum = std::num::wrapping_add_u32(n, last);
     (sum >> k) << k
 }
 
@@ -29,7 +29,8 @@ fn end_bits(rng: u32, val: u32) -> u32
     let l = u32::leading_zeros(rng);
     let k = 31 - l;
     let end = round_up(val, k);
-    let left = (val + rng) - end;
+    let top = std::num::wrapping_add_u32(val, rng);
+    let left = top - end;
     if left < (1u32 << k) { l + 1 } else { l }
 }
 

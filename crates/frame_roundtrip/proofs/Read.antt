@@ -1,6 +1,6 @@
 -- What a reader beside the writer answers to each call: the reader gives the call's symbols, so it has read what they mean. Assumes nothing.
-use Prim.Native.Nat.{ℕ, _*_, _≤_}
-use mathlib.Core.Path.{_≡_, refl, sym, ap, ap₂, subst, _∙_}
+use Prim.Native.Nat.{ℕ, _*_}
+use mathlib.Core.Path.{_≡_, refl, sym, ap, subst, _∙_}
 use mathlib.Core.Bool.{Bool, true, false, cond}
 use mathlib.Core.List.{List}
 use native.Mathlib.Omega.{arith}
@@ -9,19 +9,9 @@ use lib.IntN.{ℤ, natAbs}
 use lib.ListN.{length}
 use Rattle.refusals.proofs.FirstLaws.{none-first}
 use Rattle.entcode.specs.declared.Dec.{Dec}
-use Rattle.entcode.specs.declared.Decoded.{Decoded}
-use Rattle.entcode.specs.Models.{Model, Readable}
-use Rattle.entcode.specs.Cuts.{account}
-use Rattle.entcode.specs.Sound.{gateR, gateW}
-use Rattle.entcode.specs.Reader.{readVal, readNext}
-use Rattle.entcode.specs.Reading.{gives, decSym, decTell}
-use Rattle.entcode.proofs.ReadingLaws.{gate-pass, answered-ok}
-use Rattle.entcode.specs.Writer.{Writer}
-use Rattle.entcode.specs.Flat.{Out, flat}
-use Rattle.entcode.specs.Writing.{Sent}
-use Rattle.entcode.proofs.WritingLaws.{gate-open, tell-takes}
-use Rattle.roundtrip.specs.Statement.{SameAccount}
-use Rattle.roundtrip.proofs.Accepted.{ask-pass}
+use Rattle.entcode.specs.Sound.{gateR}
+use Rattle.entcode.specs.Reading.{gives}
+use Rattle.entcode.specs.Flat.{Out}
 use Rattle.tree.specs.Asks.{Got, got, run, symbols}
 use Rattle.tree.proofs.AsksLaws.{Gives, written-reads-back}
 use Rattle.silk.specs.declared.Indices.{Indices}
@@ -36,37 +26,9 @@ use Rattle.silk.proofs.PulseBlocks.{rows-counted, rows-flat}
 use Rattle.silk.specs.PulseWriting.{excited, pulsesSay, shiftsOf, pulseBlocks}
 use Rattle.silk.proofs.PulseWritten.{pulses-read-back}
 use Rattle.silk.proofs.PulseCallLaws.{pulses-read}
-use Rattle.frame_roundtrip.specs.Statement.{pulses, overlaid, voicedIn, Tells}
+use Rattle.frame_roundtrip.specs.Statement.{pulses, overlaid, voicedIn}
 use Rattle.frame_roundtrip.proofs.Overlaid.{says-alike, means-overlaid}
-use Rattle.frame_roundtrip.proofs.Behind.{Beside}
 use Rattle.frame_roundtrip.proofs.Sent.{says, PulsesTook, pulses-suit}
-
--- ---- the gate, and the account
-
-pub reader-gate : (b : List ℕ) (d : Dec) (w : Writer) → Beside b d w → gateW (flat w .buf) (flat w .state) ≡ 0 → gateR b d ≡ 0
-reader-gate b d w h g =
-    let low : d .total ≤ 1000000 = omega (arith, h .level .total, gate-open (flat w) g .low) in
-    gate-pass b d (record { sound = record { core = h .core; least = h .least; most = omega arith }; low = low })
-
-pub same-account : (b : List ℕ) (d : Dec) (w : Writer) → Beside b d w → SameAccount d (flat w)
-same-account b d w h = ap₂ account (h .level .total) (h .level .rng)
-
-pub tells : (b : List ℕ) (d : Dec) (w : Writer) → Beside b d w → gateW (flat w .buf) (flat w .state) ≡ 0 → Tells b d (flat w)
-unfolding decTell
-tells b d w h g =
-    let r : gives (account (d .total) (d .rng)) d ≡ decTell b d = answered-ok (gateR b d) d _ d (reader-gate b d w h g) in
-    let t = tell-takes (flat w) _ refl _ g refl in
-    record {
-      reader = ap (λ (a : Decoded). a .refusal) (sym r);
-      writer = ap (λ (a : Sent). a .answer .refusal) (sym t);
-      same = ap (λ (a : Decoded). a .value) (sym r) ∙ same-account b d w h ∙ ap (λ (a : Sent). a .answer .value) t;
-    }
-
--- ---- a symbol
-
-pub symbol-read : (b : List ℕ) (d : Dec) (m : Model) → gateR b d ≡ 0 → Readable m → decSym b d m ≡ gives (readVal b m d) (readNext b m d)
-unfolding decSym
-symbol-read b d m g o = sym (answered-ok _ d (readVal b m d) (readNext b m d) (none-first _ _ g (ask-pass m o)))
 
 -- ---- side indices
 

@@ -19,7 +19,7 @@ use Rattle.entcode.specs.Rules.{sayRule}
 use Rattle.entcode.specs.Writer.{Writer, writeSym, writeAll}
 use Rattle.entcode.specs.Flat.{Out, flat}
 use Rattle.entcode.proofs.FlatLaws.{as-flat}
-use Rattle.entcode.specs.Writing.{written, finished, encSym, encDone}
+use Rattle.entcode.specs.Writing.{written, encSym}
 use Rattle.entcode.proofs.WritingLaws.{answered-ok, answered-none}
 use Rattle.roundtrip.specs.Statement.{AllAllowed, after}
 use Rattle.roundtrip.proofs.Accepted.{took}
@@ -146,16 +146,12 @@ module _ (p : List ℤ) (khz subframes signal offset rate : ℕ) where
 
 -- ---- any call
 
--- an accepted call passed the gate; and so did finishing
+-- an accepted call passed the gate
 pub step-gate : (o : Out) (t : Step) → Accepts o t → gateW (o .buf) (o .state) ≡ 0
 unfolding encSym
 step-gate o (symbol s) z = first-none (gateW (o .buf) (o .state)) _ (answered-none _ o 0 (written o s) z) .0
 step-gate o (sideIndices x s) z = indices-took o x s (z .1) .gate
 step-gate o (pulses p khz subframes signal offset rate) z = pulses-took p khz subframes signal offset rate o z .gate
-
-pub done-gate : (o : Out) → encDone o .answer .refusal ≡ 0 → gateW (o .buf) (o .state) ≡ 0
-unfolding encDone
-done-gate o z = answered-none _ o 0 (finished o) z
 
 pub step-allowed : (w : Writer) (t : Step) → Accepts (flat w) t → AllAllowed (says t)
 step-allowed w (symbol s) z = (took w s z .allowed, tt)

@@ -14,9 +14,9 @@ use Rattle.entcode.specs.Models.{Sym}
 use Rattle.entcode.specs.Cuts.{account}
 use Rattle.entcode.specs.Flat.{Out, out}
 use Rattle.entcode.specs.Reader.{Bytes}
-use Rattle.entcode.specs.Reading.{decOpen, decSym, decTell}
-use Rattle.entcode.specs.Writing.{Sent, encOpen, encSym, encTell, encDone}
-use Rattle.roundtrip.specs.Statement.{after, Sends, SameAccount, Right, Reads}
+use Rattle.entcode.specs.Reading.{decOpen, decSym}
+use Rattle.entcode.specs.Writing.{Sent, encOpen, encSym, encDone}
+use Rattle.roundtrip.specs.Statement.{after, Sends, Tells, Right, Reads}
 use Rattle.silk.specs.declared.Indices.{Indices}
 use Rattle.silk.specs.declared.IndicesRead.{IndicesRead}
 use Rattle.silk.specs.declared.Setting.{Setting}
@@ -101,26 +101,19 @@ overlaid s x z =
       seed = x .seed;
     }
 
--- the accounts of a reader and a writer, asked for by calls, are given, and are the same
-pub record Tells (b : List ℕ) (d : Dec) (o : Out) : Type 0 where
-  pub reader : decTell b d .refusal ≡ 0
-  pub writer : encTell o .answer .refusal ≡ 0
-  pub same : decTell b d .value ≡ encTell o .answer .value
-
--- a reader's answer to side indices is right: accepted, the record x over z, and what the writer hands to the next
--- frame; the writer's account, no error
+-- a reader's answer to side indices is right: accepted, the record x over z, what the writer hands to the next frame,
+-- and no error
 pub record RightIndices (a : IndicesRead) (s : Setting) (x z : Indices) (w : IndicesSent) : Type 0 where
   pub refusal : a .refusal ≡ 0
   pub indices : a .indices ≡ overlaid s x z
   pub prevtype : a .prevtype ≡ w .answer .prevtype
   pub prevlag : a .prevlag ≡ w .answer .prevlag
-  pub account : SameAccount (a .state) (afterIndices w)
   pub error : a .state .error ≡ 0
 
 -- a reader's answer to pulses is right: the same pulses
-pub record RightPulses (a : Pulsed) (p : List ℤ) (o : Out) : Type 0 where
+pub record RightPulses (a : Pulsed) (p : List ℤ) : Type 0 where
   pub pulses : a .pulses ≡ p
-  pub answer : Right (a .answer) 0 o
+  pub answer : Right (a .answer) 0
 
 -- ---- reading
 
@@ -131,7 +124,7 @@ abbrev pub StepsRead : List ℕ → Dec → Out → List Step → Type 0
 StepsRead b d o [] = Tells b d o
 StepsRead b d o (symbol s ∷ ts) =
     Tells b d o
-    × (Right (decSym b d (s .model)) (s .value) (after (encSym o s))
+    × (Right (decSym b d (s .model)) (s .value)
     × StepsRead b (decSym b d (s .model) .state) (after (encSym o s)) ts)
 StepsRead b d o (sideIndices x s ∷ ts) =
     Tells b d o
@@ -142,7 +135,6 @@ StepsRead b d o (pulses p khz subframes signal offset rate ∷ ts) =
     Tells b d o
     × ((v : List ℤ) → length v ≡ length p
     → RightPulses (decodePulses b d v khz subframes signal offset) p
-    (after (encodePulses o p khz subframes signal offset rate))
     × StepsRead b (decodePulses b d v khz subframes signal offset .answer .state)
     (after (encodePulses o p khz subframes signal offset rate)) ts)
 
@@ -182,7 +174,7 @@ pub record FrameRight (b : List ℕ) (d : Dec) (o : Out) (s : Setting) (x : Indi
     (v : List ℤ) : Type 0 where
   pub indices : RightIndices (decodeIndices b d z s) s x z (encodeIndices o x s)
   pub between : Tells b (decodeIndices b d z s .state) (afterIndices (encodeIndices o x s))
-  pub pulses : RightPulses (pulsesAfter b s (decodeIndices b d z s) v) p (after (typedPulses o s x p rate))
+  pub pulses : RightPulses (pulsesAfter b s (decodeIndices b d z s) v) p
   pub account : Tells b (pulsesAfter b s (decodeIndices b d z s) v .answer .state) (after (typedPulses o s x p rate))
 
 -- ---- the theorems
@@ -215,7 +207,7 @@ PulsesBack =
     w .answer .refusal ≡ 0 → Finishes (after w)
     → Reads c (fresh c) (after (encOpen b)) ss
     × ((v : List ℤ) → length v ≡ length p → let a = decodePulses c (readOn c (fresh c) ss) v khz subframes signal offset in
-    RightPulses a p (after w) × Tells c (a .answer .state) (after w)))
+    RightPulses a p × Tells c (a .answer .state) (after w)))
 
 -- side indices behind symbols, then finishing
 abbrev pub IndicesBack : Type 0

@@ -14,13 +14,12 @@ use Rattle.icdf.proofs.RuleLaws.{symbol-accepts, icdf-accepts}
 use Rattle.refusals.specs.First.{firstOf}
 use Rattle.refusals.proofs.FirstLaws.{first-none, none-first}
 use Rattle.entcode.specs.Models.{Model, bit, raw, num, tab, Sym, Readable, Allowed}
-use Rattle.entcode.specs.Sound.{soundW, gateW}
+use Rattle.entcode.specs.Sound.{gateW}
 use Rattle.entcode.specs.Rules.{exponentOk, countOk, numberOk, askRule, sayRule}
 use Rattle.entcode.specs.Writer.{Writer, openW, writeSym}
 use Rattle.entcode.proofs.WriterLaws.{Firm}
 use Rattle.entcode.specs.Finish.{finishW}
-use Rattle.entcode.specs.Flat.{errOf, errorOf, flat}
-use Rattle.entcode.proofs.ReadingLaws.{gate-none}
+use Rattle.entcode.specs.Flat.{errOf, errorOf, Out, flat}
 use Rattle.entcode.proofs.FlatLaws.{as-flat}
 use Rattle.entcode.proofs.WritingLaws.{sound-flat, say-open, answered-ok, answered-none}
 use Rattle.entcode.specs.Writing.{Sent, takes, written, encSym, finished, encDone, encOpen}
@@ -62,20 +61,20 @@ pub opens : (b : List ℕ) → length b ≤ 1275 → after (encOpen b) ≡ flat 
 unfolding encOpen
 opens b h = rw (le-leb (length b) 1275 h)
 
--- what an accepted write says: its state's total, its symbol, and the state after it
+-- what an accepted write says: its state passes the gate, its symbol, and the state after it
 pub record Took (w : Writer) (s : Sym) : Type 0 where
-  pub low : w .total ≤ 1000000
+  pub gate : gateW (flat w .buf) (flat w .state) ≡ 0
   pub allowed : Allowed (s .model) (s .value)
   pub is : after (encSym (flat w) s) ≡ flat (writeSym w s)
 
 pub took : (w : Writer) (s : Sym) → encSym (flat w) s .answer .refusal ≡ 0 → Took w s
-unfolding encSym written gateW
+unfolding encSym written
 took w s z =
     let o = flat w in
     let n = answered-none (firstOf (gateW (o .buf) (o .state)) (sayRule (s .model) (s .value))) o 0 (written o s) z in
     let f = first-none (gateW (o .buf) (o .state)) (sayRule (s .model) (s .value)) n in
     record {
-      low = gate-none (length (o .buf)) (soundW (o .buf) (o .state)) (o .state .total) (f .0) .2;
+      gate = f .0;
       allowed = say-open (s .model) (s .value) (f .1);
       is = ap after (sym (answered-ok _ o 0 (written o s) n)) ∙ ap (λ (v : Writer). flat (writeSym v s)) (as-flat w);
     }
@@ -94,6 +93,11 @@ done-accepted w z =
     let o = flat w in
     sym (answered-ok _ o 0 (finished o) (answered-none (gateW (o .buf) (o .state)) o 0 (finished o) z))
     ∙ ap (λ (v : Writer). takes 0 (flat (finishW v))) (as-flat w)
+
+-- an accepted finish passed the gate
+pub done-gate : (o : Out) → encDone o .answer .refusal ≡ 0 → gateW (o .buf) (o .state) ≡ 0
+unfolding encDone
+done-gate o z = answered-none _ o 0 (finished o) z
 
 pub done-passes : (w : Writer) → gateW (flat w .buf) (flat w .state) ≡ 0 → encDone (flat w) .answer .refusal ≡ 0
 unfolding encDone

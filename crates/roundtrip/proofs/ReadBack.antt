@@ -26,18 +26,25 @@ use Rattle.roundtrip.proofs.OneRead.{Level, next, gives-coded, gives-wh
 
 -- ---- what reading the list ss from d amounts to, w being the writer before it
 
--- one symbol: the reader is sound and level with the writer; a symbol of the kind P gives its value, and leaves the error as it was
-pub record Step (P : Sym → Type 0) (b : List ℕ) (d : Dec) (w : Writer) (s : Sym) : Type 0 where
+-- a reader for the next read, level with the writer
+pub record Beside (b : List ℕ) (d : Dec) (w : Writer) : Type 0 where
   pub core : Core b d
   pub least : 33 ≤ d .total
   pub level : Level d w
-  pub next : Level (readNext b (s .model) d) (writeSym w s)
+
+-- one symbol: a reader beside the writer; a symbol of the kind P gives its value, and leaves the error as it was
+pub record Step (P : Sym → Type 0) (b : List ℕ) (d : Dec) (w : Writer) (s : Sym) : Type 0 where
+  pub beside : Beside b d w
   pub value : P s → readVal b (s .model) d ≡ s .value
   pub error : P s → readNext b (s .model) d .error ≡ d .error
 
 abbrev pub Follows : (Sym → Type 0) → List ℕ → Dec → Writer → List Sym → Type 0
-Follows P b d w [] = Level d w
+Follows P b d w [] = Beside b d w
 Follows P b d w (s ∷ ss) = Step P b d w s × Follows P b (readNext b (s .model) d) (writeSym w s) ss
+
+pub follows-beside : (P : Sym → Type 0) (b : List ℕ) (d : Dec) (w : Writer) (ss : List Sym) → Follows P b d w ss → Beside b d w
+follows-beside P b d w [] f = f
+follows-beside P b d w (s ∷ ss) f = f .0 .beside
 
 -- every symbol, or those without raw bits
 abbrev pub Any : Sym → Type 0
@@ -48,68 +55,57 @@ NoRaw s = rawN (s .model) ≡ 0
 
 -- ---- from a reader that stands where the writer stood
 
--- a reader at the interval a, level with w
+-- a reader at the interval a, beside w
 record Ready (b : List ℕ) (d : Dec) (w : Writer) (a : Interval) : Type 0 where
   big : 2 ^ 23 < a .size
   stands : StandsI b d a
-  core : Core b d
-  level : Level d w
-  least : 33 ≤ d .total
+  beside : Beside b d w
 
 module _ (b : List ℕ) (bytes : Bytes b) where
   ready-next : (s : Sym) (d : Dec) (w : Writer) (a : Interval) → Allowed (s .model) (s .value) → Ready b d w a → Within b (symI a s)
       → Ready b (readNext b (s .model) d) (writeSym w s) (symI a s)
   ready-next s d w a ok r i =
-      let n = next b bytes (s .model) (s .value) ok d w a (r .big) (r .stands) (r .core) (r .level) i in
+      let h = r .beside in
+      let n = next b bytes (s .model) (s .value) ok d w a (r .big) (r .stands) (h .core) (h .level) i in
       record {
         big = sym-size a s ok (r .big);
         stands = n .stands;
-        core = n .core;
-        level = n .level;
-        least = omega (arith, r .least, core-read b (s .model) d bytes (ok .readable) (r .core) .least);
+        beside = record {
+          core = n .core;
+          least = omega (arith, h .least, core-read b (s .model) d bytes (ok .readable) (h .core) .least);
+          level = n .level;
+        };
       }
 
   -- the packet lies within the last interval: its coded parts are read back
   follows-coded : (ss : List Sym) (d : Dec) (w : Writer) (a : Interval) → AllAllowed ss → Ready b d w a → Within b (runI a ss)
       → Follows NoRaw b d w ss
-  follows-coded [] d w a ok r i = r .level
+  follows-coded [] d w a ok r i = r .beside
   follows-coded (s ∷ ss) d w a ok r i =
       let j : Within b (symI a s) = run-back b bytes ss (symI a s) (ok .1) (sym-size a s (ok .0) (r .big)) i in
       let q = ready-next s d w a (ok .0) r j in
-      let g = gives-coded b bytes (s .model) (s .value) (ok .0) d w a (r .big) (r .stands) (r .core) (r .level) j in (
-        record {
-          core = r .core;
-          least = r .least;
-          level = r .level;
-          next = q .level;
-          value = λ z. g z .value;
-          error = λ z. g z .error;
-        },
+      let h = r .beside in
+      let g = gives-coded b bytes (s .model) (s .value) (ok .0) d w a (r .big) (r .stands) (h .core) (h .level) j in (
+        record { beside = h; value = λ z. g z .value; error = λ z. g z .error },
         follows-coded ss (readNext b (s .model) d) (writeSym w s) (symI a s) (ok .1) q i,
       )
 
   -- and the raw number ahead is that of the list: so is every symbol
   follows-whole : (ss : List Sym) (d : Dec) (w : Writer) (a : Interval) (X : ℕ) → AllAllowed ss → Ready b d w a → Within b (runI a ss)
       → rest b d ≡ rawNumber ss X → Follows Any b d w ss
-  follows-whole [] d w a X ok r i e = r .level
+  follows-whole [] d w a X ok r i e = r .beside
   follows-whole (s ∷ ss) d w a X ok r i e =
       let j : Within b (symI a s) = run-back b bytes ss (symI a s) (ok .1) (sym-size a s (ok .0) (r .big)) i in
       let q = ready-next s d w a (ok .0) r j in
-      let g = gives-whole b bytes (s .model) (s .value) (ok .0) d w a (r .big) (r .stands) (r .core) (r .level) j (rawNumber ss X) e in (
-        record {
-          core = r .core;
-          least = r .least;
-          level = r .level;
-          next = q .level;
-          value = λ z. g .0 .value;
-          error = λ z. g .0 .error;
-        },
+      let h = r .beside in
+      let g = gives-whole b bytes (s .model) (s .value) (ok .0) d w a (r .big) (r .stands) (h .core) (h .level) j (rawNumber ss X) e in (
+        record { beside = h; value = λ z. g .0 .value; error = λ z. g .0 .error },
         follows-whole ss (readNext b (s .model) d) (writeSym w s) (symI a s) X (ok .1) q i (g .1),
       )
 
   -- ---- a fresh reader is ready
 
-  pub open-core : length b ≤ 1275 → Core b (opened b)
+  open-core : length b ≤ 1275 → Core b (opened b)
   unfolding opened settled
   open-core short =
       let s = stands-open b bytes in
@@ -133,9 +129,7 @@ module _ (b : List ℕ) (bytes : Bytes b) where
       record {
         big = omega arith;
         stands = stands-open b bytes;
-        core = open-core short;
-        level = record { rng = refl; total = refl };
-        least = omega arith;
+        beside = record { core = open-core short; least = omega arith; level = record { rng = refl; total = refl } };
       }
 
 -- the whole packet is its raw number

@@ -31,7 +31,7 @@ use Rattle.roundtrip.proofs.Finished.{total-bytes}
 use Rattle.roundtrip.proofs.Bytes.{bytes-writes}
 use Rattle.roundtrip.proofs.ReadBack.{Follows, Any, view-finished, view-follows, view-follows-coded}
 use Rattle.roundtrip.proofs.Round.{no-error, written-view, open-firm}
-use Rattle.roundtrip.proofs.Accepted.{opens, done-accepted}
+use Rattle.roundtrip.proofs.Accepted.{opens, done-accepted, done-gate}
 use Rattle.roundtrip.proofs.Calls.{went, accepts-all, opens-reader, reads-of, coded-of, in-step-of, answers-of}
 use Rattle.roundtrip.proofs.Public.{sent, total-low, done-fits, known, buf-is, offs-is, opened-is, opened-error}
 
@@ -86,20 +86,21 @@ follows-back b ss y short ok z =
 -- ---- over the calls: it reads back
 
 -- the core: from any writer w that stands where the symbols lead, however it came there, and is finished without error
-pub reads-view : (c : List ℕ) (ss : List Sym) (q : Out) → Sends (flat (openW c)) ss q
+pub reads-view : (c : List ℕ) (ss : List Sym) (q : Out) → Sends (flat (openW c)) ss q → encDone q .answer .refusal ≡ 0
     → (w : Writer) (n : ℕ) → View w (runI openI ss) (λ X. rawNumber ss X) n → Bytes (w .tail .room .buf)
     → finish w .err ≡ 0 → length (finish w .buf) ≤ 1275
     → Reads (finish w .buf) (decOpen (finish w .buf) .state) (flat (openW c)) ss
-reads-view c ss q h w n v y z short =
+reads-view c ss q h e w n v y z short =
     let b = finish w .buf in
     subst⁻¹ (λ (d : Dec). Reads b d (flat (openW c)) ss) (opened-is b short)
-    (reads-of b ss (opened b) (openW c) q h (opened-error b) (view-follows ss (went ss (openW c) q h .allowed) w n v z y short c))
+    (reads-of b ss (opened b) (openW c) q h (done-gate q e) (opened-error b)
+    (view-follows ss (went ss (openW c) q h .allowed) w n v z y short c))
 
 pub reads-back : ReadsBack
 reads-back b ss q r =
     let k = known b ss q r in
     subst₂ (λ (l : List ℕ) (o : Out). Reads l (decOpen l .state) o ss) (sym (buf-is b ss q k)) (sym (opens b (r .short)))
-    (reads-view b ss q (k .sends) (wroteAll b ss) (length b) (k .view) (k .old) (k .error) (omega (arith, k .len, r .short)))
+    (reads-view b ss q (k .sends) (r .accepted) (wroteAll b ss) (length b) (k .view) (k .old) (k .error) (omega (arith, k .len, r .short)))
 
 -- an account that fits reads back
 pub fits-reads : FitsReads

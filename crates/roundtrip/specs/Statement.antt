@@ -1,6 +1,6 @@
 -- What "written reads back" means, said of the public calls as document 01 has them, refusals included: `encOpen`,
--- `encSym` and `encDone` of a writer, `decOpen` and `decSym` of a reader; and at the end the theorems, each a type that
--- `proofs/Theorems` proves. Assumes nothing.
+-- `encSym`, `encTell` and `encDone` of a writer, `decOpen`, `decSym` and `decTell` of a reader; and at the end the
+-- theorems, each a type that `proofs/Theorems` proves. Assumes nothing.
 use Prim.Native.Nat.{ℕ, _+_, _*_, _/_, _%_, _≤_, _<_}
 use mathlib.Core.Path.{_≡_}
 use mathlib.Core.List.{List, [], _∷_}
@@ -12,9 +12,9 @@ use Rattle.entcode.specs.Models.{Model, Sym, rawN, Allowed}
 use Rattle.entcode.specs.Cuts.{account}
 use Rattle.entcode.specs.Flat.{Out, out, flat}
 use Rattle.entcode.specs.Reader.{Bytes}
-use Rattle.entcode.specs.Reading.{decOpen, decSym}
+use Rattle.entcode.specs.Reading.{decOpen, decSym, decTell}
 use Rattle.entcode.specs.Writer.{Writer, openW, writeAll}
-use Rattle.entcode.specs.Writing.{Sent, encOpen, encSym, encDone}
+use Rattle.entcode.specs.Writing.{Sent, encOpen, encSym, encTell, encDone}
 
 -- ---- writing
 
@@ -43,24 +43,26 @@ pub record Written (b : List ℕ) (ss : List Sym) (q : Out) : Type 0 where
 
 -- ---- reading
 
--- a reader's state shows the account of a writer's
-abbrev pub SameAccount : Dec → Out → Type 0
-SameAccount d o = account (d .total) (d .rng) ≡ account (o .state .total) (o .state .rng)
+-- the accounts of a reader and a writer, asked for by calls, are given, and are the same
+pub record Tells (b : List ℕ) (d : Dec) (o : Out) : Type 0 where
+  pub reader : decTell b d .refusal ≡ 0
+  pub writer : encTell o .answer .refusal ≡ 0
+  pub same : decTell b d .value ≡ encTell o .answer .value
 
--- a reader's answer is right: accepted, the value v, the account that the writer had at o, and no error
-pub record Right (a : Decoded) (v : ℕ) (o : Out) : Type 0 where
+-- a reader's answer is right: accepted, the value v, and no error
+pub record Right (a : Decoded) (v : ℕ) : Type 0 where
   pub refusal : a .refusal ≡ 0
   pub value : a .value ≡ v
-  pub account : SameAccount (a .state) o
   pub error : a .state .error ≡ 0
 
 -- the calls that read with the models of ss from the reader d over the packet b are all right, o being the writer
--- before ss
+-- before ss; and both accounts are the same before the first symbol and after each
 abbrev pub Reads : List ℕ → Dec → Out → List Sym → Type 0
-Reads b d o [] = Unit {0}
+Reads b d o [] = Tells b d o
 Reads b d o (s ∷ ss) =
-    Right (decSym b d (s .model)) (s .value) (after (encSym o s))
-    × Reads b (decSym b d (s .model) .state) (after (encSym o s)) ss
+    Tells b d o
+    × (Right (decSym b d (s .model)) (s .value)
+    × Reads b (decSym b d (s .model) .state) (after (encSym o s)) ss)
 
 -- ---- questions that depend on answers
 
@@ -77,14 +79,15 @@ Leads (ask m next) [] = ⊥
 Leads (ask m next) (s ∷ ss) = (s .model ≡ m) × Leads (next (s .value)) ss
 
 -- asked from the reader d on, each next question by the value just read, the questions are all answered right, with
--- the values of ss
+-- the values of ss; and both accounts are the same before the first and after each
 abbrev pub Answers : List ℕ → Dec → Out → Questions → List Sym → Type 0
-Answers b d o done [] = Unit {0}
+Answers b d o done [] = Tells b d o
 Answers b d o done (s ∷ ss) = ⊥
 Answers b d o (ask m next) [] = ⊥
 Answers b d o (ask m next) (s ∷ ss) =
-    Right (decSym b d m) (s .value) (after (encSym o s))
-    × Answers b (decSym b d m .state) (after (encSym o s)) (next (decSym b d m .value)) ss
+    Tells b d o
+    × (Right (decSym b d m) (s .value)
+    × Answers b (decSym b d m .state) (after (encSym o s)) (next (decSym b d m .value)) ss)
 
 -- ---- range and total
 
@@ -99,6 +102,10 @@ InStep b d o [] = SamePace d o
 InStep b d o (s ∷ ss) = SamePace d o × InStep b (decSym b d (s .model) .state) (after (encSym o s)) ss
 
 -- ---- packets that agree with the finished buffer in its coded bytes only
+
+-- a reader's state shows the account of a writer's
+abbrev pub SameAccount : Dec → Out → Type 0
+SameAccount d o = account (d .total) (d .rng) ≡ account (o .state .total) (o .state .rng)
 
 -- accepted, with the writer's account; and the value, if the symbol has no raw bits
 pub record CodedRight (a : Decoded) (s : Sym) (o : Out) : Type 0 where

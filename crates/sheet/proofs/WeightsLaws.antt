@@ -5,7 +5,7 @@ use mathlib.Core.List.{List, [], _∷_, map}
 use lib.ListN.{getD, List·getD-map}
 use Rattle.bitlen.specs.Length.{bitLength, lengthIn}
 use Rattle.sheet.specs.Books.{Book, narrowBook, wideBook}
-use Rattle.sheet.specs.Weights.{rootAt, weight}
+use Rattle.sheet.proofs.Weights.{rootAt, weight}
 
 -- the weights of the values behind a
 unfoldable pub weightsFrom : ℕ → List ℕ → List ℕ

@@ -1,5 +1,4 @@
 pub mod Rows
 pub mod Directory
 pub mod Books
-pub mod Weights
 pub mod Inner

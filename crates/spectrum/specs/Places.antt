@@ -5,7 +5,6 @@ use lib.IntN.{ℤ, pos, _+ℤ_, _*ℤ_}
 use lib.Signed.{quotZ}
 use lib.ListN.{getD}
 use Rattle.sheet.specs.Books.{Book}
-use Rattle.sheet.specs.Weights.{weight}
 use Rattle.spectrum.specs.Residuals.{residuals, predictorIn}
 use Rattle.spectrum.specs.Values.{held}
 

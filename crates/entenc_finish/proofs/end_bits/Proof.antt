@@ -1,6 +1,8 @@
--- `end_bits` meets its contract: the leading zeros leave a cell that fits in the range, and the test is the definition's. Assumes nothing.
+-- `end_bits` meets its contract: the leading zeros leave a cell that fits in the range, the sum does not wrap, and the test is the
+-- definition's. Assumes nothing.
 use borrow.Author.Needs.{needs}
 use Prim.Native.Nat.{_+_, _-_, _<_, _≤_}
+use mathlib.Core.Path.{_≡_}
 use native.Mathlib.Omega.{arith}
 use native.Mathlib.Numerals.{add-one}
 use borrow.Author.Tests.{lt-ltb, le-ltb}
@@ -24,30 +26,36 @@ sub-k c = omega (arith, lead c .few)
 round-up-requires : tie.Need-round-up-requires
 round-up-requires c κs = (omega arith, omega (arith, lead c .inside, c .pre .2))
 
+-- the sum in whole numbers
+sums : (c : tie.After-wrapping-add-u32) → c .wrapping-add-u32 .result ≡ c .before .before .args .val + c .before .before .args .rng
+sums c = omega (arith, c .before .before .pre .2)
+
 sub-left : tie.Need-sub-left
-sub-left c = omega (arith, below (c .before), c .round-up .ensures)
+sub-left c = omega (arith, sums c, below (c .before .before), c .before .round-up .ensures)
 
 add-result : tie.Need-add-result
-add-result c = omega (arith, lead (c .before .before) .few)
+add-result c = omega (arith, lead (c .before .before .before) .few)
 
 returns : tie.Need-returns
 returns c =
-    let b = c .before .before in
+    let a = c .before in
+    let b = a .before .before in
     let l = leadingZeros 32 (b .args .rng) in
     let t : b .args .val + b .args .rng < roundUp (b .args .val) (cell l) + cell l
-    = omega (arith, c .if1 .taken, c .before .round-up .ensures, one-shl (31 - l) (omega arith), below b) in
+    = omega (arith, c .if1 .taken, sums a, a .before .round-up .ensures, one-shl (31 - l) (omega arith), below b) in
     rw (lt-ltb (b .args .val + b .args .rng) (roundUp (b .args .val) (cell l) + cell l) t, add-one)
 
 returns-2 : tie.Need-returns-2
 returns-2 c =
-    let b = c .before .before in
+    let a = c .before in
+    let b = a .before .before in
     let l = leadingZeros 32 (b .args .rng) in
     let t : roundUp (b .args .val) (cell l) + cell l ≤ b .args .val + b .args .rng
-    = omega (arith, c .if1 .left, c .before .round-up .ensures, one-shl (31 - l) (omega arith), below b) in
+    = omega (arith, c .if1 .left, sums a, a .before .round-up .ensures, one-shl (31 - l) (omega arith), below b) in
     rw (le-ltb (b .args .val + b .args .rng) (roundUp (b .args .val) (cell l) + cell l) t)
 
 pub end-bits-spec : {M : Type 1} → statement M
 end-bits-spec =
     tie.close
     (tie.spec
-    sub-k round-up-requires (λ c. search needs) sub-left (λ c. search needs) add-result returns returns-2)
+    sub-k round-up-requires (λ c κs. search needs) sub-left (λ c. search needs) add-result returns returns-2)

@@ -11,7 +11,6 @@ use mir.Val.{SFits, toZ, ofZ}
 use mir.Facts.{toZ-ofZ}
 use Rattle.ints.proofs.Order.{parts-alone, ltZ-false}
 use Rattle.ints.proofs.Widths.{parts-fit}
-use Rattle.sheet.specs.Weights.{weight}
 use Rattle.spectrum.proofs.Extremes.{held-hi, held-lo, held-own}
 use Rattle.spectrum.specs.Places.{placed}
 use Rattle.nlsf_places.proofs.place.Statement.{statement}
