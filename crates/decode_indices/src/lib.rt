@@ -3,6 +3,7 @@
 ghost use mathlib.Core.Path.{_≡_};
 ghost use Prim.Native.Nat.{_^_, _<_};
 ghost use Rattle.tree.specs.Asks.{got};
+ghost use Rattle.tree.specs.Inner.Growth.{ofSymbols};
 ghost use Rattle.tree.specs.Inner.Ran.{Ran};
 ghost use Rattle.silk.specs.Inner.Indices.{Reading, Rate, Subframes, Upto};
 ghost use Rattle.silk.specs.IndexSyntax.{voicing, indices};
@@ -36,7 +37,7 @@ fn voicing_index(
 ) -> IndicesPart
     requires { ⌜ Reading (now packet) d (now rows) (2 ^ 27) ⌝ }
     requires { ⌜ Rate (s .khz) × Subframes (s .subframes) ⌝ }
-    ensures { λ a. ⌜ Ran (now (packet .entry)) d (voicing signal s x) 160 (a .indices) (a .state) ⌝ }
+    ensures { λ a. ⌜ Ran (now (packet .entry)) d (voicing signal s x) (ofSymbols 10) (a .indices) (a .state) ⌝ }
 {
     if signal == 2 {
         return pitch_run(packet, d, rows, x, s);
@@ -51,7 +52,7 @@ fn voicing_index(
 fn all_indices(packet: &[u8], d: Dec, rows: &[u8], x: Indices, s: Setting) -> IndicesPart
     requires { ⌜ Reading (now packet) d (now rows) (2 ^ 26) ⌝ }
     requires { ⌜ Rate (s .khz) × Subframes (s .subframes) × (s .active < 2) ⌝ }
-    ensures { λ a. ⌜ Ran (now (packet .entry)) d (indices s x) 816 (a .indices) (a .state) ⌝ }
+    ensures { λ a. ⌜ Ran (now (packet .entry)) d (indices s x) (ofSymbols 51) (a .indices) (a .state) ⌝ }
 {
     let k = kind_run(packet, d, rows, s.active);
     let signal = k.value / 2;

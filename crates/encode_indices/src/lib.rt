@@ -4,6 +4,7 @@ ghost use mathlib.Core.Path.{_≡_};
 ghost use Prim.Native.Nat.{_^_, _<_};
 ghost use lib.IntN.{natAbs};
 ghost use Rattle.entcode.specs.Flat.{out};
+ghost use Rattle.tree.specs.Inner.Growth.{ofSymbols};
 ghost use Rattle.tree.specs.Inner.Told.{Told};
 ghost use Rattle.silk.specs.Inner.Indices.{Writing, Rate, Subframes, Upto, WritesPitch, Writes};
 ghost use Rattle.silk.specs.IndexSyntax.{voicing, indices};
@@ -47,7 +48,7 @@ fn refusal(buf: &[u8], w: Enc, x: Indices, s: Setting) -> u32
 fn voicing_tell(buf: &mut [u8], w: Enc, rows: &[u8], x: Indices, signal: u32, s: Setting) -> Enc
     requires { ⌜ Writing (out (now buf) w) (now rows) (2 ^ 27) ⌝ }
     requires { ⌜ Rate (s .khz) × Subframes (s .subframes) × (signal ≡ 2 → WritesPitch s x) ⌝ }
-    ensures { λ r. ⌜ Told (out (now (buf .entry)) w) x (voicing signal s x) 160 (out (now (buf .exit)) r) ⌝ }
+    ensures { λ r. ⌜ Told (out (now (buf .entry)) w) x (voicing signal s x) (ofSymbols 10) (out (now (buf .exit)) r) ⌝ }
 {
     if signal == 2 {
         return pitch_tell_run(buf, w, rows, x, s);
@@ -59,7 +60,7 @@ fn voicing_tell(buf: &mut [u8], w: Enc, rows: &[u8], x: Indices, signal: u32, s:
 fn all_tell(buf: &mut [u8], w: Enc, rows: &[u8], x: Indices, s: Setting) -> Enc
     requires { ⌜ Writing (out (now buf) w) (now rows) (2 ^ 26) ⌝ }
     requires { ⌜ Rate (s .khz) × Subframes (s .subframes) × (s .active < 2) × Writes s x ⌝ }
-    ensures { λ r. ⌜ Told (out (now (buf .entry)) w) x (indices s x) 816 (out (now (buf .exit)) r) ⌝ }
+    ensures { λ r. ⌜ Told (out (now (buf .entry)) w) x (indices s x) (ofSymbols 51) (out (now (buf .exit)) r) ⌝ }
 {
     let signal = next_type_run(x);
     let k = kind_tell_run(buf, w, rows, x, s.active);

@@ -6,6 +6,7 @@ ghost use lib.ListN.{length, take};
 ghost use Rattle.lists.specs.AtMost.{AtMost};
 ghost use Rattle.entcode.specs.Flat.{out};
 ghost use Rattle.entcode.specs.Inner.Writing.{Core};
+ghost use Rattle.tree.specs.Inner.Growth.{ofSymbols};
 ghost use Rattle.tree.specs.Inner.Told.{Told};
 ghost use Rattle.silk.specs.PulseSyntax.{excitation, rows16};
 ghost use Rattle.silk.specs.Inner.Pulses.{PulseRows, Suited, SplitsTold, LowsTold, SignsTold};
@@ -107,7 +108,7 @@ pub fn silk_encode_pulses_run(
     requires { ⌜ Suited (take (f .blocks) (x .lows)) (rows16 (f .blocks) (now pulses)) (x .counts) (x .lows) ⌝ }
     ensures { λ r.
         ⌜ Told (out (now (buf .entry)) w) (excited rate (take (f .blocks) (x .lows)) (rows16 (f .blocks) (now (pulses .entry))))
-        (excitation (f .signal) (f .offset) (f .blocks)) 64656 (out (now (buf .exit)) r) ⌝ }
+        (excitation (f .signal) (f .offset) (f .blocks)) (ofSymbols 4041) (out (now (buf .exit)) r) ⌝ }
 {
     let n = f.blocks;
     let at = ((f.signal / 2) as usize) * 9;

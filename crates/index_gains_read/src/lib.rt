@@ -1,6 +1,7 @@
 // The gains of a frame read (RFC 6716, section 4.2.7.4), as in the crate's decode_indices.rs. The rows are lent by
 // the caller; the record goes in and out by value.
 ghost use Prim.Native.Nat.{_-_, _^_, _<_};
+ghost use Rattle.tree.specs.Inner.Growth.{ofSymbols};
 ghost use Rattle.tree.specs.Inner.Ran.{Ran};
 ghost use Rattle.silk.specs.Inner.Indices.{Reading, Subframes};
 ghost use Rattle.silk.specs.IndexSyntax.{firstGain, moreGains, gains};
@@ -18,7 +19,7 @@ use silk::IndicesPart;
 fn first_gain(packet: &[u8], d: Dec, rows: &[u8], x: Indices, mode: u32, signal: u32) -> IndicesPart
     requires { ⌜ Reading (now packet) d (now rows) (2 ^ 29) ⌝ }
     requires { ⌜ signal < 3 ⌝ }
-    ensures { λ a. ⌜ Ran (now (packet .entry)) d (firstGain mode signal x) 32 (a .indices) (a .state) ⌝ }
+    ensures { λ a. ⌜ Ran (now (packet .entry)) d (firstGain mode signal x) (ofSymbols 2) (a .indices) (a .state) ⌝ }
 {
     let mut out = x;
     if mode == 2 {
@@ -46,7 +47,7 @@ fn first_gain(packet: &[u8], d: Dec, rows: &[u8], x: Indices, mode: u32, signal:
 fn more_gains(packet: &[u8], d: Dec, rows: &[u8], x: Indices, n: usize) -> IndicesPart
     requires { ⌜ Reading (now packet) d (now rows) (2 ^ 29) ⌝ }
     requires { ⌜ Subframes n ⌝ }
-    ensures { λ a. ⌜ Ran (now (packet .entry)) d (moreGains (n - 1) 1 x) 48 (a .indices) (a .state) ⌝ }
+    ensures { λ a. ⌜ Ran (now (packet .entry)) d (moreGains (n - 1) 1 x) (ofSymbols 3) (a .indices) (a .state) ⌝ }
 {
     let mut out = x;
     let mut r = d;
@@ -74,7 +75,7 @@ pub fn gains_run(
 ) -> IndicesPart
     requires { ⌜ Reading (now packet) d (now rows) (2 ^ 28) ⌝ }
     requires { ⌜ Subframes subframes × (signal < 3) ⌝ }
-    ensures { λ a. ⌜ Ran (now (packet .entry)) d (gains mode subframes signal x) 80 (a .indices) (a .state) ⌝ }
+    ensures { λ a. ⌜ Ran (now (packet .entry)) d (gains mode subframes signal x) (ofSymbols 5) (a .indices) (a .state) ⌝ }
 {
     let f = first_gain(packet, d, rows, x, mode, signal);
     more_gains(packet, f.state, rows, f.indices, subframes as usize)

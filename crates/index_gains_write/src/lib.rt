@@ -4,6 +4,7 @@ ghost use Prim.Native.Nat.{ℕ, _-_, _^_, _≤_, _<_};
 ghost use lib.IntN.{pos};
 ghost use lib.ListN.{getD};
 ghost use Rattle.entcode.specs.Flat.{out};
+ghost use Rattle.tree.specs.Inner.Growth.{ofSymbols};
 ghost use Rattle.tree.specs.Inner.Told.{Told};
 ghost use Rattle.silk.specs.Inner.Indices.{Writing, Subframes, Upto, firstMost, WritesGains};
 ghost use Rattle.silk.specs.IndexSyntax.{firstGain, moreGains, gains};
@@ -20,7 +21,7 @@ use silk::Indices;
 fn first_gain_tell(buf: &mut [u8], w: Enc, rows: &[u8], x: Indices, mode: u32, signal: u32) -> Enc
     requires { ⌜ Writing (out (now buf) w) (now rows) (2 ^ 29) ⌝ }
     requires { ⌜ (signal < 3) × Upto (firstMost mode) (getD (x .gains) 0 (pos 0)) ⌝ }
-    ensures { λ r. ⌜ Told (out (now (buf .entry)) w) x (firstGain mode signal x) 32 (out (now (buf .exit)) r) ⌝ }
+    ensures { λ r. ⌜ Told (out (now (buf .entry)) w) x (firstGain mode signal x) (ofSymbols 2) (out (now (buf .exit)) r) ⌝ }
 {
     let gain = x.gains[0] as u32;
     if mode == 2 {
@@ -36,7 +37,7 @@ fn first_gain_tell(buf: &mut [u8], w: Enc, rows: &[u8], x: Indices, mode: u32, s
 fn more_gains_tell(buf: &mut [u8], w: Enc, rows: &[u8], x: Indices, n: usize) -> Enc
     requires { ⌜ Writing (out (now buf) w) (now rows) (2 ^ 29) ⌝ }
     requires { ⌜ Subframes n × ((k : ℕ) → 1 ≤ k → k < n → Upto 40 (getD (x .gains) k (pos 0))) ⌝ }
-    ensures { λ r. ⌜ Told (out (now (buf .entry)) w) x (moreGains (n - 1) 1 x) 48 (out (now (buf .exit)) r) ⌝ }
+    ensures { λ r. ⌜ Told (out (now (buf .entry)) w) x (moreGains (n - 1) 1 x) (ofSymbols 3) (out (now (buf .exit)) r) ⌝ }
 {
     let mut q = w;
     let mut k: usize = 1;
@@ -58,7 +59,7 @@ pub fn gains_tell_run(
 ) -> Enc
     requires { ⌜ Writing (out (now buf) w) (now rows) (2 ^ 28) ⌝ }
     requires { ⌜ Subframes subframes × (signal < 3) × WritesGains mode subframes x ⌝ }
-    ensures { λ r. ⌜ Told (out (now (buf .entry)) w) x (gains mode subframes signal x) 80 (out (now (buf .exit)) r) ⌝ }
+    ensures { λ r. ⌜ Told (out (now (buf .entry)) w) x (gains mode subframes signal x) (ofSymbols 5) (out (now (buf .exit)) r) ⌝ }
 {
     let f = first_gain_tell(buf, w, rows, x, mode, signal);
     more_gains_tell(buf, f, rows, x, subframes as usize)

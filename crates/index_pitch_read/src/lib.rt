@@ -2,6 +2,7 @@
 // decode_indices.rs. The rows are lent by the caller; the record goes in and out by value.
 ghost use mathlib.Core.Path.{_≡_};
 ghost use Prim.Native.Nat.{_^_, _<_};
+ghost use Rattle.tree.specs.Inner.Growth.{ofSymbols};
 ghost use Rattle.tree.specs.Inner.Ran.{Ran};
 ghost use Rattle.silk.specs.Inner.Indices.{Reading, Rate, Subframes};
 ghost use Rattle.silk.specs.IndexSyntax.{absoluteLag, lagAfter, lag, contour, filters, period, scale, pitch};
@@ -27,7 +28,7 @@ use silk::Setting;
 fn absolute_lag(packet: &[u8], d: Dec, rows: &[u8], x: Indices, khz: u32) -> IndicesPart
     requires { ⌜ Reading (now packet) d (now rows) (2 ^ 29) ⌝ }
     requires { ⌜ Rate khz ⌝ }
-    ensures { λ a. ⌜ Ran (now (packet .entry)) d (absoluteLag khz x) 32 (a .indices) (a .state) ⌝ }
+    ensures { λ a. ⌜ Ran (now (packet .entry)) d (absoluteLag khz x) (ofSymbols 2) (a .indices) (a .state) ⌝ }
 {
     let half = khz / 2;
     let start = lag_low_start(khz);
@@ -64,7 +65,7 @@ fn lag_index(
 ) -> IndicesPart
     requires { ⌜ Reading (now packet) d (now rows) (2 ^ 28) ⌝ }
     requires { ⌜ Rate khz ⌝ }
-    ensures { λ a. ⌜ Ran (now (packet .entry)) d (lag relative khz before x) 48 (a .indices) (a .state) ⌝ }
+    ensures { λ a. ⌜ Ran (now (packet .entry)) d (lag relative khz before x) (ofSymbols 3) (a .indices) (a .state) ⌝ }
 {
     if relative {
         let a = ec_dec_icdf8_run(packet, d, &rows[DELTA_LAG..DELTA_LAG_END]);
@@ -94,7 +95,7 @@ fn contour_index(
 ) -> IndicesPart
     requires { ⌜ Reading (now packet) d (now rows) (2 ^ 29) ⌝ }
     requires { ⌜ Rate khz × Subframes subframes ⌝ }
-    ensures { λ a. ⌜ Ran (now (packet .entry)) d (contour khz subframes x) 16 (a .indices) (a .state) ⌝ }
+    ensures { λ a. ⌜ Ran (now (packet .entry)) d (contour khz subframes x) (ofSymbols 1) (a .indices) (a .state) ⌝ }
 {
     let start = contour_start(khz, subframes);
     let size = contour_size(khz, subframes);
@@ -115,7 +116,7 @@ fn contour_index(
 fn filter_indices(packet: &[u8], d: Dec, rows: &[u8], x: Indices, p: u32, n: usize) -> IndicesPart
     requires { ⌜ Reading (now packet) d (now rows) (2 ^ 29) ⌝ }
     requires { ⌜ (p < 3) × Subframes n ⌝ }
-    ensures { λ a. ⌜ Ran (now (packet .entry)) d (filters p n 0 x) 64 (a .indices) (a .state) ⌝ }
+    ensures { λ a. ⌜ Ran (now (packet .entry)) d (filters p n 0 x) (ofSymbols 4) (a .indices) (a .state) ⌝ }
 {
     let size = 8usize << p;
     let start = 463 + size;
@@ -138,7 +139,7 @@ fn filter_indices(packet: &[u8], d: Dec, rows: &[u8], x: Indices, p: u32, n: usi
 fn period_index(packet: &[u8], d: Dec, rows: &[u8], x: Indices, subframes: u32) -> IndicesPart
     requires { ⌜ Reading (now packet) d (now rows) (2 ^ 28) ⌝ }
     requires { ⌜ Subframes subframes ⌝ }
-    ensures { λ a. ⌜ Ran (now (packet .entry)) d (period subframes x) 80 (a .indices) (a .state) ⌝ }
+    ensures { λ a. ⌜ Ran (now (packet .entry)) d (period subframes x) (ofSymbols 5) (a .indices) (a .state) ⌝ }
 {
     let a = ec_dec_icdf8_run(packet, d, &rows[PERIOD..PERIOD_END]);
     let mut out = x;
@@ -149,7 +150,7 @@ fn period_index(packet: &[u8], d: Dec, rows: &[u8], x: Indices, subframes: u32) 
 // 0 but in mode 0.
 fn scale_index(packet: &[u8], d: Dec, rows: &[u8], x: Indices, mode: u32) -> IndicesPart
     requires { ⌜ Reading (now packet) d (now rows) (2 ^ 29) ⌝ }
-    ensures { λ a. ⌜ Ran (now (packet .entry)) d (scale mode x) 16 (a .indices) (a .state) ⌝ }
+    ensures { λ a. ⌜ Ran (now (packet .entry)) d (scale mode x) (ofSymbols 1) (a .indices) (a .state) ⌝ }
 {
     let mut out = x;
     if mode == 0 {
@@ -173,7 +174,7 @@ fn scale_index(packet: &[u8], d: Dec, rows: &[u8], x: Indices, mode: u32) -> Ind
 pub fn pitch_run(packet: &[u8], d: Dec, rows: &[u8], x: Indices, s: Setting) -> IndicesPart
     requires { ⌜ Reading (now packet) d (now rows) (2 ^ 27) ⌝ }
     requires { ⌜ Rate (s .khz) × Subframes (s .subframes) ⌝ }
-    ensures { λ a. ⌜ Ran (now (packet .entry)) d (pitch s x) 160 (a .indices) (a .state) ⌝ }
+    ensures { λ a. ⌜ Ran (now (packet .entry)) d (pitch s x) (ofSymbols 10) (a .indices) (a .state) ⌝ }
 {
     let relative = (s.mode == 2) & (s.prevtype == 2);
     let l = lag_index(packet, d, rows, x, relative, s.khz, s.prevlag);

@@ -4,6 +4,7 @@ ghost use Prim.Native.Nat.{ℕ, _-_, _*_, _^_, _<_};
 ghost use lib.IntN.{ℤ, pos, natAbs};
 ghost use lib.ListN.{getD};
 ghost use Rattle.entcode.specs.Flat.{out};
+ghost use Rattle.tree.specs.Inner.Growth.{ofSymbols};
 ghost use Rattle.tree.specs.Inner.Told.{Told, Midway};
 ghost use Rattle.silk.specs.Inner.Indices.{Writing, Rate, Subframes, contourSize, Upto, WritesPitch};
 ghost use Rattle.silk.specs.IndexSyntax.{absoluteLag, lag, contour, filters, period, scale, pitch};
@@ -29,7 +30,7 @@ use silk::Setting;
 fn absolute_lag_tell(buf: &mut [u8], w: Enc, rows: &[u8], x: Indices, khz: u32) -> Enc
     requires { ⌜ Writing (out (now buf) w) (now rows) (2 ^ 29) ⌝ }
     requires { ⌜ Rate khz × Upto (16 * khz - 1) (x .lag) ⌝ }
-    ensures { λ r. ⌜ Told (out (now (buf .entry)) w) x (absoluteLag khz x) 32 (out (now (buf .exit)) r) ⌝ }
+    ensures { λ r. ⌜ Told (out (now (buf .entry)) w) x (absoluteLag khz x) (ofSymbols 2) (out (now (buf .exit)) r) ⌝ }
 {
     let half = khz / 2;
     let start = lag_low_start(khz);
@@ -44,7 +45,7 @@ fn delta_tell(buf: &mut [u8], w: Enc, rows: &[u8], relative: bool) -> Enc
     requires { ⌜ Writing (out (now buf) w) (now rows) (2 ^ 28) ⌝ }
     ensures { λ r.
         ⌜ ((khz : ℕ) (before : ℤ) (x : Indices) →
-        Midway (out (now (buf .entry)) w) x (lag relative khz before x) 16 (out (now (buf .exit)) r) x (absoluteLag khz x)) ⌝ }
+        Midway (out (now (buf .entry)) w) x (lag relative khz before x) (ofSymbols 1) (out (now (buf .exit)) r) x (absoluteLag khz x)) ⌝ }
 {
     if relative {
         return ec_enc_icdf8_run(buf, w, 0, &rows[DELTA_LAG..DELTA_LAG_END]);
@@ -56,7 +57,8 @@ fn delta_tell(buf: &mut [u8], w: Enc, rows: &[u8], relative: bool) -> Enc
 fn lag_tell(buf: &mut [u8], w: Enc, rows: &[u8], x: Indices, relative: bool, khz: u32) -> Enc
     requires { ⌜ Writing (out (now buf) w) (now rows) (2 ^ 28) ⌝ }
     requires { ⌜ Rate khz × Upto (16 * khz - 1) (x .lag) ⌝ }
-    ensures { λ r. ⌜ ((before : ℤ) → Told (out (now (buf .entry)) w) x (lag relative khz before x) 48 (out (now (buf .exit)) r)) ⌝ }
+    ensures { λ r.
+        ⌜ ((before : ℤ) → Told (out (now (buf .entry)) w) x (lag relative khz before x) (ofSymbols 3) (out (now (buf .exit)) r)) ⌝ }
 {
     let q = delta_tell(buf, w, rows, relative);
     absolute_lag_tell(buf, q, rows, x, khz)
@@ -67,7 +69,7 @@ fn lag_tell(buf: &mut [u8], w: Enc, rows: &[u8], x: Indices, relative: bool, khz
 fn contour_tell(buf: &mut [u8], w: Enc, rows: &[u8], x: Indices, khz: u32, subframes: u32) -> Enc
     requires { ⌜ Writing (out (now buf) w) (now rows) (2 ^ 29) ⌝ }
     requires { ⌜ Rate khz × Subframes subframes × Upto (contourSize khz subframes - 1) (x .contour) ⌝ }
-    ensures { λ r. ⌜ Told (out (now (buf .entry)) w) x (contour khz subframes x) 16 (out (now (buf .exit)) r) ⌝ }
+    ensures { λ r. ⌜ Told (out (now (buf .entry)) w) x (contour khz subframes x) (ofSymbols 1) (out (now (buf .exit)) r) ⌝ }
 {
     let start = contour_start(khz, subframes);
     let size = contour_size(khz, subframes);
@@ -81,7 +83,7 @@ fn contour_tell(buf: &mut [u8], w: Enc, rows: &[u8], x: Indices, khz: u32, subfr
 fn filters_tell(buf: &mut [u8], w: Enc, rows: &[u8], x: Indices, p: u32, n: usize) -> Enc
     requires { ⌜ Writing (out (now buf) w) (now rows) (2 ^ 29) ⌝ }
     requires { ⌜ (p < 3) × Subframes n × ((k : ℕ) → k < n → Upto (8 * 2 ^ p - 1) (getD (x .ltp) k (pos 0))) ⌝ }
-    ensures { λ r. ⌜ Told (out (now (buf .entry)) w) x (filters p n 0 x) 64 (out (now (buf .exit)) r) ⌝ }
+    ensures { λ r. ⌜ Told (out (now (buf .entry)) w) x (filters p n 0 x) (ofSymbols 4) (out (now (buf .exit)) r) ⌝ }
 {
     let size = 8usize << p;
     let start = 463 + size;
@@ -99,7 +101,7 @@ fn period_tell(buf: &mut [u8], w: Enc, rows: &[u8], x: Indices, subframes: u32) 
     requires { ⌜ Writing (out (now buf) w) (now rows) (2 ^ 28) ⌝ }
     requires { ⌜ Subframes subframes × Upto 2 (x .period) ⌝ }
     requires { ⌜ ((k : ℕ) → k < subframes → Upto (8 * 2 ^ natAbs (x .period) - 1) (getD (x .ltp) k (pos 0))) ⌝ }
-    ensures { λ r. ⌜ Told (out (now (buf .entry)) w) x (period subframes x) 80 (out (now (buf .exit)) r) ⌝ }
+    ensures { λ r. ⌜ Told (out (now (buf .entry)) w) x (period subframes x) (ofSymbols 5) (out (now (buf .exit)) r) ⌝ }
 {
     let p = x.period as u32;
     let q = ec_enc_icdf8_run(buf, w, p, &rows[PERIOD..PERIOD_END]);
@@ -110,7 +112,7 @@ fn period_tell(buf: &mut [u8], w: Enc, rows: &[u8], x: Indices, subframes: u32) 
 fn scale_tell(buf: &mut [u8], w: Enc, rows: &[u8], x: Indices, mode: u32) -> Enc
     requires { ⌜ Writing (out (now buf) w) (now rows) (2 ^ 29) ⌝ }
     requires { ⌜ Upto 2 (x .scale) ⌝ }
-    ensures { λ r. ⌜ Told (out (now (buf .entry)) w) x (scale mode x) 16 (out (now (buf .exit)) r) ⌝ }
+    ensures { λ r. ⌜ Told (out (now (buf .entry)) w) x (scale mode x) (ofSymbols 1) (out (now (buf .exit)) r) ⌝ }
 {
     if mode == 0 {
         return ec_enc_icdf8_run(buf, w, x.scale as u32, &rows[SCALE..SCALE_END]);
@@ -124,7 +126,7 @@ fn scale_tell(buf: &mut [u8], w: Enc, rows: &[u8], x: Indices, mode: u32) -> Enc
 pub fn pitch_tell_run(buf: &mut [u8], w: Enc, rows: &[u8], x: Indices, s: Setting) -> Enc
     requires { ⌜ Writing (out (now buf) w) (now rows) (2 ^ 27) ⌝ }
     requires { ⌜ Rate (s .khz) × Subframes (s .subframes) × WritesPitch s x ⌝ }
-    ensures { λ r. ⌜ Told (out (now (buf .entry)) w) x (pitch s x) 160 (out (now (buf .exit)) r) ⌝ }
+    ensures { λ r. ⌜ Told (out (now (buf .entry)) w) x (pitch s x) (ofSymbols 10) (out (now (buf .exit)) r) ⌝ }
 {
     let relative = (s.mode == 2) & (s.prevtype == 2);
     let l = lag_tell(buf, w, rows, x, relative, s.khz);

@@ -1,6 +1,7 @@
 // Type, interpolation and seed of a frame read, a symbol each (RFC 6716, sections 4.2.7.3, 4.2.7.5.5 and 4.2.7.7), as
 // in the crate's decode_indices.rs. The rows are lent by the caller; the record goes in and out by value.
 ghost use Prim.Native.Nat.{_^_, _<_};
+ghost use Rattle.tree.specs.Inner.Growth.{ofSymbols};
 ghost use Rattle.tree.specs.Inner.Ran.{Ran};
 ghost use Rattle.silk.specs.Inner.Indices.{Reading};
 ghost use Rattle.silk.specs.IndexSyntax.{kind, interpolation, seed};
@@ -18,7 +19,7 @@ use silk::IndicesPart;
 pub fn kind_run(packet: &[u8], d: Dec, rows: &[u8], active: u32) -> Decoded
     requires { ⌜ Reading (now packet) d (now rows) (2 ^ 29) ⌝ }
     requires { ⌜ active < 2 ⌝ }
-    ensures { λ a. ⌜ Ran (now (packet .entry)) d (kind active) 16 (a .value) (a .state) ⌝ }
+    ensures { λ a. ⌜ Ran (now (packet .entry)) d (kind active) (ofSymbols 1) (a .value) (a .state) ⌝ }
     ensures { λ a. ⌜ a .value < 6 ⌝ }
 {
     let base = active * 2;
@@ -43,7 +44,7 @@ pub fn interpolation_run(
     subframes: u32,
 ) -> IndicesPart
     requires { ⌜ Reading (now packet) d (now rows) (2 ^ 29) ⌝ }
-    ensures { λ a. ⌜ Ran (now (packet .entry)) d (interpolation subframes x) 16 (a .indices) (a .state) ⌝ }
+    ensures { λ a. ⌜ Ran (now (packet .entry)) d (interpolation subframes x) (ofSymbols 1) (a .indices) (a .state) ⌝ }
 {
     let mut out = x;
     if subframes == 4 {
@@ -64,7 +65,7 @@ pub fn interpolation_run(
 
 pub fn seed_run(packet: &[u8], d: Dec, rows: &[u8], x: Indices) -> IndicesPart
     requires { ⌜ Reading (now packet) d (now rows) (2 ^ 29) ⌝ }
-    ensures { λ a. ⌜ Ran (now (packet .entry)) d (seed x) 16 (a .indices) (a .state) ⌝ }
+    ensures { λ a. ⌜ Ran (now (packet .entry)) d (seed x) (ofSymbols 1) (a .indices) (a .state) ⌝ }
 {
     let a = ec_dec_icdf8_run(packet, d, &rows[SEED..SEED_END]);
     let mut out = x;

@@ -3,6 +3,7 @@
 // lent by the caller.
 ghost use Prim.Native.Nat.{_^_, _<_};
 ghost use Rattle.entcode.specs.Flat.{out};
+ghost use Rattle.tree.specs.Inner.Growth.{ofSymbols};
 ghost use Rattle.tree.specs.Inner.Told.{Told};
 ghost use Rattle.silk.specs.Inner.Indices.{Writing, Upto, Kind};
 ghost use Rattle.silk.specs.IndexSyntax.{kindOf, kind, interpolation, seed};
@@ -19,7 +20,7 @@ pub fn kind_tell_run(buf: &mut [u8], w: Enc, rows: &[u8], x: Indices, active: u3
     requires { ⌜ Writing (out (now buf) w) (now rows) (2 ^ 29) ⌝ }
     requires { ⌜ (active < 2) × Kind active (kindOf x) ⌝ }
     requires { ⌜ Upto 2 (x .signal) × Upto 1 (x .offset) ⌝ }
-    ensures { λ r. ⌜ Told (out (now (buf .entry)) w) x (kind active) 16 (out (now (buf .exit)) r) ⌝ }
+    ensures { λ r. ⌜ Told (out (now (buf .entry)) w) x (kind active) (ofSymbols 1) (out (now (buf .exit)) r) ⌝ }
 {
     let base = active * 2;
     let start = base as usize;
@@ -38,7 +39,7 @@ pub fn interpolation_tell_run(
 ) -> Enc
     requires { ⌜ Writing (out (now buf) w) (now rows) (2 ^ 29) ⌝ }
     requires { ⌜ Upto 4 (x .interp) ⌝ }
-    ensures { λ r. ⌜ Told (out (now (buf .entry)) w) x (interpolation subframes x) 16 (out (now (buf .exit)) r) ⌝ }
+    ensures { λ r. ⌜ Told (out (now (buf .entry)) w) x (interpolation subframes x) (ofSymbols 1) (out (now (buf .exit)) r) ⌝ }
 {
     if subframes == 4 {
         return ec_enc_icdf8_run(
@@ -54,7 +55,7 @@ pub fn interpolation_tell_run(
 pub fn seed_tell_run(buf: &mut [u8], w: Enc, rows: &[u8], x: Indices) -> Enc
     requires { ⌜ Writing (out (now buf) w) (now rows) (2 ^ 29) ⌝ }
     requires { ⌜ Upto 3 (x .seed) ⌝ }
-    ensures { λ r. ⌜ Told (out (now (buf .entry)) w) x (seed x) 16 (out (now (buf .exit)) r) ⌝ }
+    ensures { λ r. ⌜ Told (out (now (buf .entry)) w) x (seed x) (ofSymbols 1) (out (now (buf .exit)) r) ⌝ }
 {
     ec_enc_icdf8_run(buf, w, x.seed as u32, &rows[SEED..SEED_END])
 }

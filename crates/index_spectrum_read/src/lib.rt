@@ -5,6 +5,7 @@ ghost use Prim.Native.Nat.{_+_, _*_, _^_, _≤_, _<_};
 ghost use lib.IntN.{pos, negsuc, _-ℤ_};
 ghost use lib.ListN.{length};
 ghost use Rattle.sheet.specs.Directory.{rowOf};
+ghost use Rattle.tree.specs.Inner.Growth.{ofSymbols};
 ghost use Rattle.tree.specs.Inner.Ran.{Ran};
 ghost use Rattle.silk.specs.Inner.Indices.{Reading, Rate};
 ghost use Rattle.silk.specs.IndexSyntax.{residual, residuals, spectrum};
@@ -56,7 +57,7 @@ fn centred(v: u32) -> i8
 fn residual_index(packet: &[u8], d: Dec, rows: &[u8], k: usize) -> ResidualRead
     requires { ⌜ Reading (now packet) d (now rows) (2 ^ 29) ⌝ }
     requires { ⌜ k < 16 ⌝ }
-    ensures { λ a. ⌜ Ran (now (packet .entry)) d (residual (rowOf (12 + k))) 32 (a .value) (a .state) ⌝ }
+    ensures { λ a. ⌜ Ran (now (packet .entry)) d (residual (rowOf (12 + k))) (ofSymbols 2) (a .value) (a .state) ⌝ }
 {
     let start = RESIDUAL + k * 9;
     let end = start + 9;
@@ -92,7 +93,7 @@ fn residual_indices(
 ) -> IndicesPart
     requires { ⌜ Reading (now packet) d (now rows) (2 ^ 28) ⌝ }
     requires { ⌜ Rate khz × (n ≤ 2 * length (now selectors)) × (n ≤ 16) ⌝ }
-    ensures { λ a. ⌜ Ran (now (packet .entry)) d (residuals khz (now (selectors .entry)) n 0 x) 512 (a .indices) (a .state) ⌝ }
+    ensures { λ a. ⌜ Ran (now (packet .entry)) d (residuals khz (now (selectors .entry)) n 0 x) (ofSymbols 32) (a .indices) (a .state) ⌝ }
 {
     let base = (khz / 16 * 8) as usize;
     let mut out = x;
@@ -122,7 +123,7 @@ pub fn spectrum_run(
 ) -> IndicesPart
     requires { ⌜ Reading (now packet) d (now rows) (2 ^ 27) ⌝ }
     requires { ⌜ Rate khz × (signal < 3) ⌝ }
-    ensures { λ a. ⌜ Ran (now (packet .entry)) d (spectrum khz signal x) 528 (a .indices) (a .state) ⌝ }
+    ensures { λ a. ⌜ Ran (now (packet .entry)) d (spectrum khz signal x) (ofSymbols 33) (a .indices) (a .state) ⌝ }
 {
     let k = (khz / 16 * 2 + signal / 2) as usize;
     let start = FIRST_INDEX + k * 32;

@@ -8,6 +8,7 @@ ghost use lib.ListN.{length, getD};
 ghost use lib.Signed.{leZ};
 ghost use Rattle.sheet.specs.Directory.{rowOf};
 ghost use Rattle.entcode.specs.Flat.{out};
+ghost use Rattle.tree.specs.Inner.Growth.{ofSymbols};
 ghost use Rattle.tree.specs.Inner.Told.{Told};
 ghost use Rattle.silk.specs.Inner.Indices.{Writing, Rate, WritesSpectrum};
 ghost use Rattle.silk.specs.IndexSyntax.{extensionSaid, residual, residuals, spectrum};
@@ -48,7 +49,7 @@ fn centred_said(z: i8) -> u32
 fn residual_tell(buf: &mut [u8], w: Enc, rows: &[u8], z: i8, k: usize) -> Enc
     requires { ⌜ Writing (out (now buf) w) (now rows) (2 ^ 29) ⌝ }
     requires { ⌜ (k < 16) × (natAbs z ≤ 10) ⌝ }
-    ensures { λ r. ⌜ Told (out (now (buf .entry)) w) z (residual (rowOf (12 + k))) 32 (out (now (buf .exit)) r) ⌝ }
+    ensures { λ r. ⌜ Told (out (now (buf .entry)) w) z (residual (rowOf (12 + k))) (ofSymbols 2) (out (now (buf .exit)) r) ⌝ }
 {
     let start = RESIDUAL + k * 9;
     let end = start + 9;
@@ -78,7 +79,8 @@ fn residuals_tell(
     requires { ⌜ Writing (out (now buf) w) (now rows) (2 ^ 28) ⌝ }
     requires { ⌜ Rate khz × (n ≤ 2 * length (now selectors)) × (n ≤ 16) ⌝ }
     requires { ⌜ ((k : ℕ) → 1 ≤ k → k ≤ n → natAbs (getD (x .nlsf) k (pos 0)) ≤ 10) ⌝ }
-    ensures { λ r. ⌜ Told (out (now (buf .entry)) w) x (residuals khz (now (selectors .entry)) n 0 x) 512 (out (now (buf .exit)) r) ⌝ }
+    ensures { λ r.
+        ⌜ Told (out (now (buf .entry)) w) x (residuals khz (now (selectors .entry)) n 0 x) (ofSymbols 32) (out (now (buf .exit)) r) ⌝ }
 {
     let base = (khz / 16 * 8) as usize;
     let mut q = w;
@@ -101,7 +103,7 @@ pub fn spectrum_tell_run(
 ) -> Enc
     requires { ⌜ Writing (out (now buf) w) (now rows) (2 ^ 27) ⌝ }
     requires { ⌜ Rate khz × (signal < 3) × WritesSpectrum khz x ⌝ }
-    ensures { λ r. ⌜ Told (out (now (buf .entry)) w) x (spectrum khz signal x) 528 (out (now (buf .exit)) r) ⌝ }
+    ensures { λ r. ⌜ Told (out (now (buf .entry)) w) x (spectrum khz signal x) (ofSymbols 33) (out (now (buf .exit)) r) ⌝ }
 {
     let k = (khz / 16 * 2 + signal / 2) as usize;
     let start = FIRST_INDEX + k * 32;

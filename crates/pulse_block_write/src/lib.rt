@@ -8,6 +8,7 @@ ghost use lib.IntN.{pos, natAbs};
 ghost use lib.ListN.{length};
 ghost use Rattle.entcode.specs.Flat.{out};
 ghost use Rattle.entcode.specs.Inner.Writing.{Core};
+ghost use Rattle.tree.specs.Inner.Growth.{ofSymbols};
 ghost use Rattle.tree.specs.Inner.Told.{Told};
 ghost use Rattle.silk.specs.PulseSyntax.{each, total, shell, signRowOf, sign};
 ghost use Rattle.silk.specs.Inner.Pulses.{PulseRows};
@@ -21,7 +22,8 @@ pub fn block_splits_run(buf: &mut [u8], w: Enc, rows: &[u8], part: &[i16], c: u3
     requires { ⌜ w .total ≤ 2 ^ 27 ⌝ }
     requires { ⌜ PulseRows (now rows) ⌝ }
     requires { ⌜ (length (now part) ≡ 16) × (c ≤ 16) × (j ≤ 10) × (total (shiftedBy j (now part)) ≡ c) ⌝ }
-    ensures { λ r. ⌜ Told (out (now (buf .entry)) w) (shiftedBy j (now (part .entry))) (shell 4 c) 240 (out (now (buf .exit)) r) ⌝ }
+    ensures { λ r.
+        ⌜ Told (out (now (buf .entry)) w) (shiftedBy j (now (part .entry))) (shell 4 c) (ofSymbols 15) (out (now (buf .exit)) r) ⌝ }
 {
     let mut places = [0u8; 16];
     pulse_shifts::shrink_run(&mut places, part, j);
@@ -51,7 +53,8 @@ pub fn block_signs_run(
     requires { ⌜ (length (now part) ≡ 16) × (total (shiftedBy j (now part)) ≡ c) × (f .signal ≤ 2) × (f .offset ≤ 1) ⌝ }
     ensures { λ r.
         ⌜ Told (out (now (buf .entry)) w) (now (part .entry))
-        (each (pos 0) (sign (signRowOf (f .signal) (f .offset) c)) (map natAbs (now (part .entry)))) 256 (out (now (buf .exit)) r) ⌝ }
+        (each (pos 0) (sign (signRowOf (f .signal) (f .offset) c)) (map natAbs (now (part .entry))))
+        (ofSymbols 16) (out (now (buf .exit)) r) ⌝ }
 {
     if some_pulses(c, j) {
         let row = pulse_row_places::sign_row_at_run(f.signal, f.offset, c);

@@ -4,6 +4,7 @@ ghost use mathlib.Core.Path.{_≡_};
 ghost use Prim.Native.Nat.{_^_, _<_, _≤_};
 ghost use Rattle.lists.specs.AtMost.{AtMost};
 ghost use Rattle.entcode.specs.Inner.Reading.{Core};
+ghost use Rattle.tree.specs.Inner.Growth.{ofSymbols};
 ghost use Rattle.tree.specs.Inner.Ran.{Ran};
 ghost use Rattle.silk.specs.PulseSyntax.{count, counts};
 ghost use Rattle.silk.specs.Inner.Pulses.{PulseRows, blocksFrom};
@@ -29,7 +30,8 @@ fn count_run(packet: &[u8], from: Dec, rows: &[u8], level: usize) -> BlockRead
     requires { ⌜ from .total ≤ 2 ^ 29 ⌝ }
     requires { ⌜ PulseRows (now rows) ⌝ }
     requires { ⌜ level < 9 ⌝ }
-    ensures { λ a. ⌜ Ran (now (packet .entry)) from (count level) 176 (record { count = a .count; lows = a .lows }) (a .state) ⌝ }
+    ensures { λ a.
+        ⌜ Ran (now (packet .entry)) from (count level) (ofSymbols 11) (record { count = a .count; lows = a .lows }) (a .state) ⌝ }
     ensures { λ a. ⌜ (a .count ≤ 16) × (a .lows ≤ 10) ⌝ }
 {
     let start = 18 + level * 18;
@@ -58,7 +60,7 @@ pub fn counts_run(packet: &[u8], from: Dec, rows: &[u8], level: usize, n: usize)
     requires { ⌜ from .total ≤ 2 ^ 28 ⌝ }
     requires { ⌜ PulseRows (now rows) ⌝ }
     requires { ⌜ (level < 9) × (n ≤ 20) ⌝ }
-    ensures { λ a. ⌜ Ran (now (packet .entry)) from (counts level n) 3520 (blocksFrom (a .counts) (a .lows) 0 n) (a .state) ⌝ }
+    ensures { λ a. ⌜ Ran (now (packet .entry)) from (counts level n) (ofSymbols 220) (blocksFrom (a .counts) (a .lows) 0 n) (a .state) ⌝ }
     ensures { λ a. ⌜ AtMost 16 (a .counts) × AtMost 10 (a .lows) ⌝ }
 {
     let mut counts = [0u8; 20];

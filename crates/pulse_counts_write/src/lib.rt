@@ -5,6 +5,7 @@ ghost use Prim.Native.Nat.{_^_, _<_, _≤_};
 ghost use Rattle.lists.specs.AtMost.{AtMost};
 ghost use Rattle.entcode.specs.Flat.{out};
 ghost use Rattle.entcode.specs.Inner.Writing.{Core};
+ghost use Rattle.tree.specs.Inner.Growth.{ofSymbols};
 ghost use Rattle.tree.specs.Inner.Told.{Told};
 ghost use Rattle.silk.specs.PulseSyntax.{countSaid, lowCounts, counts};
 ghost use Rattle.silk.specs.Inner.Pulses.{PulseRows, blocksFrom};
@@ -25,7 +26,7 @@ fn later_tell(buf: &mut [u8], from: Enc, rows: &[u8], sum: u32, lows: u32) -> En
     requires { ⌜ (sum ≤ 16) × (lows ≤ 10) ⌝ }
     ensures { λ r.
         ⌜ Told (out (now (buf .entry)) from) (record { count = sum; lows = lows })
-        (lowCounts 10 0 (countSaid 0 (record { count = sum; lows = lows }))) 160 (out (now (buf .exit)) r) ⌝ }
+        (lowCounts 10 0 (countSaid 0 (record { count = sum; lows = lows }))) (ofSymbols 10) (out (now (buf .exit)) r) ⌝ }
 {
     let mut w = from;
     let mut j: u32 = 0;
@@ -53,7 +54,8 @@ pub fn counts_tell_run(
     requires { ⌜ PulseRows (now rows) ⌝ }
     requires { ⌜ (level < 9) × (n ≤ 20) ⌝ }
     requires { ⌜ AtMost 16 sums × AtMost 10 lows ⌝ }
-    ensures { λ r. ⌜ Told (out (now (buf .entry)) from) (blocksFrom sums lows 0 n) (counts level n) 3520 (out (now (buf .exit)) r) ⌝ }
+    ensures { λ r.
+        ⌜ Told (out (now (buf .entry)) from) (blocksFrom sums lows 0 n) (counts level n) (ofSymbols 220) (out (now (buf .exit)) r) ⌝ }
 {
     let start = 18 + level * 18;
     let end = start + 18;

@@ -6,6 +6,7 @@ ghost use lib.ListN.{length};
 ghost use Rattle.lists.specs.AtMost.{AtMost};
 ghost use Rattle.sheet.specs.Directory.{lowBitRow};
 ghost use Rattle.entcode.specs.Inner.Reading.{Core};
+ghost use Rattle.tree.specs.Inner.Growth.{ofSymbols};
 ghost use Rattle.tree.specs.Inner.Ran.{Ran};
 ghost use Rattle.silk.specs.PulseSyntax.{each, lowBits};
 ghost use Rattle.silk.specs.Inner.Pulses.{Placed, mags, Natural};
@@ -18,7 +19,7 @@ fn low_bits(packet: &[u8], from: Dec, row: &[u8], m: u32, n: u32) -> Decoded
     requires { ⌜ from .total ≤ 2 ^ 29 ⌝ }
     requires { ⌜ now row ≡ lowBitRow ⌝ }
     requires { ⌜ (m ≤ 16) × (n ≤ 10) ⌝ }
-    ensures { λ a. ⌜ Ran (now (packet .entry)) from (lowBits n m) 160 (a .value) (a .state) ⌝ }
+    ensures { λ a. ⌜ Ran (now (packet .entry)) from (lowBits n m) (ofSymbols 10) (a .value) (a .state) ⌝ }
     ensures { λ a. ⌜ a .value ≤ 17407 ⌝ }
 {
     let mut v = m;

@@ -8,6 +8,7 @@ ghost use lib.ListN.{length};
 ghost use Rattle.sheet.specs.Directory.{lowBitRow};
 ghost use Rattle.entcode.specs.Flat.{out};
 ghost use Rattle.entcode.specs.Inner.Writing.{Core};
+ghost use Rattle.tree.specs.Inner.Growth.{ofSymbols};
 ghost use Rattle.tree.specs.Inner.Told.{Told};
 ghost use Rattle.silk.specs.PulseSyntax.{each, lowBits};
 ghost use Rattle.silk.specs.PulseWriting.{shiftedBy};
@@ -19,7 +20,7 @@ fn low_bits_tell(buf: &mut [u8], from: Enc, row: &[u8], m: u32, n: u32) -> Enc
     requires { ⌜ Core (out (now buf) from) ⌝ }
     requires { ⌜ from .total ≤ 2 ^ 29 ⌝ }
     requires { ⌜ (now row ≡ lowBitRow) × (n ≤ 10) ⌝ }
-    ensures { λ r. ⌜ Told (out (now (buf .entry)) from) m (lowBits n (m / 2 ^ n)) 160 (out (now (buf .exit)) r) ⌝ }
+    ensures { λ r. ⌜ Told (out (now (buf .entry)) from) m (lowBits n (m / 2 ^ n)) (ofSymbols 10) (out (now (buf .exit)) r) ⌝ }
 {
     let mut w = from;
     let mut k = n;
@@ -39,7 +40,7 @@ fn all_lows_tell(buf: &mut [u8], from: Enc, row: &[u8], pulses: &[i16], n: u32) 
     requires { ⌜ length (now pulses) ≡ 16 ⌝ }
     ensures { λ r.
         ⌜ Told (out (now (buf .entry)) from) (map natAbs (now (pulses .entry)))
-        (each 0 (lowBits n) (shiftedBy n (now (pulses .entry)))) 2560 (out (now (buf .exit)) r) ⌝ }
+        (each 0 (lowBits n) (shiftedBy n (now (pulses .entry)))) (ofSymbols 160) (out (now (buf .exit)) r) ⌝ }
 {
     let mut w = from;
     let mut k: usize = 0;
@@ -60,7 +61,7 @@ pub fn block_lows_tell_run(buf: &mut [u8], w: Enc, row: &[u8], pulses: &[i16], n
     requires { ⌜ length (now pulses) ≡ 16 ⌝ }
     ensures { λ r.
         ⌜ Told (out (now (buf .entry)) w) (map natAbs (now (pulses .entry)))
-        (each 0 (lowBits n) (shiftedBy n (now (pulses .entry)))) 2560 (out (now (buf .exit)) r) ⌝ }
+        (each 0 (lowBits n) (shiftedBy n (now (pulses .entry)))) (ofSymbols 160) (out (now (buf .exit)) r) ⌝ }
 {
     if n == 0 {
         return w;

@@ -7,6 +7,7 @@ ghost use lib.Dec.{eqb};
 ghost use lib.IntN.{pos};
 ghost use lib.ListN.{length, replicate};
 ghost use Rattle.entcode.specs.Inner.Reading.{Core};
+ghost use Rattle.tree.specs.Inner.Growth.{ofSymbols};
 ghost use Rattle.tree.specs.Inner.Ran.{Ran};
 ghost use Rattle.silk.specs.PulseSyntax.{split, shell};
 ghost use Rattle.silk.specs.Inner.Pulses.{PulseRows, Placed};
@@ -19,7 +20,7 @@ fn decode_split(packet: &[u8], d: Dec, rows: &[u8], table: usize, p: u32) -> Dec
     requires { ⌜ d .total ≤ 2 ^ 30 ⌝ }
     requires { ⌜ PulseRows (now rows) ⌝ }
     requires { ⌜ (table < 4) × (p ≤ 16) ⌝ }
-    ensures { λ a. ⌜ Ran (now (packet .entry)) d (split table p) 16 (a .value) (a .state) ⌝ }
+    ensures { λ a. ⌜ Ran (now (packet .entry)) d (split table p) (ofSymbols 1) (a .value) (a .state) ⌝ }
     ensures { λ a. ⌜ a .value ≤ p ⌝ }
 {
     if p == 0 {

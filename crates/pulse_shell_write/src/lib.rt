@@ -8,6 +8,7 @@ ghost use lib.Dec.{eqb};
 ghost use lib.ListN.{length};
 ghost use Rattle.entcode.specs.Flat.{out};
 ghost use Rattle.entcode.specs.Inner.Writing.{Core};
+ghost use Rattle.tree.specs.Inner.Growth.{ofSymbols};
 ghost use Rattle.tree.specs.Inner.Told.{Told};
 ghost use Rattle.silk.specs.PulseSyntax.{total, shell};
 ghost use Rattle.silk.specs.Inner.Pulses.{PulseRows};
@@ -98,7 +99,7 @@ pub fn silk_shell_encoder_run(buf: &mut [u8], w: Enc, rows: &[u8], places: &[u8]
     requires { ⌜ w .total ≤ 2 ^ 27 ⌝ }
     requires { ⌜ PulseRows (now rows) ⌝ }
     requires { ⌜ (p ≤ 16) × (length (now places) ≡ 16) × (total (now places) ≡ p) ⌝ }
-    ensures { λ r. ⌜ Told (out (now (buf .entry)) w) (now (places .entry)) (shell 4 p) 240 (out (now (buf .exit)) r) ⌝ }
+    ensures { λ r. ⌜ Told (out (now (buf .entry)) w) (now (places .entry)) (shell 4 p) (ofSymbols 15) (out (now (buf .exit)) r) ⌝ }
 {
     let mut starts = [0usize; 15];
     let mut alls = [0u8; 15];

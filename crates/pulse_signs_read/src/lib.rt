@@ -7,6 +7,7 @@ ghost use lib.IntN.{pos, natAbs};
 ghost use lib.ListN.{length, replicate};
 ghost use Rattle.icdf.specs.Rule.{Icdf};
 ghost use Rattle.entcode.specs.Inner.Reading.{Core};
+ghost use Rattle.tree.specs.Inner.Growth.{ofSymbols};
 ghost use Rattle.tree.specs.Inner.Ran.{Ran};
 ghost use Rattle.silk.specs.PulseSyntax.{each, sign};
 ghost use Rattle.silk.specs.Inner.Pulses.{mags, Natural};
@@ -25,7 +26,7 @@ fn decode_sign(packet: &[u8], d: Dec, row: &[u8], m: i16) -> SignRead
     requires { ⌜ d .total ≤ 2 ^ 30 ⌝ }
     requires { ⌜ Icdf 8 (now row) ⌝ }
     requires { ⌜ (m ≡ pos (natAbs m)) × (1 ≤ natAbs m) ⌝ }
-    ensures { λ a. ⌜ Ran (now (packet .entry)) d (sign (now (row .entry)) (natAbs m)) 16 (a .pulse) (a .state) ⌝ }
+    ensures { λ a. ⌜ Ran (now (packet .entry)) d (sign (now (row .entry)) (natAbs m)) (ofSymbols 1) (a .pulse) (a .state) ⌝ }
 {
     let a = entdec_run::ec_dec_icdf8_run(packet, d, row);
     let state = a.state;

@@ -10,6 +10,7 @@ ghost use lib.Signed.{ltZ};
 ghost use Rattle.icdf.specs.Rule.{Icdf, Writable};
 ghost use Rattle.entcode.specs.Flat.{out};
 ghost use Rattle.entcode.specs.Inner.Writing.{Core};
+ghost use Rattle.tree.specs.Inner.Growth.{ofSymbols};
 ghost use Rattle.tree.specs.Inner.Told.{Told};
 ghost use Rattle.silk.specs.PulseSyntax.{each, sign};
 ghost use Rattle.pulse_signs_write.specs.Inner.{signOf, signsSaid};
@@ -56,7 +57,7 @@ pub fn silk_encode_signs_run(buf: &mut [u8], from: Enc, row: &[u8], pulses: &[i1
     requires { ⌜ length (now pulses) ≡ 16 ⌝ }
     ensures { λ r.
         ⌜ Told (out (now (buf .entry)) from) (now (pulses .entry))
-        (each (pos 0) (sign (now (row .entry))) (map natAbs (now (pulses .entry)))) 256 (out (now (buf .exit)) r) ⌝ }
+        (each (pos 0) (sign (now (row .entry))) (map natAbs (now (pulses .entry)))) (ofSymbols 16) (out (now (buf .exit)) r) ⌝ }
 {
     let mut symbols = [0u8; 16];
     let count = signs_said(&mut symbols, pulses);

@@ -8,6 +8,7 @@ use lib.ListN.{length, getD}
 use Rattle.sheet.specs.Rows.{pulseRows}
 use Rattle.entcode.specs.declared.Dec.{Dec}
 use Rattle.tree.specs.Asks.{Asks}
+use Rattle.tree.specs.Inner.Growth.{ofSymbols}
 use Rattle.tree.specs.Inner.Ran.{Ran}
 use Rattle.silk.specs.PulseSyntax.{Block, count, each, shell, blockLows, blockSigns, rows16, total, shifted}
 use Rattle.lists.specs.AtMost.{AtMost}
@@ -84,14 +85,14 @@ pub record Held (P : List ℕ → Type 0) (n : ℕ) (s : List ℤ) : Type 0 wher
 
 -- splits, low bits, signs
 abbrev pub Split : List ℕ → Dec → List ℕ → List ℕ → ℕ → List ℤ → Dec → Type 0
-Split b d c l n s z = Turned pos Small b d (each [] (λ (k : Block). shell 4 (k .count)) (blocksFrom c l 0 n)) 240 s z n
+Split b d c l n s z = Turned pos Small b d (each [] (λ (k : Block). shell 4 (k .count)) (blocksFrom c l 0 n)) (ofSymbols 15) s z n
 
 abbrev pub Lowered : List ℕ → Dec → List ℕ → List ℕ → List (List ℕ) → ℕ → List ℤ → Dec → Type 0
-Lowered b d c l ms n s z = Turned pos Sixteen b d (blockLows (blocksFrom c l 0 n) ms) 2560 s z n
+Lowered b d c l ms n s z = Turned pos Sixteen b d (blockLows (blocksFrom c l 0 n) ms) (ofSymbols 160) s z n
 
 abbrev pub Signed : List ℕ → Dec → ℕ → ℕ → List ℕ → List ℕ → List (List ℕ) → ℕ → List ℤ → Dec → Type 0
 Signed b d signal offset c l vs n s z =
-    Turned (λ (x : ℤ). x) Sixteen b d (blockSigns signal offset (blocksFrom c l 0 n) vs) 256 s z n
+    Turned (λ (x : ℤ). x) Sixteen b d (blockSigns signal offset (blocksFrom c l 0 n) vs) (ofSymbols 16) s z n
 
 -- ---- splits
 
@@ -148,13 +149,13 @@ module _ (o : Out) (c l : List ℕ) (v : List ℤ) (n : ℕ) where
   -- all of them
   abbrev pub SplitsTold : Out → Type 0
   SplitsTold q =
-      Told o (shifted (blocksFrom c l 0 n) (whole (rows16 n v))) (each [] shellOf (blocksFrom c l 0 n)) (240 * n) q
+      Told o (shifted (blocksFrom c l 0 n) (whole (rows16 n v))) (each [] shellOf (blocksFrom c l 0 n)) (ofSymbols 15 * n) q
 
   abbrev pub LowsTold : Out → Type 0
   LowsTold q =
       Told o (whole (rows16 n v))
-      (blockLows (blocksFrom c l 0 n) (shifted (blocksFrom c l 0 n) (whole (rows16 n v)))) (2560 * n) q
+      (blockLows (blocksFrom c l 0 n) (shifted (blocksFrom c l 0 n) (whole (rows16 n v)))) (ofSymbols 160 * n) q
 
   abbrev pub SignsTold : ℕ → ℕ → Out → Type 0
   SignsTold signal offset q =
-      Told o (rows16 n v) (blockSigns signal offset (blocksFrom c l 0 n) (whole (rows16 n v))) (256 * n) q
+      Told o (rows16 n v) (blockSigns signal offset (blocksFrom c l 0 n) (whole (rows16 n v))) (ofSymbols 16 * n) q
