@@ -1,4 +1,4 @@
--- `put_frames` meets its contract. The loop's invariant: the lines of the first k frames are put. Its measure: how many are left.
+-- `put_frames_run` meets its contract. The loop's invariant: the lines of the first k frames are put. Its measure: how many are left.
 -- Assumes nothing.
 use borrow.Author.Needs.{needs}
 use Prim.Native.Nat.{_-_, _*_, _≤_}
@@ -8,9 +8,9 @@ use native.Mathlib.Omega.{arith}
 use lib.ListN.{length}
 use Rattle.numerals.specs.Inner.{Put}
 use Rattle.numerals.proofs.Put.{put-none, put-then, put-as}
-use Rattle.packet_text.specs.PacketText.{frameLines}
-use Rattle.packet_text.proofs.put_frames.Statement.{statement}
-use Rattle.packet_text.proofs.put_frames.Tie as tie
+use Rattle.packet_text_frames.specs.FrameLines.{frameLines}
+use Rattle.packet_text_frames.proofs.put_frames_run.Statement.{statement}
+use Rattle.packet_text_frames.proofs.put_frames_run.Tie as tie
 
 abbrev Inv-loop : tie.InvT-loop
 Inv-loop out₀ at a count place₀ k₀ out place k = (k ≤ count) × (length out ≡ length out₀) × Put (20 * k) out₀ at (frameLines a k) out place
@@ -42,8 +42,8 @@ returns c =
     let e : b .loop .k ≡ a .count = omega arith in
     put-as (b .loop .inv .2) (ap (frameLines a) e) (omega arith)
 
-pub put-frames-spec : {M : Type 1} → statement M
-put-frames-spec =
+pub put-frames-run-spec : {M : Type 1} → statement M
+put-frames-run-spec =
     tie.close
     (tie.spec Inv-loop μ-loop (λ c. search needs) loop-holds (λ c. search needs) (λ c. search needs) (λ c. search needs)
     (λ c. search needs) put-frame-requires (λ c. search needs) (λ c. search needs) loop-again (λ c. search needs)

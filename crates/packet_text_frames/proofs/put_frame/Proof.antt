@@ -5,8 +5,8 @@ use mir.Syntax.{w16}
 use mir.Facts.{toZ-pos}
 use Rattle.numerals.proofs.Put.{put-as}
 use Rattle.listing.specs.Ascii.{ascii}
-use Rattle.packet_text.proofs.put_frame.Statement.{statement}
-use Rattle.packet_text.proofs.put_frame.Tie as tie
+use Rattle.packet_text_frames.proofs.put_frame.Statement.{statement}
+use Rattle.packet_text_frames.proofs.put_frame.Tie as tie
 
 returns : tie.Need-returns
 unfolding ascii

@@ -1,11 +1,11 @@
--- `put_accepted` meets its contract. Assumes nothing.
+-- `put_accepted_run` meets its contract. Assumes nothing.
 use borrow.Author.Needs.{needs}
 use Rattle.numerals.proofs.Put.{put-then}
 use Rattle.listing.specs.Ascii.{ascii}
 use Rattle.listing.specs.Lines.{spaced, line}
-use Rattle.packet_text.specs.PacketText.{acceptedText}
-use Rattle.packet_text.proofs.put_accepted.Statement.{statement}
-use Rattle.packet_text.proofs.put_accepted.Tie as tie
+use Rattle.packet_text_accepted.specs.AcceptedText.{acceptedText}
+use Rattle.packet_text_accepted.proofs.put_accepted_run.Statement.{statement}
+use Rattle.packet_text_accepted.proofs.put_accepted_run.Tie as tie
 
 returns : tie.Need-returns
 unfolding ascii spaced line acceptedText
@@ -14,10 +14,10 @@ returns c =
     let f = w .before .before .before .before .before in
     let n = f .before .before .before .before in
     let g = n .before .before .before .before .before in
-    put-then (put-then (put-then (g .put-one .ensures) (n .put-one2 .ensures)) (f .put-frames .ensures)) (w .put-word-run .ensures)
+    put-then (put-then (put-then (g .put-one-run .ensures) (n .put-one-run2 .ensures)) (f .put-frames-run .ensures)) (w .put-word-run .ensures)
 
-pub put-accepted-spec : {M : Type 1} → statement M
-put-accepted-spec =
+pub put-accepted-run-spec : {M : Type 1} → statement M
+put-accepted-run-spec =
     tie.close
     (tie.spec (λ c. search needs) (λ c κs. search needs) (λ c. search needs) (λ c κs. search needs)
     (λ c κs. search needs) (λ c. search needs) (λ c κs. search needs) (λ c. search needs) returns)
