@@ -14,7 +14,8 @@ returns c =
     let f = w .before .before .before .before .before in
     let n = f .before .before .before .before in
     let g = n .before .before .before .before .before in
-    put-then (put-then (put-then (g .put-one-run .ensures) (n .put-one-run2 .ensures)) (f .put-frames-run .ensures)) (w .put-word-run .ensures)
+    put-then (put-then (put-then (g .put-one-run .ensures) (n .put-one-run2 .ensures)) (f .put-frames-run .ensures))
+    (w .put-word-run .ensures)
 
 pub put-accepted-run-spec : {M : Type 1} → statement M
 put-accepted-run-spec =
