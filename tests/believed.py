@@ -20,7 +20,7 @@ FUNCTION = re.compile(  # attributes; signature and contract; name: up to a brac
     re.M | re.S)
 NUMBER = r'\d+(?:\.\d+)*'
 CITED = re.compile(rf'RFC \d+|sections? {NUMBER}(?:(?:, | and | to ){NUMBER})*|document 0\d(?:, "[^"]+"|, item \d+)?')
-HANDS_OUT = 'packet_view', 'packet_read'  # rooms whose public calls hand out references, which C cannot hold
+HANDS_OUT = 'packet_view', 'packet_frame'  # rooms whose public calls hand out references, which C cannot hold
 
 
 def filled(text):

@@ -1,24 +1,13 @@
 // Two frames of one symbol each, written and put into one packet; the packet read, and the second frame's symbol read
 // from the part of the packet that the frame is.
-ghost use mathlib.Core.Path.{_≡_};
-ghost use Rattle.entcode.specs.Reading.{decOpen};
-ghost use Rattle.framing.specs.Reading.{packetRead};
-ghost use Rattle.packet_read.specs.Frames.{frameAt};
-use entcode::Decoded;
+use entcode::Dec;
+use entcode::Enc;
+use framing::Packet;
 use libc::STDOUT_FILENO;
-
-// A reader at the start of frame k.
-fn open_frame(packet: &[u8], k: usize) -> Decoded
-    ensures { λ a. ⌜ a ≡ decOpen (frameAt (now (packet .entry)) (packetRead (now (packet .entry))) k) ⌝ }
-{
-    let a = packet_read::packet_read(packet);
-    let frame = packet_read::packet_frame(packet, a, k);
-    entdec::ec_dec_init(frame)
-}
 
 fn frame_of(symbol: u32, kind: &[u8]) -> [u8; 2] {
     let mut frame = [0; 2];
-    let w = entenc::ec_enc_init(&frame).state;
+    let w: Enc = entenc::ec_enc_init(&frame).state;
     let w = entenc::ec_enc_icdf(&mut frame, w, symbol, kind, 8).state;
     entenc::ec_enc_done(&mut frame, w);
     frame
@@ -31,9 +20,9 @@ fn show(name: &[u8], number: u32) {
 }
 
 fn read(packet: &[u8], kind: &[u8]) {
-    let a = packet_read::packet_read(packet);
-    let r = open_frame(packet, 1).state;
-    let frame = packet_read::packet_frame(packet, a, 1);
+    let a: Packet = packet_read::packet_read(packet);
+    let r: Dec = packet_open::open_frame(packet, 1).state;
+    let frame = packet_frame::packet_frame(packet, a, 1);
     show(b"frames ", a.count);
     show(b"symbol ", entdec::ec_dec_icdf(frame, r, kind, 8).value);
 }

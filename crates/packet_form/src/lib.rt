@@ -1,13 +1,12 @@
-// The form of a whole packet, and whether it keeps the rules (RFC 6716 sections 3.2 and 3.4, RFC 8251 section 4).
-ghost use Prim.Native.Nat.{_+_, _≤_, _<_};
+// The numbers that stand in a packet before its frames (RFC 6716 section 3.2): lengths, padding, and the form.
+ghost use Prim.Native.Nat.{_+_, _≤_};
 ghost use mathlib.Core.Path.{_≡_};
 ghost use lib.ListN.{length, drop};
 ghost use Rattle.framing.specs.Lengths.{lengthOf, widthOf, lengths, widths, total};
 ghost use Rattle.framing.specs.Padding.{padLengths, padBytes};
 ghost use Rattle.framing.specs.Form.{formOf, plain as plainOf, firsts, head};
-ghost use Rattle.packet_form.specs.Inner.{Bounded, closed as closedOf, shared as sharedOf, none as noneOf, spanOf};
+ghost use Rattle.packet_form.specs.Inner.{Bounded};
 use framing::Form;
-use packet_time::in_time;
 use sections::byte_at;
 
 // ---- lengths
@@ -18,7 +17,7 @@ pub struct Coded {
     pub width: usize,
 }
 
-pub fn length_run(s: &[u8], at: usize) -> Coded
+fn length_run(s: &[u8], at: usize) -> Coded
     requires { ⌜ at ≤ 9000000 ⌝ }
     ensures { λ c.
         ⌜ (c .value ≡ lengthOf (drop at (now (s .entry)))) × (c .width ≡ widthOf (drop at (now (s .entry)))) ⌝ }
@@ -127,60 +126,8 @@ pub fn form_run(s: &[u8]) -> Form
     }
 }
 
-// ---- the rules
-
-// Whether the rules are kept; then where the first frame starts, and the last frame's size.
-pub struct Span {
-    pub kept: bool,
-    pub head: usize,
-    pub last: usize,
-}
-
-fn none() -> Span
-    ensures { λ a. ⌜ a ≡ noneOf ⌝ }
-{
-    Span {
-        kept: false,
-        head: 0,
-        last: 0,
-    }
-}
-
-fn closed(head: usize, last: usize) -> Span
-    ensures { λ a. ⌜ a ≡ closedOf head last ⌝ }
-{
-    if 1275 < last {
-        return none();
-    }
-    Span {
-        kept: true,
-        head,
-        last,
-    }
-}
-
-// n equal shares of the room. The first two need no division by a number that is not known.
-fn shared_run(head: usize, n: usize, room: usize) -> Span
-    requires { ⌜ 1 ≤ n ⌝ }
-    ensures { λ a. ⌜ a ≡ sharedOf head n room ⌝ }
-{
-    if n == 1 {
-        return closed(head, room);
-    }
-    if n == 2 {
-        if room % 2 == 0 {
-            return closed(head, room / 2);
-        }
-        return none();
-    }
-    if room % n == 0 {
-        return closed(head, room / n);
-    }
-    none()
-}
-
 // The written lengths together; none where they are not written.
-fn firsts_run(s: &[u8], f: Form) -> Coded
+pub fn firsts_run(s: &[u8], f: Form) -> Coded
     requires { ⌜ Bounded f × (1 ≤ f .count) ⌝ }
     ensures { λ c.
         ⌜ (c .value ≡ total (firsts f (now (s .entry)))) × (f .own + f .lens + c .width ≡ head f (now (s .entry))) ⌝ }
@@ -192,30 +139,4 @@ fn firsts_run(s: &[u8], f: Form) -> Coded
         return lengths_run(s, at, n);
     }
     Coded { value: 0, width: 0 }
-}
-
-pub fn span_run(s: &[u8], f: Form) -> Span
-    requires { ⌜ length (now s) ≤ 16384 ⌝ }
-    requires { ⌜ (f ≡ formOf (now s)) × Bounded f ⌝ }
-    ensures { λ a. ⌜ a ≡ spanOf (now (s .entry)) ⌝ }
-{
-    let n = f.count;
-    if n == 0 {
-        return none();
-    }
-    let toc = byte_at(s, 0);
-    if in_time(n, toc / 8) {
-        let c = firsts_run(s, f);
-        let head = f.own + f.lens + c.width;
-        let used = head + f.pad;
-        if s.len() < used + c.value {
-            return none();
-        }
-        let room = s.len() - used;
-        if f.varied {
-            return closed(head, room - c.value);
-        }
-        return shared_run(head, n, room);
-    }
-    none()
 }

@@ -1,4 +1,1 @@
-pub mod PlaceLaws
-pub mod NextLaws
-pub mod TurnLaws
 pub mod CallLaws

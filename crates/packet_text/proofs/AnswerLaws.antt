@@ -15,7 +15,7 @@ use Rattle.framing.specs.Reading.{unless, speech, readRule, accepted, packetRea
 use Rattle.framing.specs.Statement.{Accepted}
 use Rattle.framing.proofs.Accepted.{readable, rule-zero, answer-is}
 use Rattle.framing.proofs.Theorems.{parts-placed}
-use Rattle.packet_text.specs.Inner.{Small}
+use Rattle.packet_text_frames.specs.Inner.{Small}
 
 pub small : (s : List ℕ) → Accepted s → Small (packetRead s)
 unfolding accepted

@@ -14,7 +14,9 @@ use Rattle.framing.specs.Padding.{padLengths, padBytes}
 use Rattle.framing.specs.Form.{formOf, firsts, head, sizes}
 use Rattle.framing.specs.Rules.{rule1, rule2, rule3, rule4, rule5, rule6, rule7, keeps}
 use Rattle.framing.specs.Reading.{readRule, starts, accepted, packetRead}
-use Rattle.packet_text.specs.PacketText.{frameLines, acceptedText, packetText}
+use Rattle.packet_text_frames.specs.FrameLines.{frameLines}
+use Rattle.packet_text_accepted.specs.AcceptedText.{acceptedText}
+use Rattle.packet_text.specs.PacketText.{packetText}
 
 pub record Case : Type 0 where
   pub input : List ℕ

@@ -1,2 +1,1 @@
 pub mod PacketText
-pub mod Inner

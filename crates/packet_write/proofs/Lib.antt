@@ -1,2 +1,1 @@
-pub mod PieceLaws
 pub mod WholeLaws

@@ -20,9 +20,10 @@ use Rattle.framing.specs.Padding.{padCode, padTail}
 use Rattle.framing.specs.Writing.{countByte, laid, alike, shortestCode, bare, shortest, lengthFor, packetOf, writeRule, Wrote, packetWrite}
 use Rattle.framing.proofs.Written.{writable, packet-length}
 use Rattle.packet_plan.specs.declared.Plan.{Plan}
-use Rattle.packet_plan.specs.Inner.{codesOf}
-use Rattle.packet_write.specs.Inner.{wholeOf}
-use Rattle.packet_plan.proofs.PlanLaws.{but-last-take, shortest-is}
+use Rattle.packet_shortest.specs.Inner.{codesOf}
+use Rattle.packet_pieces.specs.Inner.{wholeOf}
+use Rattle.packet_shortest.proofs.CodeLaws.{but-last-take}
+use Rattle.packet_plan.proofs.PlanLaws.{shortest-is}
 
 by-three : (c : ℕ) (x : List ℕ) → c < 4 → cond (eqb c 3) x [] ≡ byCode c [] [] [] x
 by-three zero x h = refl
@@ -85,18 +86,19 @@ small-most ns e i =
 abbrev made : List ℕ → ℕ → ℕ → Wrote
 made b r k = record { buf = b; answer = record { refusal = r; length = k } }
 
-pub wrote-is : (buf : List ℕ) (c : ℕ) (frames ns : List ℕ) (l m : ℕ) → writeRule (length buf) c (length frames) ns l ≡ 0
-    → m ≡ lengthFor ns l
-    → record { buf = sets buf 0 (packetOf c ns frames m); answer = record { refusal = 0; length = m } } ≡ packetWrite buf c frames ns l
+pub wrote-is : (buf out : List ℕ) (c : ℕ) (frames ns : List ℕ) (l m : ℕ) → out ≡ sets buf 0 (packetOf c ns frames m)
+    → writeRule (length buf) c (length frames) ns l ≡ 0 → m ≡ lengthFor ns l
+    → record { buf = out; answer = record { refusal = 0; length = m } } ≡ packetWrite buf c frames ns l
 unfolding packetWrite
-wrote-is buf c frames ns l m e q =
+wrote-is buf out c frames ns l m o e q =
     let w = writable (length buf) c (length frames) ns l e in
     let m' = lengthFor ns l in
     let t = packetOf c ns frames m' in
     let z : length t ≡ m' = packet-length (length buf) c frames ns m' w in
     let n : 0 + length t ≡ m' = omega arith in
     let s : sets buf 0 t ≡ t ++ drop m' buf = sets-eq t buf 0 (omega (arith, w .room)) ∙ ap (λ (k : ℕ). t ++ drop k buf) n in
-    ap (λ (k : ℕ). made (sets buf 0 (packetOf c ns frames k)) 0 k) q ∙ ap (λ (b : List ℕ). made b 0 m') s
+    ap (λ (b : List ℕ). made b 0 m) o
+    ∙ ap (λ (k : ℕ). made (sets buf 0 (packetOf c ns frames k)) 0 k) q ∙ ap (λ (b : List ℕ). made b 0 m') s
     ∙ sym (ap (λ (b : Bool). cond b (made (t ++ drop m' buf) 0 m') (made buf (writeRule (length buf) c (length frames) ns l) 0))
     (eq-eqb (writeRule (length buf) c (length frames) ns l) 0 e))
 

@@ -9,7 +9,7 @@ use lib.Dec.{eqb, ltb}
 use Rattle.framing.specs.Lengths.{total}
 use Rattle.framing.specs.Writing.{shortestCode, bare, shortest, lengthFor}
 use Rattle.framing.proofs.WriteRules.{by-frames}
-use Rattle.packet_plan.specs.Inner.{Width}
+use Rattle.packet_shortest.specs.Inner.{Width}
 use Rattle.packet_plan.proofs.PlanLaws.{total-bare, too-long, no-room, shortest-is}
 use Rattle.packet_plan.proofs.room_run.Statement.{statement}
 use Rattle.packet_plan.proofs.room_run.Tie as tie

@@ -8,8 +8,9 @@ use Rattle.framing.specs.declared.Form.{Form}
 use Rattle.framing.specs.declared.Packet.{Packet}
 use Rattle.framing.specs.Form.{sizes}
 use Rattle.framing.specs.Reading.{accepted}
-use Rattle.packet_read.specs.declared.Places.{Places}
-use Rattle.packet_read.specs.Inner.{Spanned, Stands, answerOf}
+use Rattle.packet_places.specs.declared.Places.{Places}
+use Rattle.packet_places.specs.Inner.{Spanned, Stands}
+use Rattle.packet_read.specs.Inner.{answerOf}
 use Rattle.packet_read.proofs.CallLaws.{answered}
 use Rattle.packet_read.proofs.accepted_run.Statement.{statement}
 use Rattle.packet_read.proofs.accepted_run.Tie as tie

@@ -7,8 +7,9 @@ use native.Mathlib.Omega.{arith}
 use lib.ListN.{length, getD}
 use Rattle.framing.specs.declared.Form.{Form}
 use Rattle.framing.specs.Toc.{configOf, stereoOf}
+use Rattle.framing.specs.Reading.{refused}
 use Rattle.framing.proofs.Accepted.{reads, answer-is, rule-one, rule-ten, rule-eleven, refused-is, not-speech, stereo-not}
-use Rattle.packet_form.specs.Inner.{lastBy}
+use Rattle.packet_span.specs.Inner.{lastBy}
 use Rattle.packet_read.proofs.CallLaws.{Told, told, broke, twelve-count}
 use Rattle.packet_read.proofs.packet_read.Statement.{statement}
 use Rattle.packet_read.proofs.packet_read.Tie as tie
@@ -83,7 +84,8 @@ returns-5 : tie.Need-returns-5
 returns-5 c =
     let d = c .before .before in
     let s = packet d in
-    c .refused4 .ensures
+    let ten : c .refused4 .result ≡ refused 10 = c .refused4 .ensures in
+    ten
     ∙ sym (refused-is s 10 (rule-ten s (short d) (broke s _ (d .span-run .ensures) (c .before .if2 .left))) (omega arith))
 
 pub packet-read-spec : {M : Type 1} → statement M

@@ -11,7 +11,8 @@ use Rattle.listing.proofs.PrintedLaws.{printed-put}
 use Rattle.framing.specs.declared.Packet.{Packet}
 use Rattle.framing.specs.Reading.{packetRead}
 use Rattle.framing.specs.Statement.{Accepted}
-use Rattle.packet_text.specs.PacketText.{acceptedText, packetText}
+use Rattle.packet_text_accepted.specs.AcceptedText.{acceptedText}
+use Rattle.packet_text.specs.PacketText.{packetText}
 use Rattle.packet_text.proofs.AnswerLaws.{small, refusal-most}
 use Rattle.packet_text.proofs.packet_text.Statement.{statement}
 use Rattle.packet_text.proofs.packet_text.Tie as tie
@@ -28,8 +29,8 @@ module _ (s : List ℕ) (a : Packet) (read : a ≡ packetRead s) where
   unfolding packetText
   refused h = ap refusedText number ∙ rw (ne-eqb (packetRead s .refusal) 0 (λ e. h (number ∙ e)))
 
-put-accepted-requires : tie.Need-put-accepted-requires
-put-accepted-requires c κs =
+put-accepted-run-requires : tie.Need-put-accepted-run-requires
+put-accepted-run-requires c κs =
     let r = c .before .before .before in
     let s = r .before .before .args .input .now in
     let h : Accepted s = omega (arith, number s _ (r .packet-read .ensures)) in
@@ -40,10 +41,10 @@ returns c =
     let t = c .before .before in
     let r = t .before .before in
     let s = r .before .before .args .input .now in
-    printed-put (rw (accepted s _ (r .packet-read .ensures) (omega arith)) at (c .put-accepted .ensures)) (search needs)
+    printed-put (rw (accepted s _ (r .packet-read .ensures) (omega arith)) at (c .put-accepted-run .ensures)) (search needs)
 
-put-one-requires : tie.Need-put-one-requires
-put-one-requires c κs =
+put-one-run-requires : tie.Need-put-one-run-requires
+put-one-run-requires c κs =
     let r = c .before .before .before .before in
     let s = r .before .before .args .input .now in
     (search needs, omega (arith, number s _ (r .packet-read .ensures), refusal-most s))
@@ -54,9 +55,9 @@ returns-2 c =
     let t = c .before .before .before in
     let r = t .before .before in
     let s = r .before .before .args .input .now in
-    printed-put (rw (refused s _ (r .packet-read .ensures) (λ e. omega arith)) at (c .put-one .ensures)) (search needs)
+    printed-put (rw (refused s _ (r .packet-read .ensures) (λ e. omega arith)) at (c .put-one-run .ensures)) (search needs)
 
 pub packet-text-spec : {M : Type 1} → statement M
 packet-text-spec =
     tie.close
-    (tie.spec (λ c κs. search needs) put-accepted-requires returns (λ c. search needs) put-one-requires returns-2)
+    (tie.spec (λ c κs. search needs) put-accepted-run-requires returns (λ c. search needs) put-one-run-requires returns-2)

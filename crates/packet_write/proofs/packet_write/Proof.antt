@@ -1,11 +1,11 @@
 -- `packet_write` meets its contract. Assumes nothing.
 use borrow.Author.Needs.{needs}
 use Prim.Native.Nat.{ℕ}
-use mathlib.Core.Path.{_≡_, sym, ap, subst, _∙_}
+use mathlib.Core.Path.{_≡_, sym, subst, _∙_}
 use mathlib.Core.List.{List}
 use native.Mathlib.Omega.{arith}
 use lib.ListN.{length}
-use Rattle.framing.specs.Writing.{Wrote}
+use Rattle.framing.specs.Writing.{writeRule}
 use Rattle.framing.specs.Inner.{Writable}
 use Rattle.framing.proofs.Written.{writable}
 use Rattle.packet_plan.specs.declared.Plan.{Plan}
@@ -14,12 +14,12 @@ use Rattle.packet_write.proofs.WholeLaws.{wrote-is, kept-is}
 use Rattle.packet_write.proofs.packet_write.Statement.{statement}
 use Rattle.packet_write.proofs.packet_write.Tie as tie
 
-abbrev made : List ℕ → ℕ → ℕ → Wrote
-made b r k = record { buf = b; answer = record { refusal = r; length = k } }
+module _ (len c n : ℕ) (ns : List ℕ) (l : ℕ) (p : Plan) (d : Planned len c n ns l p) (z : p .refusal ≡ 0) where
+  accepted : writeRule len c n ns l ≡ 0
+  accepted = sym (d .rule) ∙ z
 
-planned : (len c n : ℕ) (ns : List ℕ) (l : ℕ) (p : Plan) → Planned len c n ns l p → p .refusal ≡ 0 → Writable len c n ns (p .length)
-planned len c n ns l p d z =
-    subst (λ (m : ℕ). Writable len c n ns m) (sym (d .runs z .length)) (writable len c n ns l (sym (d .rule) ∙ z))
+  planned : Writable len c n ns (p .length)
+  planned = subst (λ (m : ℕ). Writable len c n ns m) (sym (d .runs z .length)) (writable len c n ns l accepted)
 
 abbrev plan : tie.Then1 → tie.After-plan-run
 plan t = t .before .before
@@ -46,9 +46,10 @@ returns c =
     let w = c .before .before in
     let t = w .before .before .before in
     let a = start (plan t) .args in
+    let p = plan t .plan-run .result in
     let d = plan t .plan-run .ensures in
-    ap (λ (b : List ℕ). made b 0 (plan t .plan-run .result .length)) (w .write-run .ensures)
-    ∙ wrote-is (a .buf .now) (a .config) (a .frames .now) (a .sizes .now) (a .length) _ (sym (d .rule) ∙ t .if1 .taken)
+    wrote-is (a .buf .now) _ (a .config) (a .frames .now) (a .sizes .now) (a .length) (p .length) (w .write-run .ensures)
+    (accepted (length (a .buf .now)) (a .config) (length (a .frames .now)) (a .sizes .now) (a .length) p d (t .if1 .taken))
     (d .runs (t .if1 .taken) .length)
 
 returns-2 : tie.Need-returns-2

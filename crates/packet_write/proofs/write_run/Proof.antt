@@ -11,7 +11,7 @@ use lib.Seq.{sets}
 use Rattle.framing.specs.Writing.{packetOf}
 use Rattle.framing.proofs.Shortest.{shortest-range}
 use Rattle.framing.proofs.Written.{at-most-twelve, packet-length}
-use Rattle.packet_write.specs.Inner.{wholeOf}
+use Rattle.packet_pieces.specs.Inner.{wholeOf}
 use Rattle.packet_write.proofs.WholeLaws.{Worked, code-four, whole-is, small-most}
 use Rattle.packet_write.proofs.write_run.Statement.{statement}
 use Rattle.packet_write.proofs.write_run.Tie as tie
@@ -38,10 +38,14 @@ first-byte f =
     let z = begun f in
     omega (arith, z .pre .0 .config, code-four (z .args .sizes .now) (z .args .p) (z .pre .1) (worked f))
 
+abbrev whole : tie.After-final-code → List ℕ
+whole f =
+    let a = begun f .args in
+    let code = f .final-code .result in
+    wholeOf (8 * a .c + code) (eqb code 3) (f .before .before .less .result) (not (a .p .same)) (a .sizes .now) (a .frames .now)
+
 packet : (f : tie.After-final-code)
-    → wholeOf (8 * begun f .args .c + f .final-code .result) (eqb (f .final-code .result) 3) (f .before .before .less .result)
-    (not (begun f .args .p .same)) (begun f .args .sizes .now) (begun f .args .frames .now)
-    ≡ packetOf (begun f .args .c) (begun f .args .sizes .now) (begun f .args .frames .now) (begun f .args .p .length)
+    → whole f ≡ packetOf (begun f .args .c) (begun f .args .sizes .now) (begun f .args .frames .now) (begun f .args .p .length)
 packet f =
     let a = begun f .args in
     whole-is (a .sizes .now) (a .p) (begun f .pre .1) (a .c) (a .frames .now) (worked f)
@@ -65,7 +69,8 @@ returns : tie.Need-returns
 returns c =
     let r = c .before .before in
     let f = r .before .before .before in
-    r .put-whole-run .ensures .is ∙ ap (λ (t : List ℕ). sets (begun f .args .buf .now) 0 t) (packet f)
+    let buf = begun f .args .buf .now in
+    _∙_ {b = sets buf 0 (whole f)} (r .put-whole-run .ensures .is) (ap (λ (t : List ℕ). sets buf 0 t) (packet f))
 
 pub write-run-spec : {M : Type 1} → statement M
 write-run-spec =

@@ -1,0 +1,4 @@
+pub mod SpannedLaws
+pub mod ByteLaws
+pub mod PlaceLaws
+pub mod TurnLaws
