@@ -6,9 +6,9 @@ use mir.Facts.{toZ-ofZ}
 use mir.Syntax.{w32}
 use mir.Val.{SFits}
 use Rattle.entcode.specs.Flat.{out}
-use Rattle.entenc_finish.proofs.Finishing.{rest-some, rest-none, held-there, held-gone}
-use Rattle.entenc_finish.proofs.put_rest.Statement.{statement}
-use Rattle.entenc_finish.proofs.put_rest.Tie as tie
+use Rattle.entenc_finish_digits.proofs.Digits.{rest-some, rest-none, held-there, held-gone}
+use Rattle.entenc_finish_digits.proofs.put_rest.Statement.{statement}
+use Rattle.entenc_finish_digits.proofs.put_rest.Tie as tie
 
 -- the held byte fits its type
 rem-fits : (c : tie.Start) → SFits w32 (c .args .w .rem)

@@ -1,4 +1,4 @@
--- `stow` meets its contract: the byte below the back takes the bits, or as many as it can spare, or there is none. Assumes nothing.
+-- `stow_run` meets its contract: the byte below the back takes the bits, or as many as it can spare, or there is none. Assumes nothing.
 use borrow.Author.Needs.{needs}
 use Prim.Native.Nat.{ℕ, _+_, _-_, _*_, _%_, _^_, _<_, _≤_}
 use mathlib.Core.Path.{_≡_, ap}
@@ -8,9 +8,9 @@ use lib.ListN.{length}
 use lib.Pow.{pow-pos, pow-mono}
 use Rattle.entcode.specs.Flat.{out}
 use Rattle.bitlen.proofs.Shift.{one-shl}
-use Rattle.entenc_finish.proofs.Finishing.{stow-short, stow-whole, stow-none}
-use Rattle.entenc_finish.proofs.stow.Statement.{statement}
-use Rattle.entenc_finish.proofs.stow.Tie as tie
+use Rattle.entenc_finish_stow.proofs.Stowing.{stow-short, stow-whole, stow-none}
+use Rattle.entenc_finish_stow.proofs.stow_run.Statement.{statement}
+use Rattle.entenc_finish_stow.proofs.stow_run.Tie as tie
 
 mask : (c : tie.Start) → 1 * 2 ^ c .args .j % 2 ^ 32 ≡ 2 ^ c .args .j
 mask c = one-shl (c .args .j) (omega (arith, c .pre .1 .1))
@@ -63,8 +63,8 @@ returns-3 c =
     let b = c .before .before .before in
     stow-none (out (b .args .buf .now) (b .args .w)) (b .args .j) (b .pre .0 .roomy) (c .if1 .left)
 
-pub stow-spec : {M : Type 1} → statement M
-stow-spec =
+pub stow-run-spec : {M : Type 1} → statement M
+stow-run-spec =
     tie.close
     (tie.spec
     (λ c. search needs) (λ c. search needs) (λ c. search needs) (λ c. search needs) (λ c. search needs) (λ c. search needs)

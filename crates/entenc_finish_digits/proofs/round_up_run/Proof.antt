@@ -1,4 +1,4 @@
--- `round_up` meets its contract: shifting down and up again leaves the multiple of 2^k, and no sum wraps. Assumes nothing.
+-- `round_up_run` meets its contract: shifting down and up again leaves the multiple of 2^k, and no sum wraps. Assumes nothing.
 use borrow.Author.Needs.{needs}
 use Prim.Native.Nat.{_+_, _-_, _^_}
 use mathlib.Core.Path.{_≡_}
@@ -6,8 +6,8 @@ use native.Mathlib.Omega.{arith}
 use native.Mathlib.Nat.{div-mul-le-self}
 use lib.Pow.{pow-pos}
 use Rattle.bitlen.proofs.Shift.{one-shl}
-use Rattle.entenc_finish.proofs.round_up.Statement.{statement}
-use Rattle.entenc_finish.proofs.round_up.Tie as tie
+use Rattle.entenc_finish_digits.proofs.round_up_run.Statement.{statement}
+use Rattle.entenc_finish_digits.proofs.round_up_run.Tie as tie
 
 sub-last : tie.Need-sub-last
 sub-last c = omega (arith, one-shl (c .args .k) (c .pre .0), pow-pos (c .args .k))
@@ -24,8 +24,8 @@ returns c =
     let p = 2 ^ b .args .k in
     rw (sums c) (omega (arith, div-mul-le-self (b .args .n + (p - 1)) p, b .pre .1, pow-pos (b .args .k)))
 
-pub round-up-spec : {M : Type 1} → statement M
-round-up-spec =
+pub round-up-run-spec : {M : Type 1} → statement M
+round-up-run-spec =
     tie.close
     (tie.spec
     (λ c. search needs) sub-last (λ c κs. search needs) (λ c. search needs) (λ c. search needs) returns)

@@ -1,13 +1,13 @@
--- `close` meets its contract: the middle is cleared and the bits left over are stowed, unless an error stands. Assumes nothing.
+-- `close_run` meets its contract: the middle is cleared and the bits left over are stowed, unless an error stands. Assumes nothing.
 use borrow.Author.Needs.{needs}
 use mathlib.Core.Path.{_≡_, sym, _∙_}
 use native.Mathlib.Omega.{arith}
 use mir.Syntax.{w32}
 use mir.Val.{SFits}
 use Rattle.entcode.specs.Flat.{Out, out, errOf}
-use Rattle.entenc_finish.proofs.Finishing.{error-none, error-some, middle, close-failed, close-whole, close-stowed}
-use Rattle.entenc_finish.proofs.close.Statement.{statement}
-use Rattle.entenc_finish.proofs.close.Tie as tie
+use Rattle.entenc_finish_close.proofs.Closing.{error-none, error-some, middle, close-failed, close-whole, close-stowed}
+use Rattle.entenc_finish_close.proofs.close_run.Statement.{statement}
+use Rattle.entenc_finish_close.proofs.close_run.Tie as tie
 
 -- the error fits its type
 error-fits : (c : tie.Start) → SFits w32 (c .args .w .error)
@@ -23,8 +23,8 @@ start c = out (begun c .args .buf .now) (begun c .args .w)
 good : (c : tie.After-clear) → errOf (start c .state .error) ≡ 0
 good c = error-none (start c .state .error) (error-fits (begun c)) (c .before .before .before .before .if1 .taken)
 
-stow-requires : tie.Need-stow-requires
-stow-requires c κs =
+stow-run-requires : tie.Need-stow-run-requires
+stow-run-requires c κs =
     let a = c .before .before .before .before .before in
     let p = begun a .pre .0 in
     let n = a .clear .kept .0 in (
@@ -48,7 +48,7 @@ returns c =
     let o = start a in
     let u : o .state .wbits ≡ 0 → ⊥ = λ e. omega (arith, c .before .before .before .before .if2 .taken) in
     let m = a .clear .ensures ∙ middle o (begun a .pre .0 .roomy .fair) in
-    c .before .before .stow .ensures ∙ close-stowed o (begun a .args .j) _ m (good a) u
+    c .before .before .stow-run .ensures ∙ close-stowed o (begun a .args .j) _ m (good a) u
 
 returns-2 : tie.Need-returns-2
 returns-2 c =
@@ -65,9 +65,9 @@ returns-3 c =
     let f = b .pre .0 .roomy .fair in
     close-failed o (b .args .j) f (error-some (b .args .w .error) (f .error) (c .if1 .left))
 
-pub close-spec : {M : Type 1} → statement M
-close-spec =
+pub close-run-spec : {M : Type 1} → statement M
+close-run-spec =
     tie.close
     (tie.spec
-    (λ c. search needs) (λ c. search needs) (λ c. search needs) (λ c κs. search needs) stow-requires
+    (λ c. search needs) (λ c. search needs) (λ c. search needs) (λ c κs. search needs) stow-run-requires
     (λ c. search needs) returns (λ c. search needs) returns-2 returns-3)

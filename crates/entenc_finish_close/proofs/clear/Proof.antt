@@ -5,9 +5,9 @@ use mathlib.Core.List.{List}
 use native.Mathlib.Omega.{arith}
 use native.Mathlib.Numerals.{add-one}
 use lib.ListN.{length, set, length-set}
-use Rattle.entenc_finish.proofs.Finishing.{zeroed, zeroed-more, zeroed-none}
-use Rattle.entenc_finish.proofs.clear.Statement.{statement}
-use Rattle.entenc_finish.proofs.clear.Tie as tie
+use Rattle.entenc_finish_close.proofs.Closing.{zeroed, zeroed-more, zeroed-none}
+use Rattle.entenc_finish_close.proofs.clear.Statement.{statement}
+use Rattle.entenc_finish_close.proofs.clear.Tie as tie
 
 abbrev Inv-loop : tie.InvT-loop
 Inv-loop buf₀ first last i₀ buf i = (buf ≡ zeroed buf₀ first i) × (first ≤ i) × (i ≤ last) × (length buf ≡ length buf₀)

@@ -1,13 +1,13 @@
--- `put_digits` meets its contract: what the digits left to put make of the state is what all of them make. Assumes nothing.
+-- `put_digits_run` meets its contract: what the digits left to put make of the state is what all of them make. Assumes nothing.
 use Prim.Native.Nat.{ℕ, _+_, _/_, _^_, _≤_, _<_}
 use mathlib.Core.Path.{_≡_, refl, sym, subst, _∙_}
 use native.Mathlib.Omega.{arith}
 use lib.ListN.{length}
 use Rattle.entcode.specs.Flat.{heldOf, Out, out}
 use Rattle.entcode.specs.Inner.Writing.{Roomy, carried, digitsOut}
-use Rattle.entenc_finish.proofs.Finishing.{Carried, digits-more, digits-none, carried-kept}
-use Rattle.entenc_finish.proofs.put_digits.Statement.{statement}
-use Rattle.entenc_finish.proofs.put_digits.Tie as tie
+use Rattle.entenc_finish_digits.proofs.Digits.{Carried, digits-more, digits-none, carried-kept}
+use Rattle.entenc_finish_digits.proofs.put_digits_run.Statement.{statement}
+use Rattle.entenc_finish_digits.proofs.put_digits_run.Tie as tie
 
 abbrev Inv-loop : tie.InvT-loop
 Inv-loop buf₀ end count w₀ v₀ n₀ buf w v n =
@@ -67,8 +67,8 @@ returns c =
     ∙ digits-none (out (l .buf) (l .w)) (l .v) (l .n) (c .before .before .before .before .loop-test .left)
     ∙ l .inv .0
 
-pub put-digits-spec : {M : Type 1} → statement M
-put-digits-spec =
+pub put-digits-run-spec : {M : Type 1} → statement M
+put-digits-run-spec =
     tie.close
     (tie.spec
     Inv-loop μ-loop loop-holds carry-out-run-requires mul-v sub-n loop-less loop-again put-rest-requires same-length

@@ -1,4 +1,4 @@
--- `end_bits` meets its contract: the leading zeros leave a cell that fits in the range, the sum does not wrap, and the test is the
+-- `end_bits_run` meets its contract: the leading zeros leave a cell that fits in the range, the sum does not wrap, and the test is the
 -- definition's. Assumes nothing.
 use borrow.Author.Needs.{needs}
 use Prim.Native.Nat.{_+_, _-_, _<_, _≤_}
@@ -10,8 +10,8 @@ use lib.Count.{leadingZeros}
 use Rattle.entcode.specs.Finish.{cell, roundUp}
 use Rattle.entcode.proofs.FinishLaws.{Zeros, zeros, round-up}
 use Rattle.bitlen.proofs.Shift.{one-shl}
-use Rattle.entenc_finish.proofs.end_bits.Statement.{statement}
-use Rattle.entenc_finish.proofs.end_bits.Tie as tie
+use Rattle.entenc_finish_digits.proofs.end_bits_run.Statement.{statement}
+use Rattle.entenc_finish_digits.proofs.end_bits_run.Tie as tie
 
 lead : (c : tie.Start) → Zeros (c .args .rng) (leadingZeros 32 (c .args .rng))
 lead c = zeros (c .args .rng) (c .pre .0) (c .pre .1)
@@ -23,15 +23,15 @@ below c = omega (arith, round-up (c .args .val) (cell (leadingZeros 32 (c .args 
 sub-k : tie.Need-sub-k
 sub-k c = omega (arith, lead c .few)
 
-round-up-requires : tie.Need-round-up-requires
-round-up-requires c κs = (omega arith, omega (arith, lead c .inside, c .pre .2))
+round-up-run-requires : tie.Need-round-up-run-requires
+round-up-run-requires c κs = (omega arith, omega (arith, lead c .inside, c .pre .2))
 
 -- the sum in whole numbers
 sums : (c : tie.After-wrapping-add-u32) → c .wrapping-add-u32 .result ≡ c .before .before .args .val + c .before .before .args .rng
 sums c = omega (arith, c .before .before .pre .2)
 
 sub-left : tie.Need-sub-left
-sub-left c = omega (arith, sums c, below (c .before .before), c .before .round-up .ensures)
+sub-left c = omega (arith, sums c, below (c .before .before), c .before .round-up-run .ensures)
 
 add-result : tie.Need-add-result
 add-result c = omega (arith, lead (c .before .before .before) .few)
@@ -42,7 +42,7 @@ returns c =
     let b = a .before .before in
     let l = leadingZeros 32 (b .args .rng) in
     let t : b .args .val + b .args .rng < roundUp (b .args .val) (cell l) + cell l
-    = omega (arith, c .if1 .taken, sums a, a .before .round-up .ensures, one-shl (31 - l) (omega arith), below b) in
+    = omega (arith, c .if1 .taken, sums a, a .before .round-up-run .ensures, one-shl (31 - l) (omega arith), below b) in
     rw (lt-ltb (b .args .val + b .args .rng) (roundUp (b .args .val) (cell l) + cell l) t, add-one)
 
 returns-2 : tie.Need-returns-2
@@ -51,11 +51,11 @@ returns-2 c =
     let b = a .before .before in
     let l = leadingZeros 32 (b .args .rng) in
     let t : roundUp (b .args .val) (cell l) + cell l ≤ b .args .val + b .args .rng
-    = omega (arith, c .if1 .left, sums a, a .before .round-up .ensures, one-shl (31 - l) (omega arith), below b) in
+    = omega (arith, c .if1 .left, sums a, a .before .round-up-run .ensures, one-shl (31 - l) (omega arith), below b) in
     rw (le-ltb (b .args .val + b .args .rng) (roundUp (b .args .val) (cell l) + cell l) t)
 
-pub end-bits-spec : {M : Type 1} → statement M
-end-bits-spec =
+pub end-bits-run-spec : {M : Type 1} → statement M
+end-bits-run-spec =
     tie.close
     (tie.spec
-    sub-k round-up-requires (λ c κs. search needs) sub-left (λ c. search needs) add-result returns returns-2)
+    sub-k round-up-run-requires (λ c κs. search needs) sub-left (λ c. search needs) add-result returns returns-2)
