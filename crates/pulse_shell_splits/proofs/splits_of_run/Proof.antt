@@ -1,10 +1,10 @@
--- `splits_of` meets its contract: each sum is at most the whole. Assumes nothing.
+-- `splits_of_run` meets its contract: each sum is at most the whole. Assumes nothing.
 use borrow.Author.Needs.{needs}
 use Prim.Native.Nat.{_+_, _≤_}
 use native.Mathlib.Omega.{arith}
-use Rattle.pulse_shell_write.proofs.SplitLaws.{eight, placeOf, places-total, all-sums, left-sums}
-use Rattle.pulse_shell_write.proofs.splits_of.Statement.{statement}
-use Rattle.pulse_shell_write.proofs.splits_of.Tie as tie
+use Rattle.pulse_shell_splits.proofs.Sums.{eight, placeOf, places-total, all-sums, left-sums}
+use Rattle.pulse_shell_splits.proofs.splits_of_run.Statement.{statement}
+use Rattle.pulse_shell_splits.proofs.splits_of_run.Tie as tie
 
 -- what is known where 4, 8, 12 and 16 places are read
 abbrev fourth : tie.After-shared-slice-known4 → tie.Start
@@ -71,8 +71,8 @@ returns c =
     let s = b .args .x .now in
     (all-sums s (b .args .p) (b .pre .0) (b .pre .2), left-sums s (b .pre .0))
 
-pub splits-of-spec : {M : Type 1} → statement M
-splits-of-spec =
+pub splits-of-run-spec : {M : Type 1} → statement M
+splits-of-run-spec =
     tie.close
     (tie.spec (λ c. search needs) (λ c. search needs) add-a (λ c. search needs) (λ c. search needs) add-b
     (λ c. search needs) (λ c. search needs) add-c (λ c. search needs) (λ c. search needs) add-d (λ c. search needs)

@@ -1,47 +1,16 @@
--- The splits of a block that have pulses: those that have none say nothing. Assumes nothing.
+-- The parts that have pulses, gathered one after the other. Assumes nothing.
 use Prim.Native.Nat.{ℕ, _+_, _<_, _≤_}
 use mathlib.Core.Path.{_≡_, refl, sym, ap, _∙_}
 use mathlib.Core.Bool.{Bool, true, false, cond}
-use mathlib.Core.List.{List, [], _∷_, _++_, map, append-nil}
+use mathlib.Core.List.{List, [], _∷_, _++_, append-nil}
 use native.Mathlib.Omega.{arith}
 use borrow.Author.Tests.{eqb-true, eqb-false, eq-eqb, ne-eqb}
 use lib.Dec.{eqb}
 use lib.ListN.{getD, set, length-append, length-set, List·getD-append}
 use lib.Seq.{getD-set-same, getD-set-other, getD-append-add}
-use Rattle.deciding.proofs.Choice.{chosen, by-lt}
-use Rattle.entcode.specs.Models.{Sym}
-use Rattle.entcode.specs.Flat.{Out}
-use Rattle.tree.specs.Asks.{symbols}
-use Rattle.tree.specs.Inner.Told.{Told}
-use Rattle.silk.specs.PulseSyntax.{each, total, split, shell}
-use Rattle.pulse_shell_write.specs.Inner.{Part, partsOf, allOf, noPart, spoken, Stored, Sized, Gathered}
-use Rattle.pulse_shell_write.proofs.SplitLaws.{splitOf, itself, said, said-cons, shell-said}
-
--- ---- what is said
-
-silent : (y : List ℕ) (k c : ℕ) → c ≡ 0 → symbols y (split k c) ≡ []
-unfolding split symbols
-silent y k c e = rw e
-
-spoken-said : (qs : List Part) → said qs ≡ said (spoken qs)
-unfolding spoken
-spoken-said [] = refl
-spoken-said (q ∷ qs) =
-    chosen (λ (rs : List Part). said (q ∷ qs) ≡ said rs) (eqb (allOf q) 0)
-    (λ t. said-cons q qs ∙ ap (λ (l : List Sym). l ++ said qs) (silent (q .places) (q .table) (allOf q) (eqb-true _ _ t)) ∙ spoken-said qs)
-    (λ t.
-    said-cons q qs
-    ∙ ap (λ (l : List Sym). symbols (q .places) (split (q .table) (allOf q)) ++ l) (spoken-said qs)
-    ∙ sym (said-cons q (spoken qs)))
-
--- what was said of the parts with pulses was said of the shell
-pub shell-told : {o q : Out} {m : ℕ} (n c : ℕ) (y : List ℕ) → total y ≡ c
-    → let qs = spoken (partsOf n y) in
-    Told o qs (each noPart splitOf (map itself qs)) m q → Told o y (shell n c) m q
-shell-told n c y e t =
-    record { is = rw (shell-said n c y e, spoken-said (partsOf n y)) (t .is); core = t .core; least = t .least; most = t .most }
-
--- ---- one part after the other
+use Rattle.deciding.proofs.Choice.{by-lt}
+use Rattle.pulse_shell_splits.specs.Inner.{Part, allOf}
+use Rattle.pulse_shell_spoken.specs.Inner.{noPart, spoken, Stored, Sized, Gathered}
 
 either : (b : Bool) (q : Part) {xs : List Part} (ys zs : List Part) → xs ≡ ys ++ zs → cond b xs (q ∷ xs) ≡ cond b ys (q ∷ ys) ++ zs
 either true q ys zs e = e

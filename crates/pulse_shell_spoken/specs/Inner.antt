@@ -1,35 +1,16 @@
--- The splits of a block as a list of parts, and how code stores those that have pulses. Assumes nothing.
-use Prim.Native.Nat.{ℕ, zero, suc, _^_, _<_, _≤_, _+_, _*_}
-use mathlib.Core.List.{List, [], _∷_, _++_, flatten}
-use lib.ListN.{take, drop, length, getD}
-use Rattle.silk.specs.PulseSyntax.{total}
+-- The parts of a block that have pulses, and how code stores them. Assumes nothing.
+use Prim.Native.Nat.{ℕ, _<_, _≤_, _+_, _*_}
+use mathlib.Core.List.{List, [], _∷_, flatten}
+use lib.ListN.{length, getD}
 use mathlib.Core.Path.{_≡_}
 use mathlib.Core.Bool.{cond}
 use lib.Dec.{eqb}
 use Rattle.sheet.specs.Rows.{pulseRows}
 use Rattle.sheet.specs.Inner.{Stands}
-
--- 2^(table + 1) places
-pub record Part : Type 0 where
-  pub table : ℕ
-  pub places : List ℕ
-
--- a split, then those of its left half, then those of its right half
-unfoldable pub partsOf : ℕ → List ℕ → List Part
-partsOf zero y = []
-partsOf (suc k) y = record { table = k; places = y } ∷ (partsOf k (take (2 ^ k) y) ++ partsOf k (drop (2 ^ k) y))
-
--- all pulses, and those of the left half
-abbrev pub allOf : Part → ℕ
-allOf q = total (q .places)
-
-abbrev pub leftOf : Part → ℕ
-leftOf q = total (take (2 ^ q .table) (q .places))
+use Rattle.pulse_shell_splits.specs.Inner.{Part, allOf, leftOf}
 
 abbrev pub noPart : Part
 noPart = record { table = 0; places = [] }
-
--- ---- what a part has
 
 -- a part of 2^n places with at most m pulses
 pub record Within (n m : ℕ) (q : Part) : Type 0 where

@@ -1,8 +1,8 @@
 -- `counted` meets its contract. Assumes nothing.
 use borrow.Author.Needs.{needs}
 use borrow.Author.Tests.{eq-eqb, ne-eqb}
-use Rattle.pulse_shell_write.proofs.counted.Statement.{statement}
-use Rattle.pulse_shell_write.proofs.counted.Tie as tie
+use Rattle.pulse_shell_spoken.proofs.counted.Statement.{statement}
+use Rattle.pulse_shell_spoken.proofs.counted.Tie as tie
 
 returns : tie.Need-returns
 returns c = rw (eq-eqb (c .before .args .c) 0 (c .if1 .taken))

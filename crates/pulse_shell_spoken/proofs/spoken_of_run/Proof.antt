@@ -1,4 +1,4 @@
--- `spoken_of` meets its contract. The invariant: the parts with pulses among the first k are gathered. Assumes nothing.
+-- `spoken_of_run` meets its contract. The invariant: the parts with pulses among the first k are gathered. Assumes nothing.
 use borrow.Author.Needs.{needs}
 use Prim.Native.Nat.{ℕ, _+_, _-_, _<_, _≤_}
 use native.Mathlib.Omega.{arith}
@@ -8,11 +8,12 @@ use lib.Dec.{eqb}
 use lib.ListN.{length, getD, take}
 use lib.Seq.{take-all, take-suc}
 use Rattle.deciding.proofs.Choice.{chosen}
-use Rattle.pulse_shell_write.specs.Inner.{partsOf, noPart, spoken, Gathered}
-use Rattle.pulse_shell_write.proofs.SplitLaws.{At, part-at, parts-length}
-use Rattle.pulse_shell_write.proofs.Spoken.{gathered-none, gathered-next}
-use Rattle.pulse_shell_write.proofs.spoken_of.Statement.{statement}
-use Rattle.pulse_shell_write.proofs.spoken_of.Tie as tie
+use Rattle.pulse_shell_splits.specs.Inner.{partsOf}
+use Rattle.pulse_shell_spoken.specs.Inner.{noPart, spoken, Gathered}
+use Rattle.pulse_shell_spoken.proofs.Parts.{At, part-at, parts-length}
+use Rattle.pulse_shell_spoken.proofs.Gather.{gathered-none, gathered-next}
+use Rattle.pulse_shell_spoken.proofs.spoken_of_run.Statement.{statement}
+use Rattle.pulse_shell_spoken.proofs.spoken_of_run.Tie as tie
 
 record Gathering (y start all left : List ℕ) (n k : ℕ) : Type 0 where
   pub are : Gathered (spoken (take k (partsOf 4 y))) start all left n
@@ -25,20 +26,20 @@ Inv-loop start₀ all₀ left₀ x p tables s n₀ k₀ start all left n k = Gat
 abbrev μ-loop : tie.MeasureT-loop
 μ-loop start₀ all₀ left₀ x p tables s n₀ k₀ start all left n k = 15 - k
 
-splits-of-requires : tie.Need-splits-of-requires Inv-loop μ-loop
-splits-of-requires c κs = c .before .before .before .before .pre .1
+splits-of-run-requires : tie.Need-splits-of-run-requires Inv-loop μ-loop
+splits-of-run-requires c κs = c .before .before .before .before .pre .1
 
 abbrev start : tie.At-loop Inv-loop μ-loop → tie.Start Inv-loop μ-loop
 start l = l .before .before .before .before .before .before
 
 -- the part at hand
 part : (c : tie.In-loop Inv-loop μ-loop)
-    → let s = c .before .before .splits-of .result in
+    → let s = c .before .before .splits-of-run .result in
     let y = start (c .before) .args .x .now in
     At y (s .all) (s .left) (c .before .loop .k) (getD (partsOf 4 y) (c .before .loop .k) noPart)
 part c =
     let b = start (c .before) in
-    let s = c .before .before .splits-of in
+    let s = c .before .before .splits-of-run in
     part-at (b .args .x .now) (s .result .all) (s .result .left) (c .before .loop .k) (c .loop-test .taken) (omega (arith, b .pre .1 .1, b .pre .1 .2))
     (s .ensures .0) (s .ensures .1)
 
@@ -82,7 +83,7 @@ loop-again c =
     let y = start (b .before) .args .x .now in
     let ps = partsOf 4 y in
     let q = getD ps (l .k) noPart in
-    let n = getD (b .before .before .splits-of .result .all) (l .k) 0 in
+    let n = getD (b .before .before .splits-of-run .result .all) (l .k) 0 in
     let m : l .k < length ps = omega (arith, parts-length y, b .loop-test .taken) in
     record {
       are = rw (add-one, take-suc ps (l .k) noPart m, c .counted .ensures)
@@ -115,10 +116,10 @@ returns c =
     let y = start (c .before) .args .x .now in
     rw (take-all (l .k) (partsOf 4 y) (omega (arith, parts-length y, c .loop-test .left, l .inv .to))) at (l .inv .are)
 
-pub spoken-of-spec : {M : Type 1} → statement M
-spoken-of-spec =
+pub spoken-of-run-spec : {M : Type 1} → statement M
+spoken-of-run-spec =
     tie.close
-    (tie.spec Inv-loop μ-loop splits-of-requires loop-holds (λ c. search needs) (λ c. search needs) cast-split-start-run
+    (tie.spec Inv-loop μ-loop splits-of-run-requires loop-holds (λ c. search needs) (λ c. search needs) cast-split-start-run
     cast-split-start-run-2 split-start-run-requires mul-start slice-write-start slice-write-all (λ c. search needs)
     slice-write-left counted-requires (λ c. search needs) (λ c. search needs) loop-again same-length same-length-2
     same-length-3 returns)
