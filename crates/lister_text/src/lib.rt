@@ -1,5 +1,4 @@
 // What the frame lister prints for an input, put into a lent buffer.
-ghost use Prim.Native.Nat.{_+_, _*_};
 ghost use mathlib.Core.Path.{_≡_};
 ghost use Rattle.listing.specs.Printed.{printed};
 ghost use Rattle.sections.specs.Values.{byteAt};

@@ -1,7 +1,7 @@
 // The splits of a block's pulses, added up (RFC 6716, section 4.2.7.8.3), as by the crate's combine_pulses.
 ghost use mathlib.Core.Path.{_≡_};
 ghost use mathlib.Core.List.{map};
-ghost use Prim.Native.Nat.{_+_, _≤_};
+ghost use Prim.Native.Nat.{_≤_};
 ghost use lib.ListN.{length};
 ghost use Rattle.silk.specs.PulseSyntax.{total};
 ghost use Rattle.pulse_shell_splits.specs.Inner.{partsOf, allOf, leftOf};

@@ -1,4 +1,4 @@
--- `decode_split` meets its contract: no question for no pulses, else one by the row of p pulses. Assumes nothing.
+-- `decode_split_run` meets its contract: no question for no pulses, else one by the row of p pulses. Assumes nothing.
 use borrow.Author.Needs.{needs}
 use Prim.Native.Nat.{_+_, _*_}
 use native.Mathlib.Omega.{arith}
@@ -8,8 +8,8 @@ use Rattle.sheet.specs.Inner.{Stands}
 use Rattle.sheet.proofs.Places.{stands-in, lent}
 use Rattle.sheet.proofs.SheetRule.{row-good}
 use Rattle.silk.proofs.PulseSteps.{split-none, split-some}
-use Rattle.pulse_shell_read.proofs.decode_split.Statement.{statement}
-use Rattle.pulse_shell_read.proofs.decode_split.Tie as tie
+use Rattle.pulse_shell_halves.proofs.decode_split_run.Statement.{statement}
+use Rattle.pulse_shell_halves.proofs.decode_split_run.Tie as tie
 
 abbrev start : tie.After-split-start-run → tie.Start
 start c = c .before .before .before .before
@@ -42,8 +42,8 @@ returns-2 c =
     let e = lent _ s refl in
     (split-some (b .args .table) (b .args .p) (omega arith) e a, omega (arith, a .inside, ap length e ∙ s .size))
 
-pub decode-split-spec : {M : Type 1} → statement M
-decode-split-spec =
+pub decode-split-run-spec : {M : Type 1} → statement M
+decode-split-run-spec =
     tie.close
     (tie.spec returns (λ c κs. search needs) (λ c. search needs) add-end-2 (λ c. search needs) (λ c. search needs)
     part-ec-dec-icdf8-run-end ec-dec-icdf8-run-requires returns-2)

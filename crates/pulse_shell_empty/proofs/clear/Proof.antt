@@ -6,9 +6,9 @@ use mathlib.Core.List.{List}
 use native.Mathlib.Omega.{arith}
 use lib.IntN.{ℤ, pos}
 use lib.ListN.{length, set, length-set}
-use Rattle.pulse_shell_read.proofs.Empty.{cleared, cleared-next, all-cleared}
-use Rattle.pulse_shell_read.proofs.clear.Statement.{statement}
-use Rattle.pulse_shell_read.proofs.clear.Tie as tie
+use Rattle.pulse_shell_empty.proofs.Empty.{cleared, cleared-next, all-cleared}
+use Rattle.pulse_shell_empty.proofs.clear.Statement.{statement}
+use Rattle.pulse_shell_empty.proofs.clear.Tie as tie
 
 abbrev Inv-loop : tie.InvT-loop
 Inv-loop places₀ k₀ k-end places k = (k ≤ k-end) × (places ≡ cleared k places₀) × (length places ≡ length places₀)

@@ -9,8 +9,8 @@ use lib.ListN.{length, set}
 use mir.Facts.{toZ-pos}
 use mir.Syntax.{w16}
 use Rattle.silk.proofs.PulseSteps.{one-place, halves}
-use Rattle.pulse_shell_read.proofs.shell_2.Statement.{statement}
-use Rattle.pulse_shell_read.proofs.shell_2.Tie as tie
+use Rattle.pulse_shell_halves.proofs.shell_2.Statement.{statement}
+use Rattle.pulse_shell_halves.proofs.shell_2.Tie as tie
 
 both-set : (s : List ℤ) (x y : ℤ) → length s ≡ 2 → set (set s 0 x) 1 y ≡ x ∷ (y ∷ [])
 both-set [] x y e = absurd (omega arith)
@@ -21,9 +21,9 @@ both-set (a ∷ (b ∷ (c ∷ s))) x y e = absurd (omega arith)
 returns : tie.Need-returns
 returns c =
     let b = c .before .before .before .before in
-    let l = c .before .decode-split .result .value in
+    let l = c .before .decode-split-run .result .value in
     let h : b .args .p ≤ 16 = b .pre .1 .1 .1 .0 in
-    let a = c .before .decode-split .ensures in
+    let a = c .before .decode-split-run .ensures in
     rw (both-set (b .args .places .now) _ _ (b .pre .1 .1 .1 .1), toZ-pos w16 {n = l} (omega (arith, a .1)), toZ-pos w16 {n = b .args .p - l} (omega arith))
     (halves 0 (b .args .p) (a .0) (one-place l (a .0 .core)) (one-place (b .args .p - l) (a .0 .core)))
 
