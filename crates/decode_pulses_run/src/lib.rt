@@ -44,7 +44,8 @@ fn lows(packet: &[u8], from: Dec, rows: &[u8], x: BlocksRead, pulses: &mut [i16]
     requires { ⌜ from .total ≤ 2 ^ 26 ⌝ }
     requires { ⌜ PulseRows (now rows) ⌝ }
     requires { ⌜ (n ≤ 20) × AtMost 10 (x .lows) × Held Small n (now pulses) ⌝ }
-    ensures { λ z. ⌜ Lowered (now (packet .entry)) from (x .counts) (x .lows) (rows16 n (mags (now (pulses .entry)))) n (now (pulses .exit)) z ⌝ }
+    ensures { λ z.
+        ⌜ Lowered (now (packet .entry)) from (x .counts) (x .lows) (rows16 n (mags (now (pulses .entry)))) n (now (pulses .exit)) z ⌝ }
 {
     let mut d = from;
     let mut i: usize = 0;

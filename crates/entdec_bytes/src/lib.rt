@@ -4,7 +4,8 @@
 ghost use mathlib.Core.Path.{_≡_};
 ghost use Prim.Native.Nat.{_+_, _-_, _/_, _%_, _^_, _<_, _≤_};
 ghost use lib.ListN.{length};
-ghost use Rattle.entcode.specs.Reader.{byteAt, lastOf, after, shiftR, settled, opened, cutDown, fetch, fetches, fill, rawVal, dropBits, rawNext};
+ghost use Rattle.entcode.specs.Reader.{byteAt, lastOf, after, shiftR, settled, opened, cutDown};
+ghost use Rattle.entcode.specs.Reader.{fetch, fetches, fill, rawVal, dropBits, rawNext};
 ghost use Rattle.entcode.specs.Reading.{gives};
 ghost use Rattle.entcode.specs.Inner.Reading.{Core};
 ghost use Rattle.entdec_bytes.specs.Inner.{Turning, Windowed};

@@ -1,2 +1,1 @@
-pub mod SplitLaws
-pub mod Spoken
+pub mod Said

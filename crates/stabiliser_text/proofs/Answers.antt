@@ -12,7 +12,7 @@ use Rattle.spectrum.specs.Calls.{Called, answered, lengthsOk, stabiliseRefusal,
 use Rattle.spectrum.specs.Gaps.{goodGaps}
 use Rattle.spectrum.proofs.CallLaws.{lengths-are, stabilise-accepted}
 use Rattle.spectrum.proofs.Promises.{stabilise-moves}
-use Rattle.stabiliser_text.specs.Inner.{Small}
+use Rattle.stabiliser_text_answer.specs.Inner.{Small}
 
 refusals : (v g : List ℤ) → stabiliseRefusal v g ≤ 7
 unfolding stabiliseRefusal

@@ -13,7 +13,8 @@ use Rattle.spectrum.specs.Distances.{diffs, least, firstLeast, keeps, place, lo
 use Rattle.spectrum.specs.Gaps.{goodGaps}
 use Rattle.spectrum.specs.Stabilising.{run, stabilise}
 use Rattle.spectrum.specs.Values.{maxZ, minZ, held, total}
-use Rattle.stabiliser_text.specs.StabiliserText.{answerText, stabiliserText}
+use Rattle.stabiliser_text_answer.specs.StabiliserAnswer.{answerText}
+use Rattle.stabiliser_text.specs.StabiliserText.{stabiliserText}
 
 pub record Case : Type 0 where
   pub input : List ℕ

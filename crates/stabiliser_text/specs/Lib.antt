@@ -1,2 +1,1 @@
 pub mod StabiliserText
-pub mod Inner

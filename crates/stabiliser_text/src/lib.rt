@@ -4,28 +4,10 @@ ghost use mathlib.Core.Path.{_≡_};
 ghost use lib.ListN.{length};
 ghost use Rattle.numerals.specs.Inner.{Put};
 ghost use Rattle.listing.specs.Printed.{printed};
-ghost use Rattle.stabiliser_text.specs.Inner.{Small};
-ghost use Rattle.stabiliser_text.specs.StabiliserText.{answerText, sectionsText, stabiliserText};
-use listing::put_counted_run;
-use listing::put_line_run;
+ghost use Rattle.stabiliser_text.specs.StabiliserText.{sectionsText, stabiliserText};
 use listing::put_refused_run;
 use sections::byte_at;
 use sections::fill_run;
-use spectrum::Moves;
-
-fn put_answer(out: &mut [u8], a: Moves, vector: &[i16]) -> usize
-    requires { ⌜ 256 ≤ length (now out) ⌝ }
-    requires { ⌜ Small (length (now vector)) a ⌝ }
-    ensures { λ n.
-        ⌜ Put 256 (now (out .entry)) 0 (answerText (record { vector = now (vector .entry); answer = a })) (now (out .exit)) n ⌝ }
-{
-    if a.refusal == 0 {
-        let moves = [a.moves as i16];
-        let place = put_line_run(out, 0, b"rounds", &moves);
-        return put_counted_run(out, place, b"vector", vector);
-    }
-    put_refused_run(out, 0, a.refusal)
-}
 
 // The two sections of a whole input, stabilised.
 fn put_stabilised(out: &mut [u8], vector: &mut [i16], gaps: &mut [i16], input: &[u8]) -> usize
@@ -39,7 +21,7 @@ fn put_stabilised(out: &mut [u8], vector: &mut [i16], gaps: &mut [i16], input: &
     fill_run(vector, input, 1);
     fill_run(gaps, input, behind);
     let a = nlsf_stabilize::silk_NLSF_stabilize(vector, gaps);
-    put_answer(out, a, vector)
+    stabiliser_text_answer::put_answer_run(out, a, vector)
 }
 
 // As many as a count of one byte can say.

@@ -17,8 +17,8 @@ use Rattle.entenc_finish.proofs.ec_enc_done_run.Tie as tie
 enough : (c : tie.Start) → Enough (c .args .w .rng) (c .args .w .val) (bitsOf (c .args .w .rng) (c .args .w .val))
 enough c = bits-enough (c .args .w .rng) (c .args .w .val) (c .pre .above) (c .pre .most)
 
-nine : (c : tie.After-end-bits) → c .end-bits .result ≤ 9
-nine c = omega (arith, enough (c .before .before) .few, c .end-bits .ensures)
+nine : (c : tie.After-end-bits-run) → c .end-bits-run .result ≤ 9
+nine c = omega (arith, enough (c .before .before) .few, c .end-bits-run .ensures)
 
 -- the coded part, from the numbers that the code computed
 front : (o q : Out) (l e d : ℕ) → l ≡ bitsOf (o .state .rng) (o .state .val) → e ≡ roundUp (o .state .val) (2 ^ (31 - l)) → d ≡ (l + 7) / 8
@@ -29,37 +29,37 @@ front o q l e d p r s t =
     t ∙ ap₂ (digitsOut o) y x ∙ digits-front o
 
 -- where the digits are out: the bits chosen, the start, and the coded part
-abbrev chosen : tie.After-put-digits → tie.After-end-bits
+abbrev chosen : tie.After-put-digits-run → tie.After-end-bits-run
 chosen c = c .before .before .before
 
-abbrev begun : tie.After-put-digits → tie.Start
+abbrev begun : tie.After-put-digits-run → tie.Start
 begun c = c .before .before .before .before .before
 
-abbrev start : tie.After-put-digits → Out
+abbrev start : tie.After-put-digits-run → Out
 start c = out (begun c .args .buf .now) (begun c .args .w)
 
-coded : (c : tie.After-put-digits) → out (c .put-digits .last .0) (c .put-digits .result) ≡ fronted (start c)
-coded c = front (start c) _ _ _ _ (chosen c .end-bits .ensures) (c .before .before .round-up .ensures) refl (c .put-digits .ensures)
+coded : (c : tie.After-put-digits-run) → out (c .put-digits-run .last .0) (c .put-digits-run .result) ≡ fronted (start c)
+coded c = front (start c) _ _ _ _ (chosen c .end-bits-run .ensures) (c .before .before .round-up-run .ensures) refl (c .put-digits-run .ensures)
 
 -- where the window's bytes are out
-abbrev digits : tie.After-flush-all-run → tie.After-put-digits
+abbrev digits : tie.After-flush-all-run → tie.After-put-digits-run
 digits c = c .before .before .before .before
 
-sub-round-up : tie.Need-sub-round-up
-sub-round-up c = omega (arith, nine c)
+sub-round-up-run : tie.Need-sub-round-up-run
+sub-round-up-run c = omega (arith, nine c)
 
-round-up-requires : tie.Need-round-up-requires
-round-up-requires c κs =
+round-up-run-requires : tie.Need-round-up-run-requires
+round-up-run-requires c κs =
     let b = c .before .before in
-    let e : cell (c .end-bits .result) ≡ cell (bitsOf (b .args .w .rng) (b .args .w .val))
-    = ap (λ (l : ℕ). cell l) (c .end-bits .ensures) in
+    let e : cell (c .end-bits-run .result) ≡ cell (bitsOf (b .args .w .rng) (b .args .w .val))
+    = ap (λ (l : ℕ). cell l) (c .end-bits-run .ensures) in
     (omega arith, omega (arith, enough b .low, enough b .high, b .pre .fits))
 
 add-digits : tie.Need-add-digits
 add-digits c = omega (arith, nine (c .before))
 
-put-digits-requires : tie.Need-put-digits-requires
-put-digits-requires c κs =
+put-digits-run-requires : tie.Need-put-digits-run-requires
+put-digits-run-requires c κs =
     let b = c .before .before .before .before in
     (b .pre .roomy, (b .pre .held, omega (arith, b .pre .tidy, b .pre .few, nine (c .before .before))))
 
@@ -68,14 +68,14 @@ flush-all-run-requires c κs =
     let p = c .before .before .before in
     subst Windowed (sym (coded p)) (front-windowed (start p) (begun p .pre))
 
-mul-close : tie.Need-mul-close
-mul-close c = omega (arith, nine (chosen (digits (c .before .before .before))))
+mul-close-run : tie.Need-mul-close-run
+mul-close-run c = omega (arith, nine (chosen (digits (c .before .before .before))))
 
-sub-close : tie.Need-sub-close
-sub-close c = omega arith
+sub-close-run : tie.Need-sub-close-run
+sub-close-run c = omega arith
 
-close-requires : tie.Need-close-requires
-close-requires c κs =
+close-run-requires : tie.Need-close-run-requires
+close-run-requires c κs =
     let f = c .before .before .before in
     let l = f .flush-all-run .ensures in
     (l .windowed, (omega (arith, l .free), omega (arith, nine (chosen (digits f)))))
@@ -84,11 +84,11 @@ returns : tie.Need-returns
 returns c =
     let f = c .before .before .before .before .before .before in
     let o = start (digits f) in
-    let l = chosen (digits f) .end-bits in
+    let l = chosen (digits f) .end-bits-run in
     let j = 8 * ((l .result + 7) / 8) - l .result in
     let e : j ≡ spareBits (bitsOf (o .state .rng) (o .state .val)) = ap spareBits (l .ensures) in
     ap (λ (q : Out). atWindow q (o .state .window) (o .state .wbits) (q .state .total))
-    (c .before .before .close .ensures
+    (c .before .before .close-run .ensures
     ∙ ap (λ (q : Out). closed q j) (f .flush-all-run .ensures .is ∙ ap flushed (coded (digits f)))
     ∙ ap (λ (i : ℕ). closed (flushed (fronted o)) i) e)
     ∙ finished-is o
@@ -96,5 +96,5 @@ returns c =
 pub ec-enc-done-run-spec : {M : Type 1} → statement M
 ec-enc-done-run-spec =
     tie.close
-    (tie.spec (λ c κs. search needs) sub-round-up round-up-requires add-digits put-digits-requires flush-all-run-requires
-    mul-close sub-close close-requires (λ c. search needs) returns)
+    (tie.spec (λ c κs. search needs) sub-round-up-run round-up-run-requires add-digits put-digits-run-requires flush-all-run-requires
+    mul-close-run sub-close-run close-run-requires (λ c. search needs) returns)

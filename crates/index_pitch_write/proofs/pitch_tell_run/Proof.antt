@@ -1,14 +1,20 @@
 -- `index_pitch_write::pitch_tell_run` meets its contract: lag, contour, filters, scale. Assumes nothing.
 use borrow.Author.Needs.{needs}
 use Prim.Native.Nat.{ℕ, _+_, _^_, _≤_}
+use mathlib.Core.Path.{_≡_, refl}
+use mathlib.Core.Bool.{Bool}
 use mathlib.Core.List.{List}
 use native.Mathlib.Omega.{arith}
+use lib.IntN.{ℤ}
 use Rattle.entcode.specs.declared.Enc.{Enc}
-use Rattle.entcode.specs.Flat.{out}
+use Rattle.entcode.specs.Flat.{Out, out}
+use Rattle.tree.specs.Inner.Told.{Told}
 use Rattle.tree.proofs.Says.{says-means}
 use Rattle.tree.proofs.Told.{told-then}
+use Rattle.silk.specs.declared.Indices.{Indices}
+use Rattle.silk.specs.declared.Setting.{Setting}
 use Rattle.silk.specs.Inner.Indices.{Writing}
-use Rattle.silk.specs.IndexSyntax.{relativeLag, pitch}
+use Rattle.silk.specs.IndexSyntax.{lag, relativeLag, pitch}
 use Rattle.silk.specs.Record.{Shape}
 use Rattle.silk.proofs.IndexSays.{lag-says, contour-says, period-says}
 use Rattle.silk.proofs.IndexTold.{writing-next}
@@ -23,49 +29,54 @@ shape z = record { gains = search needs; ltp = search needs; nlsf = search needs
 abbrev Ready : tie.Start → List ℕ → Enc → ℕ → Type 0
 Ready z b w n = Writing (out b w) (z .args .rows .now) n
 
-abbrev lag-start : tie.After-lag-tell → tie.Start
+abbrev lag-start : tie.After-lag-tell-run → tie.Start
 lag-start c = c .before .before .before .before .before .before
 
-lag-told : (c : tie.After-lag-tell) (n : ℕ) → 2 ^ 27 + 48 ≤ n → Ready (lag-start c) (c .lag-tell .last .0) (c .lag-tell .result) n
-lag-told c n h = let z = lag-start c in writing-next n (z .pre .0) (c .lag-tell .ensures (z .args .s .prevlag)) h
+lag-told : (c : tie.After-lag-tell-run) (n : ℕ) → 2 ^ 27 + 48 ≤ n → Ready (lag-start c) (c .lag-tell-run .last .0) (c .lag-tell-run .result) n
+lag-told c n h = let z = lag-start c in writing-next n (z .pre .0) (c .lag-tell-run .ensures (z .args .s .prevlag)) h
 
-abbrev contour-lag : tie.After-contour-tell → tie.After-lag-tell
+abbrev contour-lag : tie.After-contour-tell-run → tie.After-lag-tell-run
 contour-lag c = c .before .before .before .before
 
-contour-told : (c : tie.After-contour-tell) (n : ℕ) → 2 ^ 27 + 64 ≤ n
-    → Ready (lag-start (contour-lag c)) (c .contour-tell .last .0) (c .contour-tell .result) n
-contour-told c n h = writing-next n (lag-told (contour-lag c) (2 ^ 27 + 48) (omega arith)) (c .contour-tell .ensures) h
+contour-told : (c : tie.After-contour-tell-run) (n : ℕ) → 2 ^ 27 + 64 ≤ n
+    → Ready (lag-start (contour-lag c)) (c .contour-tell-run .last .0) (c .contour-tell-run .result) n
+contour-told c n h = writing-next n (lag-told (contour-lag c) (2 ^ 27 + 48) (omega arith)) (c .contour-tell-run .ensures) h
 
-abbrev period-contour : tie.After-period-tell → tie.After-contour-tell
+abbrev period-contour : tie.After-period-tell-run → tie.After-contour-tell-run
 period-contour c = c .before .before .before .before
 
-period-told : (c : tie.After-period-tell) (n : ℕ) → 2 ^ 27 + 144 ≤ n
-    → Ready (lag-start (contour-lag (period-contour c))) (c .period-tell .last .0) (c .period-tell .result) n
-period-told c n h = writing-next n (contour-told (period-contour c) (2 ^ 27 + 64) (omega arith)) (c .period-tell .ensures) h
+period-told : (c : tie.After-period-tell-run) (n : ℕ) → 2 ^ 27 + 144 ≤ n
+    → Ready (lag-start (contour-lag (period-contour c))) (c .period-tell-run .last .0) (c .period-tell-run .result) n
+period-told c n h = writing-next n (contour-told (period-contour c) (2 ^ 27 + 64) (omega arith)) (c .period-tell-run .ensures) h
 
 -- ---- the calls
 
-lag-tell-requires : tie.Need-lag-tell-requires
-lag-tell-requires c κs =
+lag-tell-run-requires : tie.Need-lag-tell-run-requires
+lag-tell-run-requires c κs =
     let z = c .before .before .before .before .before in
     (record { core = z .pre .0 .core; few = omega (arith, z .pre .0 .few); rows = z .pre .0 .rows }, (z .pre .1 .0, z .pre .1 .2 .lag))
 
-contour-tell-requires : tie.Need-contour-tell-requires
-contour-tell-requires c κs =
+contour-tell-run-requires : tie.Need-contour-tell-run-requires
+contour-tell-run-requires c κs =
     let l = c .before .before .before in
     let t = lag-start l .pre .1 in
     (lag-told l (2 ^ 29) (omega arith), (t .0, t .1, t .2 .contour))
 
-period-tell-requires : tie.Need-period-tell-requires
-period-tell-requires c κs =
+period-tell-run-requires : tie.Need-period-tell-run-requires
+period-tell-run-requires c κs =
     let k = c .before .before .before in
     let t = lag-start (contour-lag k) .pre .1 in
     (contour-told k (2 ^ 28) (omega arith), ((t .1, t .2 .period), t .2 .filters))
 
-scale-tell-requires : tie.Need-scale-tell-requires
-scale-tell-requires c κs =
+scale-tell-run-requires : tie.Need-scale-tell-run-requires
+scale-tell-run-requires c κs =
     let p = c .before .before .before in
     (period-told p (2 ^ 29) (omega arith), lag-start (contour-lag (period-contour p)) .pre .1 .2 .scale)
+
+-- the lag is relative where the setting says so
+as-set : (s : Setting) (khz : ℕ) (before : ℤ) {o q : Out} {x : Indices} {relative : Bool} {n : ℕ} → Told o x (lag relative khz before x) n q
+    → relative ≡ relativeLag s → Told o x (lag (relativeLag s) khz before x) n q
+as-set s khz before t e = rw e at t
 
 returns : tie.Need-returns
 unfolding pitch
@@ -78,17 +89,17 @@ returns c =
     let s = z .args .s in
     let t = z .pre .1 in
     told-then _ (says-means (lag-says (relativeLag s) (s .khz) (s .prevlag) x (t .0) (t .2 .lag)))
-    (l .lag-tell .ensures (s .prevlag))
-    (told-then _ (says-means (contour-says s x (t .0) (t .1) (shape z) (t .2))) (k .contour-tell .ensures)
-    (told-then _ (says-means (period-says s x (t .0) (t .1) (shape z) (t .2))) (p .period-tell .ensures) (c .before .before .scale-tell .ensures)))
+    (as-set s (s .khz) (s .prevlag) (l .lag-tell-run .ensures (s .prevlag)) refl)
+    (told-then _ (says-means (contour-says s x (t .0) (t .1) (shape z) (t .2))) (k .contour-tell-run .ensures)
+    (told-then _ (says-means (period-says s x (t .0) (t .1) (shape z) (t .2))) (p .period-tell-run .ensures) (c .before .before .scale-tell-run .ensures)))
 
 pub pitch-tell-run-spec : {M : Type 1} → statement M
 pitch-tell-run-spec =
     tie.close
     (tie.spec
-    lag-tell-requires
-    contour-tell-requires
-    period-tell-requires
-    scale-tell-requires
+    lag-tell-run-requires
+    contour-tell-run-requires
+    period-tell-run-requires
+    scale-tell-run-requires
     (λ c. search needs)
     returns)

@@ -2,7 +2,7 @@
 use borrow.Author.Needs.{needs, sfits-of}
 use borrow.Author.Tests.{eqb-true}
 use Prim.Native.Nat.{ℕ, _+_, _-_, _≤_}
-use mathlib.Core.Path.{_≡_, sym, ap₂, _∙_}
+use mathlib.Core.Path.{_≡_, refl, sym, ap₂, _∙_}
 use mathlib.Core.Bool.{true, false}
 use mathlib.Core.List.{List}
 use native.Mathlib.Omega.{arith}
@@ -19,7 +19,8 @@ use Rattle.listing.specs.Lines.{refusedText}
 use Rattle.listing.proofs.PrintedLaws.{printed-put}
 use Rattle.sections.specs.Values.{byteAt, pairAt, valueAt}
 use Rattle.silk.specs.declared.Setting.{Setting}
-use Rattle.lister_text.specs.ListerText.{settingAt, whole, frameText, listerText}
+use Rattle.lister_text_frame.specs.ListedFrame.{frameText}
+use Rattle.lister_text.specs.ListerText.{settingAt, whole, listerText}
 use Rattle.lister_text.proofs.lister_text.Statement.{statement}
 use Rattle.lister_text.proofs.lister_text.Tie as tie
 
@@ -40,24 +41,28 @@ put-whole s {q} h e t =
     let p = take-all (length s - 10) (drop 10 s) (omega (arith, length-drop 10 s)) in
     rw h (put-as t (ap₂ frameText p e) (omega arith))
 
-put-cut : (s : List ℕ) {l b : List ℕ} {i : ℕ} → whole s ≡ false → Put 15 l 0 (refusedText 9) b i → Put 15 l 0 (listerText s) b i
+put-cut : (s : List ℕ) {l b : List ℕ} {n i : ℕ} → whole s ≡ false → Put 15 l 0 (refusedText n) b i → n ≡ 9 → Put 15 l 0 (listerText s) b i
 unfolding listerText
-put-cut s h t = rw h t
+put-cut s h t e = rw h (rw e at t)
+
+-- where the input is whole, and where all its numbers are read
+abbrev start : tie.Then1 → tie.Start
+start t = t .before .before .before
+
+abbrev tested : tie.After-value-at-run → tie.Then1
+tested v = v .before .before .before .before .before .before
+
+is-whole : (t : tie.Then1) → whole (start t .args .input .now) ≡ true
+is-whole t = sym (t .before .whole .ensures) ∙ t .if1 .taken
 
 value-at-run-requires : tie.Need-value-at-run-requires
 value-at-run-requires c κs =
     let t = c .before .before .before .before .before in
-    omega (arith, long (t .before .before .before .args .input .now) (sym (t .before .whole .ensures) ∙ t .if1 .taken))
+    omega (arith, long (start t .args .input .now) (is-whole t))
 
-sub-put-read : tie.Need-sub-put-read
-sub-put-read c =
-    let t = c .before .before .before .before .before .before .before in
-    long (t .before .before .before .args .input .now) (sym (t .before .whole .ensures) ∙ t .if1 .taken)
-
-part-put-read-start : tie.Need-part-put-read-start
-part-put-read-start c =
-    let t = c .before .before .before .before .before .before .before in
-    long (t .before .before .before .args .input .now) (sym (t .before .whole .ensures) ∙ t .if1 .taken)
+-- the packet begins inside of the input
+inside : (v : tie.After-value-at-run) → 10 ≤ length (start (tested v) .args .input .now)
+inside v = long (start (tested v) .args .input .now) (is-whole (tested v))
 
 returns : tie.Need-returns
 returns c =
@@ -66,22 +71,22 @@ returns c =
     let t3 = t4 .before in
     let t2 = t3 .before in
     let t1 = t2 .before in
-    let t = t1 .before in
-    let s = t .before .before .before .args .input .now in
+    let t = tested v in
+    let s = start t .args .input .now in
     let e =
     same s (t1 .number-at .ensures) (t2 .number-at2 .ensures) (t3 .number-at3 .ensures) (t4 .number-at4 .ensures) (v .before .number-at5 .ensures)
     (toZ-ofZ {w = w16} (sfits-of (v .value-at-run .ok)) ∙ v .value-at-run .ensures) in
-    printed-put (put-whole s (sym (t .before .whole .ensures) ∙ t .if1 .taken) e (c .put-read .ensures)) (omega (arith, c .before .before .put-read-arg .given .0 .1))
+    printed-put (put-whole s (is-whole t) e (c .put-read-run .ensures)) (omega (arith, c .before .before .put-read-run-arg .given .0 .1))
 
 returns-2 : tie.Need-returns-2
 returns-2 c =
     let t = c .before .before in
     let s = t .before .before .before .args .input .now in
-    printed-put (put-cut s (sym (t .before .whole .ensures) ∙ t .if1 .left) (c .put-refused-run .ensures)) (search needs)
+    printed-put (put-cut s (sym (t .before .whole .ensures) ∙ t .if1 .left) (c .put-refused-run .ensures) refl) (search needs)
 
 pub lister-text-spec : {M : Type 1} → statement M
 lister-text-spec =
     tie.close
     (tie.spec (λ c κs. search needs) (λ c κs. search needs) (λ c κs. search needs) (λ c κs. search needs)
-    (λ c κs. search needs) (λ c κs. search needs) value-at-run-requires sub-put-read part-put-read-start
+    (λ c κs. search needs) (λ c κs. search needs) value-at-run-requires (λ c. inside (c .before)) (λ c. inside (c .before))
     (λ c. search needs) (λ c κs. search needs) returns (λ c κs. search needs) returns-2)

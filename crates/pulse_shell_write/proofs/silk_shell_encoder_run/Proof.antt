@@ -12,9 +12,9 @@ use Rattle.sheet.specs.Inner.{Stands}
 use Rattle.sheet.proofs.Places.{stands-in, lent}
 use Rattle.sheet.proofs.DirectoryLaws.{rowCount}
 use Rattle.sheet.proofs.SheetRule.{row-good, row-writable}
-use Rattle.pulse_shell_write.specs.Inner.{Part, partsOf, allOf, noPart, spoken, Stored}
-use Rattle.pulse_shell_write.proofs.SplitLaws.{splitOf, itself}
-use Rattle.pulse_shell_write.proofs.Spoken.{shell-told}
+use Rattle.pulse_shell_splits.specs.Inner.{Part, partsOf, allOf}
+use Rattle.pulse_shell_spoken.specs.Inner.{noPart, spoken, Stored}
+use Rattle.pulse_shell_write.proofs.Said.{splitOf, itself, shell-told}
 use Rattle.pulse_shell_write.proofs.silk_shell_encoder_run.Statement.{statement}
 use Rattle.pulse_shell_write.proofs.silk_shell_encoder_run.Tie as tie
 
@@ -29,15 +29,15 @@ Inv-loop buf₀ rows places p starts alls lefts count q₀ k₀ buf q k = Tellin
 abbrev μ-loop : tie.MeasureT-loop
 μ-loop buf₀ rows places p starts alls lefts count q₀ k₀ buf q k = count - k
 
-spoken-of-requires : tie.Need-spoken-of-requires Inv-loop μ-loop
-spoken-of-requires c κs =
+spoken-of-run-requires : tie.Need-spoken-of-run-requires Inv-loop μ-loop
+spoken-of-run-requires c κs =
     let b = c .before .before .before .before .before .before in
     (record { start-size = refl; all-size = refl; left-size = refl }, (b .pre .1 .1 .1 .1, b .pre .1 .1 .1 .0, b .pre .1 .1 .1 .2))
 
-abbrev spoke : tie.At-loop Inv-loop μ-loop → tie.After-spoken-of Inv-loop μ-loop
+abbrev spoke : tie.At-loop Inv-loop μ-loop → tie.After-spoken-of-run Inv-loop μ-loop
 spoke l = l .before .before .before .before
 
-abbrev start : tie.After-spoken-of Inv-loop μ-loop → tie.Start Inv-loop μ-loop
+abbrev start : tie.After-spoken-of-run Inv-loop μ-loop → tie.Start Inv-loop μ-loop
 start s = s .before .before .before .before .before .before .before
 
 -- the parts that have pulses
@@ -49,20 +49,20 @@ loop-holds c = record { told = midway-start (start (c .before .before .before) .
 
 -- the part at hand
 part : (c : tie.In-loop Inv-loop μ-loop)
-    → let s = spoke (c .before) .spoken-of .last in
+    → let s = spoke (c .before) .spoken-of-run .last in
     let k = c .before .loop .k in
     Stored (getD (s .0) k 0) (getD (s .1 .0) k 0) (getD (s .1 .1 .0) k 0) (getD (parts (c .before)) k noPart)
-part c = spoke (c .before) .spoken-of .ensures .at (c .before .loop .k) (c .loop-test .taken)
+part c = spoke (c .before) .spoken-of-run .ensures .at (c .before .loop .k) (c .loop-test .taken)
 
 inside : (c : tie.In-loop Inv-loop μ-loop) → c .before .loop .k < 15
-inside c = omega (arith, spoke (c .before) .spoken-of .ensures .most, c .loop-test .taken)
+inside c = omega (arith, spoke (c .before) .spoken-of-run .ensures .most, c .loop-test .taken)
 
 -- where its row stands in what is lent
 place : (c : tie.In-loop Inv-loop μ-loop)
     → let s = spoke (c .before) in
     let k = c .before .loop .k in
     let q = getD (parts (c .before)) k noPart in
-    Stands (58 + q .table * 16 + allOf q) (start s .args .rows .now) (getD (s .spoken-of .last .0) k 0) (getD (s .spoken-of .last .1 .0) k 0 + 1)
+    Stands (58 + q .table * 16 + allOf q) (start s .args .rows .now) (getD (s .spoken-of-run .last .0) k 0) (getD (s .spoken-of-run .last .1 .0) k 0 + 1)
 place c = let a = part c in rw (a .all-is) (stands-in (start (spoke (c .before)) .pre .1 .1 .0 .is) (a .stands))
 
 mul-start : tie.Need-mul-start Inv-loop μ-loop
@@ -120,7 +120,7 @@ loop-again c =
     let q = getD qs (l .k) noPart in
     let t = split-told {y = q .places} (q .table) (allOf q) (a .some) (lent _ (place d) refl) (a .left-is) (w .ensures) in
     record {
-      told = place-told _ _ _ _ _ qs (l .k) (l .inv .told) (omega (arith, spoke (d .before) .spoken-of .ensures .count, d .loop-test .taken)) refl
+      told = place-told _ _ _ _ _ qs (l .k) (l .inv .told) (omega (arith, spoke (d .before) .spoken-of-run .ensures .count, d .loop-test .taken)) refl
           (told-of (λ r. r .places) t);
       to = omega (arith, inside d);
       kept = w .kept .0 ∙ l .inv .kept;
@@ -136,12 +136,12 @@ returns c =
     let l = c .before .loop in
     shell-told 4 (b .args .p) (b .args .places .now) (b .pre .1 .1 .1 .2)
     (told-within (omega (arith, l .inv .to))
-    (places-told _ _ _ _ _ (parts (c .before)) (l .k) (l .inv .told) (omega (arith, s .spoken-of .ensures .count, c .loop-test .left))))
+    (places-told _ _ _ _ _ (parts (c .before)) (l .k) (l .inv .told) (omega (arith, s .spoken-of-run .ensures .count, c .loop-test .left))))
 
 pub silk-shell-encoder-run-spec : {M : Type 1} → statement M
 silk-shell-encoder-run-spec =
     tie.close
     (tie.spec Inv-loop μ-loop (λ c. search needs) (λ c. search needs) (λ c. search needs) (λ c. search needs)
-    spoken-of-requires loop-holds mul-start array-read-start array-read-n cast-n add-end add-end-2 array-read-left
+    spoken-of-run-requires loop-holds mul-start array-read-start array-read-n cast-n add-end add-end-2 array-read-left
     cast-left (λ c. search needs) (λ c. search needs) part-ec-enc-icdf-run-end ec-enc-icdf-run-requires
     (λ c. search needs) (λ c. search needs) loop-again same-length returns)

@@ -6,13 +6,13 @@ use lib.ListN.{length}
 use Rattle.numerals.proofs.Put.{put-as}
 use Rattle.spectrum.specs.Calls.{Called, stabiliseCall}
 use Rattle.stabiliser_text.proofs.Answers.{small}
-use Rattle.stabiliser_text.specs.StabiliserText.{answerText}
+use Rattle.stabiliser_text_answer.specs.StabiliserAnswer.{answerText}
 use Rattle.stabiliser_text.proofs.put_stabilised.Statement.{statement}
 use Rattle.stabiliser_text.proofs.put_stabilised.Tie as tie
 use Rattle.nlsf_stabilize.proofs.silk_NLSF_stabilize.Reads as silk-NLSF-stabilize-reads
 
-put-answer-requires : tie.Need-put-answer-requires
-put-answer-requires c κs =
+put-answer-run-requires : tie.Need-put-answer-run-requires
+put-answer-run-requires c κs =
     let s = c .before .before .before in
     let f = s .before .before .before .before .before .before .before in
     let r = s .silk-NLSF-stabilize in
@@ -26,7 +26,7 @@ returns c =
     let s = c .before .before .before .before .before .before in
     let g = s .before .before .before .before in
     let f = g .before .before .before in
-    put-as (c .before .before .put-answer .ensures)
+    put-as (c .before .before .put-answer-run .ensures)
     (ap answerText (s .silk-NLSF-stabilize .ensures ∙ ap₂ stabiliseCall (f .fill-run .ensures) (g .fill-run2 .ensures)))
     (omega arith)
 
@@ -34,4 +34,4 @@ pub put-stabilised-spec : {M : Type 1} → statement M
 put-stabilised-spec =
     tie.close
     (tie.spec (λ c. search needs) (λ c. search needs) (λ c κs. search needs) (λ c κs. search needs)
-    (λ c κs. search needs) put-answer-requires (λ c. search needs) (λ c. search needs) (λ c. search needs) returns)
+    (λ c κs. search needs) put-answer-run-requires (λ c. search needs) (λ c. search needs) (λ c. search needs) returns)

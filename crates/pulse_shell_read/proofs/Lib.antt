@@ -1,2 +1,0 @@
-pub mod Empty
-pub mod Halves

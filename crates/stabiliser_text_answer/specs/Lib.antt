@@ -1,0 +1,2 @@
+pub mod StabiliserAnswer
+pub mod Inner
