@@ -26,8 +26,7 @@ use Rattle.silk.specs.declared.Setting.{Setting}
 use Rattle.silk.specs.Inner.Indices.{Rate, eight, twelve, sixteen, Subframes, two, four}
 use Rattle.silk.proofs.IndexCalls.{indices-accepted}
 use Rattle.silk.specs.FrameCalls.{khzOk, subframesOk, settingOk, blocksOf, indicesRule, decodeIndices, pulseNumbersOk, pulseRule, pulsesRule, decodePulses}
-use Rattle.lister_text_frame.specs.ListedFrame.{blank, indicesOf}
-use Rattle.lister_text.specs.ListerText.{listerText}
+use Rattle.lister_text.specs.ListerText.{blank, indicesOf, listerText}
 
 -- ---- opening
 

@@ -2,7 +2,7 @@
 use borrow.Author.Needs.{needs, sfits-of}
 use borrow.Author.Tests.{eqb-true}
 use Prim.Native.Nat.{ℕ, _+_, _-_, _≤_}
-use mathlib.Core.Path.{_≡_, refl, sym, ap₂, _∙_}
+use mathlib.Core.Path.{_≡_, sym, ap₂, _∙_}
 use mathlib.Core.Bool.{true, false}
 use mathlib.Core.List.{List}
 use native.Mathlib.Omega.{arith}
@@ -19,8 +19,8 @@ use Rattle.listing.specs.Lines.{refusedText}
 use Rattle.listing.proofs.PrintedLaws.{printed-put}
 use Rattle.sections.specs.Values.{byteAt, pairAt, valueAt}
 use Rattle.silk.specs.declared.Setting.{Setting}
-use Rattle.lister_text_frame.specs.ListedFrame.{frameText}
-use Rattle.lister_text.specs.ListerText.{settingAt, whole, listerText}
+use Rattle.lister_text_input.specs.ListerInput.{whole}
+use Rattle.lister_text.specs.ListerText.{settingAt, frameText, listerText}
 use Rattle.lister_text.proofs.lister_text.Statement.{statement}
 use Rattle.lister_text.proofs.lister_text.Tie as tie
 
@@ -41,9 +41,9 @@ put-whole s {q} h e t =
     let p = take-all (length s - 10) (drop 10 s) (omega (arith, length-drop 10 s)) in
     rw h (put-as t (ap₂ frameText p e) (omega arith))
 
-put-cut : (s : List ℕ) {l b : List ℕ} {n i : ℕ} → whole s ≡ false → Put 15 l 0 (refusedText n) b i → n ≡ 9 → Put 15 l 0 (listerText s) b i
+put-cut : (s : List ℕ) {l b : List ℕ} {i : ℕ} → whole s ≡ false → Put 15 l 0 (refusedText 9) b i → Put 15 l 0 (listerText s) b i
 unfolding listerText
-put-cut s h t e = rw h (rw e at t)
+put-cut s h t = rw h t
 
 -- where the input is whole, and where all its numbers are read
 abbrev start : tie.Then1 → tie.Start
@@ -76,13 +76,13 @@ returns c =
     let e =
     same s (t1 .number-at .ensures) (t2 .number-at2 .ensures) (t3 .number-at3 .ensures) (t4 .number-at4 .ensures) (v .before .number-at5 .ensures)
     (toZ-ofZ {w = w16} (sfits-of (v .value-at-run .ok)) ∙ v .value-at-run .ensures) in
-    printed-put (put-whole s (is-whole t) e (c .put-read-run .ensures)) (omega (arith, c .before .before .put-read-run-arg .given .0 .1))
+    printed-put (put-whole s (is-whole t) e (c .put-read .ensures)) (omega (arith, c .before .before .put-read-arg .given .0 .1))
 
 returns-2 : tie.Need-returns-2
 returns-2 c =
     let t = c .before .before in
     let s = t .before .before .before .args .input .now in
-    printed-put (put-cut s (sym (t .before .whole .ensures) ∙ t .if1 .left) (c .put-refused-run .ensures) refl) (search needs)
+    printed-put (put-cut s (sym (t .before .whole .ensures) ∙ t .if1 .left) (c .put-cut-run .ensures)) (search needs)
 
 pub lister-text-spec : {M : Type 1} → statement M
 lister-text-spec =

@@ -1,4 +1,4 @@
--- `put_read_run` meets its contract: the side indices are those read from the packet's start. Assumes nothing.
+-- `put_read` meets its contract: the side indices are those read from the packet's start. Assumes nothing.
 use borrow.Author.Needs.{needs}
 use borrow.Author.Tests.{eq-eqb, ne-eqb}
 use Prim.Native.Nat.{ℕ, _≤_}
@@ -14,10 +14,10 @@ use Rattle.silk.specs.declared.Indices.{Indices}
 use Rattle.silk.specs.declared.IndicesRead.{IndicesRead}
 use Rattle.silk.specs.declared.Setting.{Setting}
 use Rattle.silk.specs.FrameCalls.{decodeIndices}
-use Rattle.lister_text_frame.specs.ListedFrame.{indicesOf, acceptedText, readText}
-use Rattle.lister_text_frame.proofs.Readings.{Listable, listable, refusal-most}
-use Rattle.lister_text_frame.proofs.put_read_run.Statement.{statement}
-use Rattle.lister_text_frame.proofs.put_read_run.Tie as tie
+use Rattle.lister_text.specs.ListerText.{indicesOf, acceptedText, readText}
+use Rattle.lister_text.proofs.Readings.{Listable, listable, refusal-most}
+use Rattle.lister_text.proofs.put_read.Statement.{statement}
+use Rattle.lister_text.proofs.put_read.Tie as tie
 
 abbrev start : tie.After-silk-decode-indices → tie.Start
 start r = r .before .before .before .before .before .before
@@ -76,8 +76,8 @@ returns-2 c =
     ∙ ap (readText (z .args .packet .now) (setting z)) (reading r))
     (omega arith)
 
-pub put-read-run-spec : {M : Type 1} → statement M
-put-read-run-spec =
+pub put-read-spec : {M : Type 1} → statement M
+put-read-spec =
     tie.close
     (tie.spec
     (λ c κs. search needs)

@@ -7,9 +7,9 @@ use mathlib.Core.List.{List}
 use lib.Dec.{eqb}
 use lib.ListN.{length}
 use Rattle.sections.specs.Values.{byteAt}
-use Rattle.lister_text.specs.ListerText.{whole}
-use Rattle.lister_text.proofs.whole.Statement.{statement}
-use Rattle.lister_text.proofs.whole.Tie as tie
+use Rattle.lister_text_input.specs.ListerInput.{whole}
+use Rattle.lister_text_input.proofs.whole.Statement.{statement}
+use Rattle.lister_text_input.proofs.whole.Tie as tie
 
 -- the numbers that the code tests
 tested : (s : List ℕ) {high low first : ℕ} → high ≡ byteAt s 8 → low ≡ byteAt s 9 → first ≡ byteAt s 0

@@ -19,7 +19,7 @@ use Rattle.silk.specs.declared.Setting.{Setting}
 use Rattle.silk.specs.Inner.Indices.{Rate, Subframes, Upto}
 use Rattle.silk.proofs.IndexCalls.{indices-accepted}
 use Rattle.silk.specs.FrameCalls.{settingOk, indicesRule, decodeIndices}
-use Rattle.lister_text_frame.specs.ListedFrame.{blank, indicesOf}
+use Rattle.lister_text.specs.ListerText.{blank, indicesOf}
 
 gate-most : (b : List ℕ) (d : Dec) → gateR b d ≤ 3
 unfolding gateR

@@ -21,9 +21,9 @@ use Rattle.silk.specs.FrameCalls.{blocksOf}
 use Rattle.silk.proofs.PulseCallLaws.{blocks-most}
 use Rattle.entcode.specs.declared.Dec.{Dec}
 use Rattle.frame_text.specs.FrameText.{indicesText}
-use Rattle.lister_text_frame.specs.ListedFrame.{excitationText}
-use Rattle.lister_text_frame.proofs.put_frame.Statement.{statement}
-use Rattle.lister_text_frame.proofs.put_frame.Tie as tie
+use Rattle.lister_text.specs.ListerText.{excitationText}
+use Rattle.lister_text.proofs.put_frame.Statement.{statement}
+use Rattle.lister_text.proofs.put_frame.Tie as tie
 
 rate-most : {khz : ℕ} → Rate khz → khz ≤ 16
 rate-most eight = omega arith

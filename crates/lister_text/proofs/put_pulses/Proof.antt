@@ -7,8 +7,8 @@ use Rattle.numerals.proofs.Put.{put-as}
 use Rattle.silk.specs.FrameCalls.{Pulsed, blocksOf, decodePulses}
 use Rattle.silk.proofs.PulseCallLaws.{blocks-most}
 use Rattle.frame_text.specs.FrameText.{pulsesText}
-use Rattle.lister_text_frame.proofs.put_pulses.Statement.{statement}
-use Rattle.lister_text_frame.proofs.put_pulses.Tie as tie
+use Rattle.lister_text.proofs.put_pulses.Statement.{statement}
+use Rattle.lister_text.proofs.put_pulses.Tie as tie
 
 abbrev start : tie.After-silk-decode-pulses → tie.Start
 start r = r .before .before .before .before
