@@ -2,63 +2,15 @@
 // refusal or what the room `entdec_run` reads. Names as in the crate's entdec.rs.
 ghost use mathlib.Core.Path.{_≡_};
 ghost use Rattle.entcode.specs.Models.{bit, raw, num, tab};
-ghost use Rattle.entcode.specs.Sound.{totalOk, rangeOkR, placesOkR, smallOkR, soundR, gateR};
 ghost use Rattle.entcode.specs.Rules.{askRule};
 ghost use Rattle.entcode.specs.Reading.{refuses, decSym, decTell, decOpen};
 use entcode::Dec;
 use entcode::Decoded;
 use entcode::LONGEST;
 use entcode::nought_reader;
-use entcode::window_ok;
+use entdec_gate::gate;
 
 // ---- refusals
-
-fn range_ok(d: Dec) -> bool
-    ensures { λ b. ⌜ b ≡ rangeOkR d ⌝ }
-{
-    (0x80_0000 < d.rng) & ((d.rng <= 0x8000_0000) & (d.val < d.rng))
-}
-
-fn places_ok(packet: &[u8], d: Dec) -> bool
-    ensures { λ b. ⌜ b ≡ placesOkR (now (packet .entry)) d ⌝ }
-{
-    (d.storage as usize == packet.len())
-        & ((d.offs as usize <= packet.len()) & (d.endoffs as usize <= packet.len()))
-}
-
-fn small_ok(d: Dec) -> bool
-    ensures { λ b. ⌜ b ≡ smallOkR d ⌝ }
-{
-    (d.rem <= 255) & (d.error <= 1)
-}
-
-fn total_ok(d: Dec) -> bool
-    ensures { λ b. ⌜ b ≡ totalOk (d .total) ⌝ }
-{
-    (33 <= d.total) & (d.total <= 1_100_000)
-}
-
-fn sound(packet: &[u8], d: Dec) -> bool
-    ensures { λ b. ⌜ b ≡ soundR (now (packet .entry)) d ⌝ }
-{
-    range_ok(d)
-        & (places_ok(packet, d) & (small_ok(d) & (window_ok(d.window, d.wbits) & total_ok(d))))
-}
-
-// Refusals 1 to 3, or 0.
-pub fn gate(packet: &[u8], d: Dec) -> u32
-    ensures { λ n. ⌜ n ≡ gateR (now (packet .entry)) d ⌝ }
-{
-    if packet.len() <= LONGEST {
-        if sound(packet, d) {
-            if d.total <= 1_000_000 { 0 } else { 3 }
-        } else {
-            2
-        }
-    } else {
-        1
-    }
-}
 
 fn bit_rule(lp: u32) -> u32
     ensures { λ n. ⌜ n ≡ askRule (bit lp) ⌝ }

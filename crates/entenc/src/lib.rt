@@ -5,7 +5,6 @@ ghost use mathlib.Core.Path.{_≡_};
 ghost use Rattle.entcode.specs.Models.{bit, raw, num, tab};
 ghost use Rattle.entcode.specs.Flat.{out};
 ghost use Rattle.entcode.specs.Writing.{sent, encOpen, encTell, encSym, encDone};
-use crate::gate::gate;
 use crate::rules::bit_rule;
 use crate::rules::bits_rule;
 use crate::rules::uint_rule;
@@ -13,8 +12,8 @@ use entcode::Enc;
 use entcode::Encoded;
 use entcode::LONGEST;
 use entcode::nought_writer;
+use entenc_gate::gate;
 
-pub mod gate; // gate.rt: refusals 1 to 3
 mod rules; // rules.rt: refusals 4 and 8
 
 // A refusal, or, for 0, what a call without a value made of a state.

@@ -3,20 +3,20 @@ use borrow.Author.Needs.{needs}
 use mathlib.Core.Path.{sym, _∙_}
 use borrow.Author.Tests.{le-leb, lt-leb}
 use Rattle.entcode.specs.Sound.{gateR}
-use Rattle.entdec.proofs.gate.Statement.{statement}
-use Rattle.entdec.proofs.gate.Tie as tie
+use Rattle.entdec_gate.proofs.gate.Statement.{statement}
+use Rattle.entdec_gate.proofs.gate.Tie as tie
 
 returns : tie.Need-returns
 unfolding gateR
 returns c =
     let b = c .before .before in
-    rw (le-leb _ _ (b .before .before .if1 .taken), sym (b .before .sound .ensures) ∙ b .if2 .taken, le-leb _ _ (c .if3 .taken))
+    rw (le-leb _ _ (b .before .before .if1 .taken), sym (b .before .sound .ensures) ∙ b .if2 .taken, le-leb _ 1000000 (c .if3 .taken))
 
 returns-2 : tie.Need-returns-2
 unfolding gateR
 returns-2 c =
     let b = c .before .before in
-    rw (le-leb _ _ (b .before .before .if1 .taken), sym (b .before .sound .ensures) ∙ b .if2 .taken, lt-leb _ _ (c .if3 .left))
+    rw (le-leb _ _ (b .before .before .if1 .taken), sym (b .before .sound .ensures) ∙ b .if2 .taken, lt-leb _ 1000000 (c .if3 .left))
 
 returns-3 : tie.Need-returns-3
 unfolding gateR

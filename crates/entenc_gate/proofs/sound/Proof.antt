@@ -1,8 +1,8 @@
 -- `sound` meets its contract: the tests stand in the definition's order. Assumes nothing.
 use borrow.Author.Needs.{needs}
 use Rattle.entcode.specs.Sound.{soundW}
-use Rattle.entenc.proofs.gate.sound.Statement.{statement}
-use Rattle.entenc.proofs.gate.sound.Tie as tie
+use Rattle.entenc_gate.proofs.sound.Statement.{statement}
+use Rattle.entenc_gate.proofs.sound.Tie as tie
 
 returns : tie.Need-returns
 unfolding soundW

@@ -1,8 +1,8 @@
 -- `sound` meets its contract. Assumes nothing.
 use borrow.Author.Needs.{needs}
 use Rattle.entcode.specs.Sound.{soundR}
-use Rattle.entdec.proofs.sound.Statement.{statement}
-use Rattle.entdec.proofs.sound.Tie as tie
+use Rattle.entdec_gate.proofs.sound.Statement.{statement}
+use Rattle.entdec_gate.proofs.sound.Tie as tie
 
 returns : tie.Need-returns
 unfolding soundR

@@ -3,8 +3,8 @@ use borrow.Author.Needs.{needs}
 use mathlib.Core.Path.{_∙_, sym}
 use borrow.Author.Tests.{le-leb, lt-leb}
 use Rattle.entcode.specs.Sound.{gateW}
-use Rattle.entenc.proofs.gate.gate.Statement.{statement}
-use Rattle.entenc.proofs.gate.gate.Tie as tie
+use Rattle.entenc_gate.proofs.gate.Statement.{statement}
+use Rattle.entenc_gate.proofs.gate.Tie as tie
 
 returns : tie.Need-returns
 unfolding gateW
@@ -12,7 +12,7 @@ returns c =
     rw (
       le-leb _ _ (c .before .before .before .before .if1 .taken),
       sym (c .before .before .before .sound .ensures) ∙ c .before .before .if2 .taken,
-      le-leb _ _ (c .if3 .taken),
+      le-leb _ 1000000 (c .if3 .taken),
     )
 
 returns-2 : tie.Need-returns-2
@@ -21,7 +21,7 @@ returns-2 c =
     rw (
       le-leb _ _ (c .before .before .before .before .if1 .taken),
       sym (c .before .before .before .sound .ensures) ∙ c .before .before .if2 .taken,
-      lt-leb _ _ (c .if3 .left),
+      lt-leb _ 1000000 (c .if3 .left),
     )
 
 returns-3 : tie.Need-returns-3
