@@ -88,7 +88,7 @@ pub fn silk_decode_indices(packet: &[u8], d: Dec, record: Indices, s: Setting) -
     ensures { λ a. ⌜ a ≡ decodeIndices (now (packet .entry)) d «record» s ⌝ }
 {
     let rule = numbers_rule(s);
-    let n = refusals::first_refusal(entdec::gate(packet, d), rule);
+    let n = refusals::first_refusal(entdec_gate::gate(packet, d), rule);
     if n == 0 {
         let rows = index_rows();
         let a = all_indices(packet, d, &rows, record, s);

@@ -18,7 +18,7 @@ pub fn silk_decode_pulses(
         ⌜ pulsed (now (pulses .exit)) a ≡ decodePulses (now (packet .entry)) d (now (pulses .entry)) khz subframes signal offset ⌝ }
 {
     let rule = pulse_numbers::pulse_rule(pulses.len(), khz, subframes, signal, offset);
-    let n = refusals::first_refusal(entdec::gate(packet, d), rule);
+    let n = refusals::first_refusal(entdec_gate::gate(packet, d), rule);
     if n == 0 {
         let rows = tables::rows::pulse_rows();
         let blocks = pulse_numbers::blocks_of_run(khz, subframes);

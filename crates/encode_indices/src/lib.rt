@@ -11,7 +11,7 @@ ghost use Rattle.silk.specs.IndexSyntax.{voicing, indices};
 ghost use Rattle.silk.specs.FrameCalls.{nextLag};
 ghost use Rattle.silk.specs.IndexWriting.{tellRule, encodeIndices};
 use entcode::Enc;
-use entenc::gate::gate;
+use entenc_gate::gate;
 use index_fields::fields_ok_run;
 use index_gains_write::gains_tell_run;
 use index_numbers::next_lag_run;

@@ -43,7 +43,7 @@ pub fn silk_encode_pulses(
         encodePulses (out (now (buf .entry)) w) (now (pulses .entry)) (f .khz) (f .subframes) (f .signal) (f .offset) rate ⌝ }
 {
     let rule = write_rule(pulses.len(), f, rate);
-    let n = refusals::first_refusal(entenc::gate::gate(buf, w), rule);
+    let n = refusals::first_refusal(entenc_gate::gate(buf, w), rule);
     if n != 0 {
         return answer(n, w);
     }

@@ -2,81 +2,15 @@
 // refusal or what the room `entdec_run` reads. Names as in the crate's entdec.rs.
 ghost use mathlib.Core.Path.{_≡_};
 ghost use Rattle.entcode.specs.Models.{bit, raw, num, tab};
-ghost use Rattle.entcode.specs.Sound.{totalOk, rangeOkR, placesOkR, smallOkR, soundR, gateR};
-ghost use Rattle.entcode.specs.Rules.{askRule};
 ghost use Rattle.entcode.specs.Reading.{refuses, decSym, decTell, decOpen};
 use entcode::Dec;
 use entcode::Decoded;
 use entcode::LONGEST;
 use entcode::nought_reader;
-use entcode::window_ok;
-
-// ---- refusals
-
-fn range_ok(d: Dec) -> bool
-    ensures { λ b. ⌜ b ≡ rangeOkR d ⌝ }
-{
-    (0x80_0000 < d.rng) & ((d.rng <= 0x8000_0000) & (d.val < d.rng))
-}
-
-fn places_ok(packet: &[u8], d: Dec) -> bool
-    ensures { λ b. ⌜ b ≡ placesOkR (now (packet .entry)) d ⌝ }
-{
-    (d.storage as usize == packet.len())
-        & ((d.offs as usize <= packet.len()) & (d.endoffs as usize <= packet.len()))
-}
-
-fn small_ok(d: Dec) -> bool
-    ensures { λ b. ⌜ b ≡ smallOkR d ⌝ }
-{
-    (d.rem <= 255) & (d.error <= 1)
-}
-
-fn total_ok(d: Dec) -> bool
-    ensures { λ b. ⌜ b ≡ totalOk (d .total) ⌝ }
-{
-    (33 <= d.total) & (d.total <= 1_100_000)
-}
-
-fn sound(packet: &[u8], d: Dec) -> bool
-    ensures { λ b. ⌜ b ≡ soundR (now (packet .entry)) d ⌝ }
-{
-    range_ok(d)
-        & (places_ok(packet, d) & (small_ok(d) & (window_ok(d.window, d.wbits) & total_ok(d))))
-}
-
-// Refusals 1 to 3, or 0.
-pub fn gate(packet: &[u8], d: Dec) -> u32
-    ensures { λ n. ⌜ n ≡ gateR (now (packet .entry)) d ⌝ }
-{
-    if packet.len() <= LONGEST {
-        if sound(packet, d) {
-            if d.total <= 1_000_000 { 0 } else { 3 }
-        } else {
-            2
-        }
-    } else {
-        1
-    }
-}
-
-fn bit_rule(lp: u32) -> u32
-    ensures { λ n. ⌜ n ≡ askRule (bit lp) ⌝ }
-{
-    if (1 <= lp) & (lp <= 15) { 0 } else { 4 }
-}
-
-fn bits_rule(n: u32) -> u32
-    ensures { λ r. ⌜ r ≡ askRule (raw n) ⌝ }
-{
-    if (1 <= n) & (n <= 25) { 0 } else { 4 }
-}
-
-fn uint_rule(ft: u32) -> u32
-    ensures { λ n. ⌜ n ≡ askRule (num ft) ⌝ }
-{
-    if 2 <= ft { 0 } else { 4 }
-}
+use entdec_gate::gate;
+use entdec_rules::bit_rule;
+use entdec_rules::bits_rule;
+use entdec_rules::uint_rule;
 
 fn refused(n: u32, d: Dec) -> Decoded
     ensures { λ a. ⌜ a ≡ refuses n d ⌝ }
@@ -87,8 +21,6 @@ fn refused(n: u32, d: Dec) -> Decoded
         state: d,
     }
 }
-
-// ---- the calls
 
 // A reader at the packet's start.
 pub fn ec_dec_init(packet: &[u8]) -> Decoded
