@@ -1,14 +1,14 @@
 // What the frame lister prints for an input, put into a lent buffer.
-ghost use mathlib.Core.Path.{_≡_};
-ghost use Rattle.listing.specs.Printed.{printed};
-ghost use Rattle.sections.specs.Values.{byteAt};
-ghost use Rattle.lister_text.specs.ListerText.{listerText, excitationText, acceptedText, frameText, blank as blankOf};
 ghost use Prim.Native.Nat.{_+_, _*_, _≤_};
+ghost use mathlib.Core.Path.{_≡_};
 ghost use lib.IntN.{pos, natAbs};
 ghost use lib.ListN.{length, replicate};
 ghost use Rattle.numerals.specs.Inner.{Put};
+ghost use Rattle.listing.specs.Printed.{printed};
+ghost use Rattle.sections.specs.Values.{byteAt};
 ghost use Rattle.silk.specs.Inner.Indices.{Rate, Subframes, Upto};
 ghost use Rattle.silk.specs.FrameCalls.{blocksOf};
+ghost use Rattle.lister_text.specs.ListerText.{excitationText, acceptedText, frameText, listerText, blank as blankOf};
 use entcode::Dec;
 use frame_text_indices::put_indices_run;
 use frame_text_pulses::put_pulses_run;
@@ -62,7 +62,8 @@ fn put_pulses(
     requires { ⌜ length (now pulses) ≡ 16 * blocksOf (f .khz) (f .subframes) ⌝ }
     ensures { λ n.
         ⌜ Put 2258 (now (out .entry)) at
-        (excitationText (now (packet .entry)) d (now (pulses .entry)) (f .khz) (f .subframes) (f .signal) (f .offset)) (now (out .exit)) n ⌝ }
+        (excitationText (now (packet .entry)) d (now (pulses .entry)) (f .khz) (f .subframes) (f .signal) (f .offset))
+        (now (out .exit)) n ⌝ }
 {
     decode_pulses::silk_decode_pulses(packet, d, pulses, f.khz, f.subframes, f.signal, f.offset);
     let blocks = blocks_of_run(f.khz, f.subframes);

@@ -91,7 +91,8 @@ returns c =
     told-then _ (says-means (lag-says (relativeLag s) (s .khz) (s .prevlag) x (t .0) (t .2 .lag)))
     (as-set s (s .khz) (s .prevlag) (l .lag-tell-run .ensures (s .prevlag)) refl)
     (told-then _ (says-means (contour-says s x (t .0) (t .1) (shape z) (t .2))) (k .contour-tell-run .ensures)
-    (told-then _ (says-means (period-says s x (t .0) (t .1) (shape z) (t .2))) (p .period-tell-run .ensures) (c .before .before .scale-tell-run .ensures)))
+    (told-then _ (says-means (period-says s x (t .0) (t .1) (shape z) (t .2))) (p .period-tell-run .ensures)
+    (c .before .before .scale-tell-run .ensures)))
 
 pub pitch-tell-run-spec : {M : Type 1} → statement M
 pitch-tell-run-spec =

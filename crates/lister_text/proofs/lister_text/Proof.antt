@@ -74,8 +74,8 @@ returns c =
     let t = tested v in
     let s = start t .args .input .now in
     let e =
-    same s (t1 .number-at .ensures) (t2 .number-at2 .ensures) (t3 .number-at3 .ensures) (t4 .number-at4 .ensures) (v .before .number-at5 .ensures)
-    (toZ-ofZ {w = w16} (sfits-of (v .value-at-run .ok)) ∙ v .value-at-run .ensures) in
+    same s (t1 .number-at .ensures) (t2 .number-at2 .ensures) (t3 .number-at3 .ensures) (t4 .number-at4 .ensures)
+    (v .before .number-at5 .ensures) (toZ-ofZ {w = w16} (sfits-of (v .value-at-run .ok)) ∙ v .value-at-run .ensures) in
     printed-put (put-whole s (is-whole t) e (c .put-read .ensures)) (omega (arith, c .before .before .put-read-arg .given .0 .1))
 
 returns-2 : tie.Need-returns-2

@@ -59,7 +59,8 @@ counted o = o .before
 -- the pulses that are lent
 room : (o : tie.After-zeros) → 16 * counted o .blocks-of-run .result ≤ length (o .zeros .result)
 room o =
-    omega (arith, counted o .blocks-of-run .ensures, few (start (listed (counted o))), ap length (o .zeros .ensures), length-replicate 320 (pos 0))
+    let n = counted o in
+    omega (arith, n .blocks-of-run .ensures, few (start (listed n)), ap length (o .zeros .ensures), length-replicate 320 (pos 0))
 
 lent : (o : tie.After-zeros)
     → let n = counted o .blocks-of-run .result in
@@ -126,7 +127,8 @@ returns c =
     let v = natAbs (toZ w8 (ofZ w8 (a .a .indices .offset))) in
     let u = excitationText (a .packet .now) (a .a .state) p (a .khz) (a .subframes) (a .a .prevtype) v in
     put-as (put-then {u = u} (i .put-indices-run .ensures) (c .before .before .before .put-pulses .ensures))
-    (same-text (indicesText (a .khz) (a .subframes) (a .a .indices)) (a .packet .now) (a .a .state) (a .khz) (a .subframes) (blanks o) (z .pre .1 .1 .0) f)
+    (same-text (indicesText (a .khz) (a .subframes) (a .a .indices)) (a .packet .now) (a .a .state) (a .khz) (a .subframes) (blanks o)
+    (z .pre .1 .1 .0) f)
     (omega arith)
 
 pub put-frame-spec : {M : Type 1} → statement M

@@ -39,7 +39,8 @@ returns c =
     let a = t .before .before .before in
     let h = a .pre .1 .values (t .if1 .taken) in
     put-as (put-then (b .put-line-run .ensures) (c .before .before .put-counted-run .ensures))
-    (rw (toZ-pos w16 {n = a .args .a .moves} (omega arith)) (accepted (record { vector = a .args .vector .now; answer = a .args .a }) (t .if1 .taken)))
+    (rw (toZ-pos w16 {n = a .args .a .moves} (omega arith))
+    (accepted (record { vector = a .args .vector .now; answer = a .args .a }) (t .if1 .taken)))
     (omega arith)
 
 returns-2 : tie.Need-returns-2
