@@ -2,33 +2,15 @@
 // refusal or what the room `entdec_run` reads. Names as in the crate's entdec.rs.
 ghost use mathlib.Core.Path.{_≡_};
 ghost use Rattle.entcode.specs.Models.{bit, raw, num, tab};
-ghost use Rattle.entcode.specs.Rules.{askRule};
 ghost use Rattle.entcode.specs.Reading.{refuses, decSym, decTell, decOpen};
 use entcode::Dec;
 use entcode::Decoded;
 use entcode::LONGEST;
 use entcode::nought_reader;
 use entdec_gate::gate;
-
-// ---- refusals
-
-fn bit_rule(lp: u32) -> u32
-    ensures { λ n. ⌜ n ≡ askRule (bit lp) ⌝ }
-{
-    if (1 <= lp) & (lp <= 15) { 0 } else { 4 }
-}
-
-fn bits_rule(n: u32) -> u32
-    ensures { λ r. ⌜ r ≡ askRule (raw n) ⌝ }
-{
-    if (1 <= n) & (n <= 25) { 0 } else { 4 }
-}
-
-fn uint_rule(ft: u32) -> u32
-    ensures { λ n. ⌜ n ≡ askRule (num ft) ⌝ }
-{
-    if 2 <= ft { 0 } else { 4 }
-}
+use entdec_rules::bit_rule;
+use entdec_rules::bits_rule;
+use entdec_rules::uint_rule;
 
 fn refused(n: u32, d: Dec) -> Decoded
     ensures { λ a. ⌜ a ≡ refuses n d ⌝ }
@@ -39,8 +21,6 @@ fn refused(n: u32, d: Dec) -> Decoded
         state: d,
     }
 }
-
-// ---- the calls
 
 // A reader at the packet's start.
 pub fn ec_dec_init(packet: &[u8]) -> Decoded

@@ -5,16 +5,14 @@ ghost use mathlib.Core.Path.{_≡_};
 ghost use Rattle.entcode.specs.Models.{bit, raw, num, tab};
 ghost use Rattle.entcode.specs.Flat.{out};
 ghost use Rattle.entcode.specs.Writing.{sent, encOpen, encTell, encSym, encDone};
-use crate::rules::bit_rule;
-use crate::rules::bits_rule;
-use crate::rules::uint_rule;
 use entcode::Enc;
 use entcode::Encoded;
 use entcode::LONGEST;
 use entcode::nought_writer;
 use entenc_gate::gate;
-
-mod rules; // rules.rt: refusals 4 and 8
+use entenc_rules::bit_rule;
+use entenc_rules::bits_rule;
+use entenc_rules::uint_rule;
 
 // A refusal, or, for 0, what a call without a value made of a state.
 fn answer(n: u32, w: Enc) -> Encoded

@@ -101,6 +101,11 @@ module _ {M : Type 1} (𝓤 : URA M) (H : Heap 𝓤) (A : Atoms 𝓤) (W : Given
       (own-open 𝓤 H A W (Read.the-type α) (Read′.the-laws α) (a .packet, (a .read, tt)) (Read′.lowered a)) $
       learn ! (λ _. fsplit ! $ drop ! $ fsplit ! $ move ! (1 ∷ []) $ drop ! $ done !)
 
+  -- packet and state of an answer are a view's parts
+  shut : (a : PacketRead) → ent 𝓤 (sem 𝓤 H A (all-own (View.the-type α .parts) (View′.the-laws α) (a .packet, (a .read .state, tt))))
+      (sem 𝓤 H A (OwnView α (viewAt a)))
+  shut a = own-shut 𝓤 H A W (View.the-type α) (View′.the-laws α) (a .packet, (a .read .state, tt))
+
   -- packet and state of an answer are a view
   pub at-place : (a : PacketRead) → ent 𝓤 (sem 𝓤 H A (OwnRead α a)) (sep 𝓤 (sem 𝓤 H A (OwnView α (viewAt a))) (sem 𝓤 H A (OwnRead α a)))
   at-place a =
@@ -114,5 +119,5 @@ module _ {M : Type 1} (𝓤 : URA M) (H : Heap 𝓤) (A : Atoms 𝓤) (W : Given
       (‵ (all-own (D.the-type .parts) D′.the-laws (a .read .refusal, (a .read .value, (a .read .state, tt))))))
       (own-open 𝓤 H A W D.the-type D′.the-laws (a .read .refusal, (a .read .value, (a .read .state, tt))) (D′.lowered (a .read))) $ learn ! (λ _.
       fsplit ! $ drop ! $ fsplit ! $ drop ! $ move ! (2 ∷ 0 ∷ []) $ fjoin ! $
-      use1 W (‵ (OwnView α (viewAt a))) (own-shut 𝓤 H A W (View.the-type α) (View′.the-laws α) (a .packet, (a .read .state, tt))) $ frame ! $
+      use1 W (‵ (OwnView α (viewAt a))) (shut a) $ frame ! $
       drop ! $ done !))

@@ -26,7 +26,8 @@ fn low_bits(packet: &[u8], from: Dec, row: &[u8], m: u32, n: u32) -> Decoded
     let mut j: u32 = 0;
     while j < n {
         let a = entdec_run::ec_dec_icdf8_run(packet, d, row);
-        v = 2 * v + a.value;
+        let bit = a.value;
+        v = 2 * v + bit;
         d = a.state;
         j += 1;
     }

@@ -1,5 +1,6 @@
 -- `ec_dec_init_run` meets its contract: the reader that is renormalised is the fresh one. Assumes nothing.
 use borrow.Author.Needs.{needs}
+use mathlib.Core.Path.{refl}
 use native.Mathlib.Omega.{arith}
 use Rattle.entcode.specs.Reader.{opened}
 use Rattle.entdec_bytes.proofs.ec_dec_init_run.Statement.{statement}
@@ -18,7 +19,7 @@ returns : tie.Need-returns
 unfolding opened
 returns c =
     let p = c .before .before in
-    rw (c .ec-dec-normalize .ensures, c .before .nought-reader .ensures, p .before .ec-read-byte .ensures, p .place-after .ensures)
+    rw (c .ec-dec-normalize .ensures, c .before .nought-reader .ensures, p .before .ec-read-byte .ensures, p .place-after .ensures) refl
 
 pub ec-dec-init-run-spec : {M : Type 1} → statement M
 ec-dec-init-run-spec =

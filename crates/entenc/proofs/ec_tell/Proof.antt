@@ -13,18 +13,18 @@ use Rattle.entenc.proofs.ec_tell.Tie as tie
 abbrev start : tie.Start → Out
 start c = out (c .args .buf .now) (c .args .w)
 
-sub-used : tie.Need-sub-used
-sub-used c =
-    let b = c .before .before .before .before .before in
-    let g = gate-runs (start b) _ (c .before .before .before .gate .ensures) (c .before .before .if1 .taken) in
-    omega (arith, g .sound .least, length-most (b .args .w .rng), c .before .ec-ilog .ensures)
-
 returns : tie.Need-returns
 unfolding account
 returns c =
     let b = c .before .before .before .before .before in
     tell-takes (start b) _ (c .before .before .before .gate .ensures) _ (c .before .before .if1 .taken)
     (ap (λ (n : ℕ). b .args .w .total - n) (c .before .ec-ilog .ensures))
+
+sub-used : tie.Need-sub-used
+sub-used c =
+    let b = c .before .before .before .before .before in
+    let g = gate-runs (start b) _ (c .before .before .before .gate .ensures) (c .before .before .if1 .taken) in
+    omega (arith, g .sound .least, length-most (b .args .w .rng), c .before .ec-ilog .ensures)
 
 returns-2 : tie.Need-returns-2
 returns-2 c =

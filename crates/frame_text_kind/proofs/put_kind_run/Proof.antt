@@ -1,8 +1,9 @@
 -- `put_kind_run` meets its contract. Assumes nothing.
 use borrow.Author.Needs.{needs}
+use mathlib.Core.Path.{_≡_}
 use native.Mathlib.Omega.{arith}
 use mir.Syntax.{w8, w16}
-use mir.Val.{SFits}
+use mir.Val.{SFits, toZ, ofZ}
 use mir.Facts.{toZ-pos}
 use Rattle.numerals.proofs.Put.{put-then, put-as}
 use Rattle.listing.specs.Ascii.{ascii}
@@ -25,8 +26,10 @@ returns c =
     let u = v .before .before in
     let z = u .before .before .before in
     let a = z .args in
-    let e = widened (u .wide .ok) (u .wide .ensures) (signal-fits z) in
-    let h = widened (v .wide2 .ok) (v .wide2 .ensures) (offset-fits z) in
+    let s : u .wide .result ≡ toZ w8 (ofZ w8 (a .x .signal)) = u .wide .ensures in
+    let o : v .wide2 .result ≡ toZ w8 (ofZ w8 (a .x .offset)) = v .wide2 .ensures in
+    let e = widened (u .wide .ok) s (signal-fits z) in
+    let h = widened (v .wide2 .ok) o (offset-fits z) in
     put-as (put-then (b .put-line-run .ensures) (c .before .before .put-line-run2 .ensures))
     (rw (e, h, toZ-pos w16 {n = a .khz} (omega arith), toZ-pos w16 {n = a .subframes} (omega arith)))
     (omega arith)

@@ -6,11 +6,11 @@ use Rattle.frame_type.proofs.length_rule.Tie as tie
 
 returns : tie.Need-returns
 unfolding decOpen
-returns c = rw (le-leb _ _ (c .if1 .taken))
+returns c = rw (le-leb _ 1275 (c .if1 .taken))
 
 returns-2 : tie.Need-returns-2
 unfolding decOpen
-returns-2 c = rw (lt-leb _ _ (c .if1 .left))
+returns-2 c = rw (lt-leb _ 1275 (c .if1 .left))
 
 pub length-rule-spec : {M : Type 1} → statement M
 length-rule-spec = tie.close (tie.spec returns returns-2)

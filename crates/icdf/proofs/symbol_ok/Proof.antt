@@ -1,6 +1,7 @@
 -- `symbol_ok` meets its contract. Assumes nothing.
 use borrow.Author.Needs.{needs}
 use Prim.Native.Nat.{_-_}
+use mathlib.Core.Path.{refl}
 use native.Mathlib.Omega.{arith}
 use borrow.Author.Tests.{lt-ltb, le-ltb}
 use Rattle.icdf.specs.Test.{symbolOk}
@@ -26,7 +27,7 @@ returns-2 : tie.Need-returns-2
 unfolding symbolOk
 returns-2 c =
     let b = c .before .before .before .before in
-    rw (lt-ltb _ _ (c .before .before .before .if1 .taken), before-later (b .args .scale) (b .args .symbol) (b .args .table .now) (c .before .if2 .left))
+    rw (lt-ltb _ _ (c .before .before .before .if1 .taken), before-later (b .args .scale) (b .args .symbol) (b .args .table .now) (c .before .if2 .left)) refl
 
 returns-3 : tie.Need-returns-3
 unfolding symbolOk

@@ -1,7 +1,7 @@
 -- `symbol_rule` meets its contract: each return has the tests that led to it. Assumes nothing.
 use borrow.Author.Needs.{needs}
 use mathlib.Core.Bool.{true}
-use mathlib.Core.Path.{_≡_, sym, _∙_}
+use mathlib.Core.Path.{_≡_, refl, sym, _∙_}
 use Rattle.deciding.proofs.Both.{in-range}
 use Rattle.icdf.specs.Test.{scaleOk, symbolRule}
 use Rattle.icdf.proofs.symbol_rule.Statement.{statement}
@@ -33,7 +33,7 @@ returns-2 c =
 
 returns-3 : tie.Need-returns-3
 unfolding symbolRule
-returns-3 c = rw (scaled (c .before .before), sym (c .before .icdf-ok .ensures) ∙ c .if2 .left)
+returns-3 c = rw (scaled (c .before .before), sym (c .before .icdf-ok .ensures) ∙ c .if2 .left) refl
 
 returns-4 : tie.Need-returns-4
 unfolding symbolRule

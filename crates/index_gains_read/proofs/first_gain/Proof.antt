@@ -26,7 +26,7 @@ returns c =
     let a = c .before .before .ec-dec-icdf8-run in
     let t = delta-gain-row (z .pre .0 .rows) in
     let e : toZ w8 (a .result .value) ≡ pos (a .result .value) = toZ-pos w8 {n = a .result .value} (omega (arith, a .ensures .inside, t .size)) in
-    rw (eq-eqb _ _ (c .before .before .before .before .if1 .taken), e)
+    rw (eq-eqb _ 2 (c .before .before .before .before .if1 .taken), e)
     (ran-within {n = 16} {m = 32} (omega arith) (ran-ask (t .is) (a .ensures) (ran-done (a .ensures .core))))
 
 ec-dec-icdf8-run-requires-2 : tie.Need-ec-dec-icdf8-run-requires-2
@@ -50,7 +50,7 @@ returns-2 c =
     let u = gain-low-row (z .pre .0 .rows) in
     let v = h .result .value * 8 + l .result .value in
     let e : toZ w8 v ≡ pos v = toZ-pos w8 {n = v} (omega (arith, h .ensures .inside, t .size, l .ensures .inside, u .size)) in
-    rw (ne-eqb _ _ (c .before .before .before .before .before .before .before .if1 .left), e)
+    rw (ne-eqb _ 2 (c .before .before .before .before .before .before .before .if1 .left), e)
     (ran-ask (t .is) (h .ensures) (ran-ask (u .is) (l .ensures) (ran-done (l .ensures .core))))
 
 pub first-gain-spec : {M : Type 1} → statement M

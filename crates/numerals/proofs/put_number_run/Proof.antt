@@ -1,7 +1,7 @@
 -- `put_number_run` meets its contract: a minus sign and at most five digits. Assumes nothing.
 use Prim.Native.Nat.{ℕ, _≤_}
-use mathlib.Core.Path.{ap, _∙_}
-use mathlib.Core.List.{_∷_}
+use mathlib.Core.Path.{refl, ap, _∙_}
+use mathlib.Core.List.{[], _∷_}
 use native.Mathlib.Omega.{arith}
 use lib.ListN.{length}
 use mir.Facts.{toZ-ofZ}
@@ -26,7 +26,8 @@ returns c =
     let m = b .before .before .before .magnitude in
     let a = b .before .before .before .before .before in
     let f = toZ-ofZ (a .fits .x) in
-    put-as (put-then (b .put-byte-run .ensures) (c .before .before .put-natural .ensures))
+    let minus = put-as {k = 1} {u = 45 ∷ []} (b .put-byte-run .ensures) refl (omega arith) in
+    put-as (put-then minus (c .before .before .put-natural .ensures))
     (ap (λ (n : ℕ). 45 ∷ natural n) (rw f at (m .ensures .0)) ∙ decimal-minus (a .args .x) (rw f at (b .before .before .if1 .taken)))
     (omega (arith, five (m .result) (m .ensures .1)))
 

@@ -56,20 +56,24 @@ ec-dec-icdf8-run-requires c κs =
     let i = c .before .loop .inv in
     (i .core, (omega (arith, i .most, z .pre .1 .0, z .pre .1 .1 .1 .1), rw (z .pre .1 .1 .0) (row-good 123 (omega arith))))
 
+-- the value so far, and the bit read
+small-values : (c : tie.After-ec-dec-icdf8-run Inv-loop μ-loop) → (c .before .before .loop .v ≤ 17407) × (c .ec-dec-icdf8-run .result .value ≤ 1)
+small-values c =
+    let l = c .before .before in
+    let p = start l .pre .1 .1 in
+    (within (l .loop .inv) (p .1 .1), omega (arith, c .ec-dec-icdf8-run .ensures .inside, ap length (p .0), low-bit-size))
+
 mul-v : tie.Need-mul-v Inv-loop μ-loop
-mul-v c = let l = c .before .before in omega (arith, within (l .loop .inv) (start l .pre .1 .1 .1 .1))
+mul-v c = omega (arith, small-values c)
 
 add-v : tie.Need-add-v Inv-loop μ-loop
-add-v c =
-    let l = c .before .before .before in
-    let p = start l .pre .1 .1 in
-    omega (arith, within (l .loop .inv) (p .1 .1), c .before .ec-dec-icdf8-run .ensures .inside, ap length (p .0), low-bit-size)
+add-v c = omega (arith, small-values c)
 
 loop-again : tie.Need-loop-again Inv-loop μ-loop
 loop-again c =
-    let z = start (c .before .before .before .before) in
-    let l = c .before .before .before .before .loop in
-    let a = c .before .before .ec-dec-icdf8-run in
+    let z = start (c .before .before .before) in
+    let l = c .before .before .before .loop in
+    let a = c .before .ec-dec-icdf8-run in
     let q : 2 ^ (l .j + 1) ≡ 2 ^ l .j * 2 = pow-add 2 (l .j) 1 in
     record {
       rest = bits-next _ (l .d) _ (z .args .n) (l .j) (l .v) (a .result) (z .pre .1 .1 .0) (a .ensures) (omega arith) ∙ l .inv .rest;

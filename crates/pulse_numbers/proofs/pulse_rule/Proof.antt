@@ -1,7 +1,7 @@
 -- `pulse_rule` meets its contract. Assumes nothing.
 use borrow.Author.Needs.{needs}
 use native.Mathlib.Omega.{arith}
-use mathlib.Core.Path.{sym, ap, _∙_}
+use mathlib.Core.Path.{_≡_, sym, ap, _∙_}
 use borrow.Author.Tests.{eq-eqb, ne-eqb}
 use Prim.Native.Nat.{ℕ, _*_}
 use Rattle.silk.specs.FrameCalls.{pulseRule}
@@ -25,7 +25,9 @@ returns : tie.Need-returns
 unfolding pulseRule
 returns c =
     let t = sym (c .before .before .before .numbers-ok .ensures) ∙ c .before .before .if1 .taken in
-    rw (t, eq-eqb _ _ (c .if2 .taken ∙ ap (λ (k : ℕ). 16 * k) (c .before .blocks-of-run .ensures)))
+    let b = c .before .blocks-of-run in
+    let e : c .before .before .before .before .args .n ≡ 16 * b .result = c .if2 .taken in
+    rw (t, eq-eqb _ _ (e ∙ ap (λ (k : ℕ). 16 * k) (b .ensures)))
 
 returns-2 : tie.Need-returns-2
 unfolding pulseRule

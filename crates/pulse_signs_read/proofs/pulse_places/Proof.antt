@@ -41,11 +41,6 @@ stepped s at n k g l false f h = gathered-some s at n k g l (h refl)
 loop-holds : tie.Need-loop-holds Inv-loop μ-loop
 loop-holds c = (omega arith, (c .pre .1, gathered-start (c .args .places .now) (c .args .at .now)))
 
-add-n : tie.Need-add-n Inv-loop μ-loop
-add-n c =
-    let b = c .before .before in
-    omega (arith, b .loop .inv .1 .1 .count, one (not (eqb (ofZ w16 (getD (b .before .args .places .now) (b .loop .k) (pos 0))) 0)))
-
 loop-again : tie.Need-loop-again Inv-loop μ-loop
 loop-again c =
     let b = c .before .before in
@@ -61,6 +56,11 @@ loop-again c =
             (λ e. some x (λ q. eqb-false (ofZ w16 x) 0 e (ap (ofZ w16) q))),
       ),
     )
+
+add-n : tie.Need-add-n Inv-loop μ-loop
+add-n c =
+    let b = c .before .before in
+    omega (arith, b .loop .inv .1 .1 .count, one (not (eqb (ofZ w16 (getD (b .before .args .places .now) (b .loop .k) (pos 0))) 0)))
 
 returns : tie.Need-returns Inv-loop μ-loop
 returns c = let l = c .before .loop in let e : l .k ≡ 16 = omega arith in rw e at (l .inv .1 .1)
