@@ -147,9 +147,9 @@ class Edits:
     def document(self):
         yield '# Must-fail edits'
         yield ''
-        yield 'Every wrong line of code or of a definition that the gate tries, and the first error that refuses it: its kind, and what differs'
-        yield '(`tests/edit_errors.py` says what each kind is; the terms are cut). docs/PROMISES.md has them by the call that they speak of. The'
-        yield 'step `edit errors` fails where an edit is refused for another kind of reason, or where this page is stale in edits or kinds;'
+        yield 'Every wrong line of code or of a definition that the gate tries, and the first error that refuses it: its kind and what'
+        yield 'differs (`tests/edit_errors.py` says what each kind is; the terms are cut). docs/PROMISES.md has them by the call that they'
+        yield 'speak of. The gate fails where an edit is refused for another kind of reason, or where this page is stale in edits or kinds;'
         yield '`tests/edit_errors.py --write` writes it after `rt ci`.'
         last = ''
         for room, edit, files, what, differs in self.found:

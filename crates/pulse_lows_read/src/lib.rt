@@ -45,7 +45,8 @@ fn all_lows(packet: &[u8], from: Dec, row: &[u8], places: &mut [i16], n: u32) ->
     requires { ⌜ from .total ≤ 2 ^ 28 ⌝ }
     requires { ⌜ (now row ≡ lowBitRow) × (n ≤ 10) ⌝ }
     requires { ⌜ Natural (now places) × (length (now places) ≡ 16) × AtMost 16 (mags (now places)) ⌝ }
-    ensures { λ z. ⌜ Placed (now (packet .entry)) from (each 0 (lowBits n) (mags (now (places .entry)))) 2560 (now (places .exit)) z ⌝ }
+    ensures { λ z.
+        ⌜ Placed (now (packet .entry)) from (each 0 (lowBits n) (mags (now (places .entry)))) (ofSymbols 160) (now (places .exit)) z ⌝ }
 {
     let mut d = from;
     let mut k: usize = 0;
@@ -66,7 +67,8 @@ pub fn block_lows_run(packet: &[u8], from: Dec, row: &[u8], places: &mut [i16], 
     requires { ⌜ from .total ≤ 2 ^ 28 ⌝ }
     requires { ⌜ (now row ≡ lowBitRow) × (n ≤ 10) ⌝ }
     requires { ⌜ Natural (now places) × (length (now places) ≡ 16) × AtMost 16 (mags (now places)) ⌝ }
-    ensures { λ z. ⌜ Placed (now (packet .entry)) from (each 0 (lowBits n) (mags (now (places .entry)))) 2560 (now (places .exit)) z ⌝ }
+    ensures { λ z.
+        ⌜ Placed (now (packet .entry)) from (each 0 (lowBits n) (mags (now (places .entry)))) (ofSymbols 160) (now (places .exit)) z ⌝ }
 {
     if n == 0 {
         return from;

@@ -41,7 +41,7 @@ fn shell_2(packet: &[u8], d: Dec, rows: &[u8], places: &mut [i16], p: u32) -> De
     requires { ⌜ d .total ≤ 2 ^ 30 ⌝ }
     requires { ⌜ PulseRows (now rows) ⌝ }
     requires { ⌜ (p ≤ 16) × (length (now places) ≡ 2) ⌝ }
-    ensures { λ z. ⌜ Placed (now (packet .entry)) d (shell 1 p) 16 (now (places .exit)) z ⌝ }
+    ensures { λ z. ⌜ Placed (now (packet .entry)) d (shell 1 p) (ofSymbols 1) (now (places .exit)) z ⌝ }
 {
     let a = decode_split_run(packet, d, rows, 0, p);
     let left = a.value;
@@ -65,7 +65,7 @@ fn shell_4(packet: &[u8], d: Dec, rows: &[u8], places: &mut [i16], p: u32) -> De
     requires { ⌜ d .total ≤ 2 ^ 29 ⌝ }
     requires { ⌜ PulseRows (now rows) ⌝ }
     requires { ⌜ (p ≤ 16) × (length (now places) ≡ 4) ⌝ }
-    ensures { λ z. ⌜ Placed (now (packet .entry)) d (shell 2 p) 48 (now (places .exit)) z ⌝ }
+    ensures { λ z. ⌜ Placed (now (packet .entry)) d (shell 2 p) (ofSymbols 3) (now (places .exit)) z ⌝ }
 {
     let a = decode_split_run(packet, d, rows, 1, p);
     let left = a.value;
@@ -87,7 +87,7 @@ pub fn shell_8_run(packet: &[u8], d: Dec, rows: &[u8], places: &mut [i16], p: u3
     requires { ⌜ d .total ≤ 2 ^ 28 ⌝ }
     requires { ⌜ PulseRows (now rows) ⌝ }
     requires { ⌜ (p ≤ 16) × (length (now places) ≡ 8) ⌝ }
-    ensures { λ z. ⌜ Placed (now (packet .entry)) d (shell 3 p) 112 (now (places .exit)) z ⌝ }
+    ensures { λ z. ⌜ Placed (now (packet .entry)) d (shell 3 p) (ofSymbols 7) (now (places .exit)) z ⌝ }
 {
     let a = decode_split_run(packet, d, rows, 2, p);
     let left = a.value;

@@ -4,6 +4,7 @@ ghost use mathlib.Core.Path.{_≡_};
 ghost use Prim.Native.Nat.{_^_, _≤_};
 ghost use lib.ListN.{length};
 ghost use Rattle.entcode.specs.Inner.Reading.{Core};
+ghost use Rattle.tree.specs.Inner.Growth.{ofSymbols};
 ghost use Rattle.silk.specs.PulseSyntax.{shell};
 ghost use Rattle.silk.specs.Inner.Pulses.{PulseRows, Placed};
 use entcode::Dec;
@@ -17,7 +18,7 @@ pub fn silk_shell_decoder_run(packet: &[u8], d: Dec, rows: &[u8], places: &mut [
     requires { ⌜ d .total ≤ 2 ^ 27 ⌝ }
     requires { ⌜ PulseRows (now rows) ⌝ }
     requires { ⌜ (p ≤ 16) × (length (now places) ≡ 16) ⌝ }
-    ensures { λ z. ⌜ Placed (now (packet .entry)) d (shell 4 p) 240 (now (places .exit)) z ⌝ }
+    ensures { λ z. ⌜ Placed (now (packet .entry)) d (shell 4 p) (ofSymbols 15) (now (places .exit)) z ⌝ }
 {
     if p == 0 {
         pulse_shell_empty::clear(places);

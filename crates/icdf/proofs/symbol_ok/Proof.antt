@@ -27,7 +27,8 @@ returns-2 : tie.Need-returns-2
 unfolding symbolOk
 returns-2 c =
     let b = c .before .before .before .before in
-    rw (lt-ltb _ _ (c .before .before .before .if1 .taken), before-later (b .args .scale) (b .args .symbol) (b .args .table .now) (c .before .if2 .left)) refl
+    let l = before-later (b .args .scale) (b .args .symbol) (b .args .table .now) (c .before .if2 .left) in
+    rw (lt-ltb _ _ (c .before .before .before .if1 .taken), l) refl
 
 returns-3 : tie.Need-returns-3
 unfolding symbolOk

@@ -57,7 +57,8 @@ ec-dec-icdf8-run-requires c κs =
     (i .core, (omega (arith, i .most, z .pre .1 .0, z .pre .1 .1 .1 .1), rw (z .pre .1 .1 .0) (row-good 123 (omega arith))))
 
 -- the value so far, and the bit read
-small-values : (c : tie.After-ec-dec-icdf8-run Inv-loop μ-loop) → (c .before .before .loop .v ≤ 17407) × (c .ec-dec-icdf8-run .result .value ≤ 1)
+small-values : (c : tie.After-ec-dec-icdf8-run Inv-loop μ-loop)
+    → (c .before .before .loop .v ≤ 17407) × (c .ec-dec-icdf8-run .result .value ≤ 1)
 small-values c =
     let l = c .before .before in
     let p = start l .pre .1 .1 in
