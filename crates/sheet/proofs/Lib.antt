@@ -4,5 +4,4 @@ pub mod Places
 pub mod Families
 pub mod Probabilities
 pub mod BooksLaws
-pub mod Weights
 pub mod WeightsLaws

@@ -1,6 +1,7 @@
 -- The weights of a spectrum vector (RFC 6716, section 4.2.7.5.3). Assumes nothing.
 use Prim.Native.Nat.{ℕ, _+_, _-_, _*_, _/_, _%_, _^_}
 use mathlib.Core.Bool.{cond}
+use mathlib.Core.List.{List, [], _∷_}
 use lib.Dec.{eqb}
 use Rattle.bitlen.specs.Length.{bitLength}
 
@@ -17,3 +18,13 @@ rootAt s i =
 
 unfoldable pub weight : ℕ → ℕ → ℕ → ℕ
 weight a x z = rootAt (square a x z) (bitLength (square a x z))
+
+-- the weights of the values behind a
+unfoldable pub weightsFrom : ℕ → List ℕ → List ℕ
+weightsFrom a [] = []
+weightsFrom a (x ∷ []) = weight a x 256 ∷ []
+weightsFrom a (x ∷ y ∷ t) = weight a x y ∷ weightsFrom x (y ∷ t)
+
+-- the weights of a vector: 0 stands before its first value and 256 behind its last
+unfoldable pub weightsOf : List ℕ → List ℕ
+weightsOf v = weightsFrom 0 v
