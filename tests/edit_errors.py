@@ -1,7 +1,7 @@
 #!/usr/bin/env python3
-"""Each must-fail edit is refused because a fact is false, and not because the proof's text no longer fits. Reads what `rt ci` wrote of
-every edit (target/must-fail/ROOM/EDIT/.log), takes its first error that is no other's consequence, and prints a line for each: the
-edit, the kind of the error and what differs.
+"""Each must-fail edit is refused because a fact is false, and not because the proof's text no longer fits. Reads what `must_fail.py`
+wrote of every edit (target/must-fail/ROOM/EDIT/.log), takes its first error that is no other's consequence, and prints a line for each:
+the edit, the kind of the error and what differs.
 
   value     two terms differ in a number, a field or an argument
   bound     an inequality or a sum of numbers does not follow
@@ -150,7 +150,7 @@ class Edits:
         yield 'Every wrong line of code or of a definition that the gate tries, and the first error that refuses it: its kind and what'
         yield 'differs (`tests/edit_errors.py` says what each kind is; the terms are cut). docs/PROMISES.md has them by the call that they'
         yield 'speak of. The gate fails where an edit is refused for another kind of reason, or where this page is stale in edits or kinds;'
-        yield '`tests/edit_errors.py --write` writes it after `rt ci`.'
+        yield '`tests/edit_errors.py --write` writes it after `tests/must_fail.py`.'
         last = ''
         for room, edit, files, what, differs in self.found:
             if room != last:
