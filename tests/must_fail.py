@@ -7,8 +7,9 @@ rooms have to be proved before (`rt prove`, `rt check`). A module that is loaded
 fails; so nothing passes here that `rt must-fail` would let survive.
 
 Prints a line for each edit that says where it is refused, and last how many were. Fails on an edit that is not refused, does not apply
-or does not reach the prover.
-Usage: tests/must_fail.py [ROOM...]
+or does not reach the prover. With --until the rooms are still being proved: an edit waits for its room, but no longer than until FILE is
+there.
+Usage: tests/must_fail.py [--until FILE] [ROOM...]
 """
 import concurrent.futures
 import functools
@@ -20,6 +21,7 @@ import shutil
 import subprocess
 import sys
 import tempfile
+import threading
 import time
 
 TOP = pathlib.Path(__file__).resolve().parent.parent
@@ -52,6 +54,10 @@ def check(room, root, kept):
     words += ['--logic-built', own / 'logic-built', '--incremental', kept]
     run = subprocess.run(words, stdin=subprocess.DEVNULL, stdout=subprocess.PIPE, stderr=subprocess.STDOUT)
     return run.returncode, run.stdout.decode('utf-8', 'replace')
+
+
+def proved(room):
+    return (TARGET / 'stamp' / room).exists()
 
 
 @functools.cache
@@ -112,6 +118,8 @@ def tried(edit):
         room, where = copied(edit)
     except BadEdit as why:
         return False, f'{name}: BAD EDIT: {why}'
+    if not proved(room):
+        return False, f'{name}: NOT TRIED: the room is not proved'
     with tempfile.TemporaryDirectory() as kept:
         shutil.copytree(TARGET / 'rlib' / f'{room}.rlib/toolchain/checked', pathlib.Path(kept) / build_folder())
         status, said = check(room, where / 'src/lib.rt', kept)
@@ -127,16 +135,43 @@ def tried(edit):
                              *said.split('\n')[:5]])
 
 
-def main():
-    rooms = sys.argv[1:] or reversed(named())  # the dearest stand high
-    edits = [edit for room in rooms for edit in sorted((TOP / 'crates' / room / 'must-fail').glob('*.edit'))]
-    build_folder()
-    failed = 0
-    with concurrent.futures.ThreadPoolExecutor(int(os.environ.get('RT_JOBS') or 0) or os.cpu_count()) as pool:
-        for good, line in pool.map(tried, edits):
+class Queue:
+    """The edits that are left to try. While rooms are still being proved, those of a proved room come first."""
+
+    def __init__(self, edits, ended):
+        self.edits, self.ended, self.lock = edits, ended, threading.Lock()
+
+    def next(self):
+        while self.edits:
+            with self.lock:
+                ready = next((edit for edit in self.edits if self.ended() or proved(edit.parts[-3])), None)
+                if ready:
+                    self.edits.remove(ready)
+                    build_folder()
+                    return ready
+            time.sleep(0.2)
+        return None
+
+    def work(self, _):
+        """Tries one edit after the other; how many were not refused."""
+        failed = 0
+        while edit := self.next():
+            good, line = tried(edit)
             print(line, flush=True)
             failed += not good
-    print(f'{len(edits) - failed} edits refused, {failed} not')
+        return failed
+
+
+def main():
+    rooms, ended = sys.argv[1:], lambda: True
+    if rooms[:1] == ['--until']:
+        ended, rooms = pathlib.Path(rooms[1]).exists, rooms[2:]
+    rooms = rooms or reversed(named())  # the dearest stand high
+    edits = [edit for room in rooms for edit in sorted((TOP / 'crates' / room / 'must-fail').glob('*.edit'))]
+    count, workers = len(edits), int(os.environ.get('RT_JOBS') or 0) or os.cpu_count()
+    with concurrent.futures.ThreadPoolExecutor(workers) as pool:
+        failed = sum(pool.map(Queue(edits, ended).work, range(workers)))
+    print(f'{count - failed} edits refused, {failed} not')
     return 1 if failed else 0
 
 
