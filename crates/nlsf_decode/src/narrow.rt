@@ -11,6 +11,9 @@ use tables::books::narrow_selectors_run;
 use tables::books::narrow_vector_run;
 use tables::books::narrow_weights_run;
 
+// The step of its residuals (section 4.2.7.5.2).
+const STEP: u16 = 11796;
+
 // The sum of the book's gaps.
 const GAP_SUM: i32 = 742;
 
@@ -23,7 +26,7 @@ pub fn narrow_run(vector: &mut [i16], v: usize, xs: &[i8]) -> u32
     let weight = narrow_weights_run(v);
     let selector = narrow_selectors_run(v);
     let lists = narrow_predictors();
-    places_run(vector, xs, 11796, &selector, &lists, &value, &weight);
+    places_run(vector, xs, STEP, &selector, &lists, &value, &weight);
     let gaps = narrow_gaps();
     if stays_run(vector, &gaps) {
         return 0;

@@ -11,6 +11,9 @@ use tables::books::wide_selectors_run;
 use tables::books::wide_vector_run;
 use tables::books::wide_weights_run;
 
+// The step of its residuals (section 4.2.7.5.2).
+const STEP: u16 = 9830;
+
 // The sum of the book's gaps.
 const GAP_SUM: i32 = 583;
 
@@ -23,7 +26,7 @@ pub fn wide_run(vector: &mut [i16], v: usize, xs: &[i8]) -> u32
     let weight = wide_weights_run(v);
     let selector = wide_selectors_run(v);
     let lists = wide_predictors();
-    places_run(vector, xs, 9830, &selector, &lists, &value, &weight);
+    places_run(vector, xs, STEP, &selector, &lists, &value, &weight);
     let gaps = wide_gaps();
     if stays_run(vector, &gaps) {
         return 0;

@@ -6,6 +6,7 @@ ghost use mathlib.Core.Bool.{cond};
 ghost use lib.Dec.{eqb};
 ghost use Rattle.framing.specs.Lengths.{total};
 ghost use Rattle.packet_plan.specs.Inner.{Planned};
+use framing::LONGEST_PACKET;
 use packet_shortest::code_run;
 use packet_shortest::own_run;
 use packet_shortest::widths_run;
@@ -49,7 +50,7 @@ fn room_run(len: usize, config: u32, n: usize, sizes: &[u16], length: u32) -> Pl
     requires { ⌜ (len ≤ 16384) × (n ≡ total (now sizes)) ⌝ }
     ensures { λ r. ⌜ Planned len config n (now (sizes .entry)) length r ⌝ }
 {
-    if 16384 < n {
+    if LONGEST_PACKET < n {
         return stop(8);
     }
     let same = alike_run(sizes);
@@ -81,7 +82,7 @@ fn room_run(len: usize, config: u32, n: usize, sizes: &[u16], length: u32) -> Pl
 pub fn plan_run(len: usize, config: u32, n: usize, sizes: &[u16], length: u32) -> Plan
     ensures { λ r. ⌜ Planned len config n (now (sizes .entry)) length r ⌝ }
 {
-    if 16384 < len {
+    if LONGEST_PACKET < len {
         return stop(1);
     }
     if adds_up(sizes, n) {

@@ -8,6 +8,7 @@ ghost use Rattle.packet_form.specs.Inner.{Bounded};
 ghost use Rattle.packet_places.specs.Inner.{Spanned};
 ghost use Rattle.packet_read.specs.Inner.{answerOf};
 use framing::Form;
+use framing::LONGEST_PACKET;
 use framing::Packet;
 use packet_form::form_run;
 use packet_places::Places;
@@ -67,7 +68,7 @@ fn accepted_run(s: &[u8], f: Form, head: usize, last: usize, toc: usize) -> Pack
 pub fn packet_read(packet: &[u8]) -> Packet
     ensures { λ a. ⌜ a ≡ packetRead (now (packet .entry)) ⌝ }
 {
-    if 16384 < packet.len() {
+    if LONGEST_PACKET < packet.len() {
         return refused(1);
     }
     let f = form_run(packet);

@@ -4,6 +4,9 @@ ghost use Prim.Native.Nat.{_≤_};
 ghost use mathlib.Core.Path.{_≡_};
 ghost use Rattle.packet_share.specs.Inner.{none as noneOf, closed as closedOf, shared as sharedOf};
 
+// The longest frame (rule R2 of section 3.4).
+const LONGEST_FRAME: usize = 1275;
+
 // Whether the rules are kept; then where the first frame starts, and the last frame's size.
 pub struct Span {
     pub kept: bool,
@@ -24,7 +27,7 @@ pub fn none() -> Span
 pub fn closed(head: usize, last: usize) -> Span
     ensures { λ a. ⌜ a ≡ closedOf head last ⌝ }
 {
-    if 1275 < last {
+    if LONGEST_FRAME < last {
         return none();
     }
     Span {

@@ -8,6 +8,7 @@ ghost use lib.ListN.{length};
 ghost use Rattle.framing.specs.Lengths.{lengthCode};
 ghost use Rattle.framing.specs.Writing.{alike, shortestCode};
 ghost use Rattle.packet_shortest.specs.Inner.{codesOf, Width};
+use framing::LONGEST_PACKET;
 
 // Bytes of one length.
 fn bytes_of(size: u16) -> usize
@@ -42,7 +43,7 @@ pub fn widths_run(sizes: &[u16], same: bool) -> usize
     if same {
         return 0;
     }
-    if 16384 < sizes.len() {
+    if LONGEST_PACKET < sizes.len() {
         return 50_000;
     }
     width_run(sizes)

@@ -45,13 +45,16 @@ pub fn alike_run(sizes: &[u16]) -> bool
     true
 }
 
-// Whether none is above 1,275.
+// The longest frame (RFC 6716, section 3.4, rule R2).
+const LONGEST_FRAME: u16 = 1275;
+
+// Whether none is longer.
 fn small_run(sizes: &[u16]) -> bool
     ensures { λ b. ⌜ b ≡ every fitsFrame (now (sizes .entry)) ⌝ }
 {
     let mut k = 0;
     while k < sizes.len() {
-        if 1275 < sizes[k] {
+        if LONGEST_FRAME < sizes[k] {
             return false;
         }
         k += 1;
