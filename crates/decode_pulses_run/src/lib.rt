@@ -11,6 +11,8 @@ ghost use Rattle.decode_pulses_run.specs.Inner.{Excited};
 use entcode::Dec;
 use pulse_counts_read::BlocksRead;
 use pulse_numbers::FrameNumbers;
+use pulse_row_places::LOW_BIT;
+use pulse_row_places::LOW_BIT_END;
 
 // The magnitudes before low bits of n blocks.
 fn shells(packet: &[u8], rows: &[u8], x: BlocksRead, pulses: &mut [i16], n: usize) -> Dec
@@ -56,7 +58,7 @@ fn lows(packet: &[u8], from: Dec, rows: &[u8], x: BlocksRead, pulses: &mut [i16]
         d = pulse_lows_read::block_lows_run(
             packet,
             d,
-            &rows[823..825],
+            &rows[LOW_BIT..LOW_BIT_END],
             &mut pulses[at..end],
             j as u32,
         );

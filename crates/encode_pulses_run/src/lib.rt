@@ -15,6 +15,8 @@ use entcode::Enc;
 use pulse_block_write::block_signs_run;
 use pulse_block_write::block_splits_run;
 use pulse_numbers::FrameNumbers;
+use pulse_row_places::LOW_BIT;
+use pulse_row_places::LOW_BIT_END;
 use pulse_shifts::Plan;
 
 // The splits of n blocks.
@@ -57,7 +59,7 @@ fn lows(buf: &mut [u8], from: Enc, rows: &[u8], pulses: &[i16], x: Plan, n: usiz
         w = pulse_lows_write::block_lows_tell_run(
             buf,
             w,
-            &rows[823..825],
+            &rows[LOW_BIT..LOW_BIT_END],
             &pulses[at..end],
             j as u32,
         );

@@ -7,7 +7,7 @@ use lib.ListN.{replicate}
 use Rattle.bitlen.specs.Length.{lengthIn, bitLength}
 use Rattle.icdf.specs.Test.{icdfOk, symbolOk, icdfRule, symbolRule}
 use Rattle.refusals.specs.First.{firstOf}
-use Rattle.sheet.specs.Rows.{flagRows, typeRows, gainRows, deltaGainRows, narrowFirstRows, wideFirstRows, narrowResidualRows, wideResidualRows, extensionRows, interpolationRows, lagRows, contourRows, periodRows, filterRows, scaleRows, evenRows, rateRows, countRows, lastCountRows, shellRows0, shellRows1, shellRows2, shellRows3, lowBitRows, signRows, headerRows, indexRows, pulseRows, sheet}
+use Rattle.sheet.specs.Rows.{rows}
 use Rattle.sheet.specs.Directory.{rowOf}
 use Rattle.sheet.specs.Books.{narrowBook}
 use Rattle.entcode.specs.Models.{bit}
@@ -48,7 +48,12 @@ abbrev pub begun : Out
 begun = after (encSym (after (encOpen (replicate 60 7))) (record { model = bit 1; value = 1 }))
 
 pub frame-accepted : FrameAccepts begun setting voicedRecord somePulses 3 × Finishes (after (typedPulses begun setting voicedRecord somePulses 3))
-unfolding leadingZeros lengthIn bitLength icdfOk symbolOk icdfRule symbolRule firstOf flagRows typeRows gainRows deltaGainRows narrowFirstRows wideFirstRows narrowResidualRows wideResidualRows extensionRows interpolationRows lagRows contourRows periodRows filterRows scaleRows evenRows rateRows countRows lastCountRows shellRows0 shellRows1 shellRows2 shellRows3 lowBitRows signRows headerRows indexRows pulseRows sheet rowOf narrowBook account soundW gateW answered written encSym encOpen then of symbols meant writtenAll allSaid kind firstGain moreGains gains residual residuals spectrum interpolation absoluteLag lag contour filters period scale pitch voicing seed indices settingOk nextLag sameIndices sayable encodeIndices pulseNumbersOk each lowCounts count counts total split shell lowBits blockLows sign blockSigns shifted excitation rows16 blockSays shiftOk firstFrom blocksBy writeRule writeNumbers encodePulses finished encDone
+unfolding leadingZeros lengthIn bitLength icdfOk symbolOk icdfRule symbolRule firstOf rows rowOf narrowBook account
+    soundW gateW answered written encSym encOpen then of symbols meant writtenAll allSaid kind firstGain moreGains
+    gains residual residuals spectrum interpolation absoluteLag lag contour filters period scale pitch voicing seed
+    indices settingOk nextLag sameIndices sayable encodeIndices pulseNumbersOk each lowCounts count counts total split
+    shell lowBits blockLows sign blockSigns shifted excitation rows16 blockSays shiftOk firstFrom blocksBy writeRule
+    writeNumbers encodePulses finished encDone
 frame-accepted = (
   record { shape = record { gains = refl; ltp = refl; nlsf = refl }; indices = refl; pulses = refl },
   record { accepted = refl; error = refl },

@@ -7,6 +7,7 @@ ghost use Rattle.silk.specs.Inner.Indices.{Reading, Subframes};
 ghost use Rattle.silk.specs.IndexSyntax.{filters, period, scale};
 use entcode::Dec;
 use entdec_run::ec_dec_icdf8_run;
+use index_layout::FILTERS;
 use index_layout::PERIOD;
 use index_layout::PERIOD_END;
 use index_layout::SCALE;
@@ -21,7 +22,7 @@ fn filter_indices(packet: &[u8], d: Dec, rows: &[u8], x: Indices, p: u32, n: usi
     ensures { λ a. ⌜ Ran (now (packet .entry)) d (filters p n 0 x) (ofSymbols 4) (a .indices) (a .state) ⌝ }
 {
     let size = 8usize << p;
-    let start = 463 + size;
+    let start = FILTERS + size;
     let end = start + size;
     let mut out = x;
     let mut r = d;

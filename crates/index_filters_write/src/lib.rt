@@ -10,6 +10,7 @@ ghost use Rattle.silk.specs.Inner.Indices.{Writing, Subframes, Upto};
 ghost use Rattle.silk.specs.IndexSyntax.{filters, period, scale};
 use entcode::Enc;
 use entenc_run::ec_enc_icdf8_run;
+use index_layout::FILTERS;
 use index_layout::PERIOD;
 use index_layout::PERIOD_END;
 use index_layout::SCALE;
@@ -23,7 +24,7 @@ fn filters_tell(buf: &mut [u8], w: Enc, rows: &[u8], x: Indices, p: u32, n: usiz
     ensures { λ r. ⌜ Told (out (now (buf .entry)) w) x (filters p n 0 x) (ofSymbols 4) (out (now (buf .exit)) r) ⌝ }
 {
     let size = 8usize << p;
-    let start = 463 + size;
+    let start = FILTERS + size;
     let end = start + size;
     let mut q = w;
     let mut k: usize = 0;

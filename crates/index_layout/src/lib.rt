@@ -3,53 +3,74 @@
 ghost use mathlib.Core.Path.{_≡_};
 ghost use Rattle.silk.specs.Inner.Indices.{lagLowStart, contourStart, contourSize};
 ghost use Rattle.silk.specs.IndexSyntax.{bookOf};
+use sheet::INDEX_ROWS;
 
-// ---- where the row of each field starts among those that are lent, and where it ends
+// ---- where the row of each field starts, and where it ends: by the sheet's directory (docs/TABLES.md), less where the
+// part begins that is lent
 
 // Three rows of 8 entries, by signal type.
-pub const GAIN: usize = 6;
+pub const GAIN: usize = 16 - INDEX_ROWS;
 
-pub const DELTA_GAIN: usize = 30;
+pub const DELTA_GAIN: usize = 40 - INDEX_ROWS;
 
-pub const DELTA_GAIN_END: usize = 71;
+pub const DELTA_GAIN_END: usize = 81 - INDEX_ROWS;
 
 // Four rows of 32, by book and signal type.
-pub const FIRST_INDEX: usize = 71;
+pub const FIRST_INDEX: usize = 81 - INDEX_ROWS;
 
 // Sixteen rows of 9, eight of each book.
-pub const RESIDUAL: usize = 199;
+pub const RESIDUAL: usize = 209 - INDEX_ROWS;
 
-pub const EXTENSION: usize = 343;
+pub const EXTENSION: usize = 353 - INDEX_ROWS;
 
-pub const EXTENSION_END: usize = 350;
+pub const EXTENSION_END: usize = 360 - INDEX_ROWS;
 
-pub const INTERPOLATION: usize = 350;
+pub const INTERPOLATION: usize = 360 - INDEX_ROWS;
 
-pub const INTERPOLATION_END: usize = 355;
+pub const INTERPOLATION_END: usize = 365 - INDEX_ROWS;
 
-pub const LAG: usize = 355;
+pub const LAG: usize = 365 - INDEX_ROWS;
 
-pub const LAG_END: usize = 387;
+pub const LAG_END: usize = 397 - INDEX_ROWS;
 
-pub const DELTA_LAG: usize = 387;
+pub const DELTA_LAG: usize = 397 - INDEX_ROWS;
 
-pub const DELTA_LAG_END: usize = 408;
+pub const DELTA_LAG_END: usize = 418 - INDEX_ROWS;
 
-pub const PERIOD: usize = 468;
+// Lag contours: 8 kHz with 2 and 4 subframes, else with 2 and 4.
+const CONTOUR_1: usize = 418 - INDEX_ROWS;
 
-pub const PERIOD_END: usize = 471;
+const CONTOUR_2: usize = 421 - INDEX_ROWS;
 
-pub const SCALE: usize = 527;
+const CONTOUR_3: usize = 432 - INDEX_ROWS;
 
-pub const SCALE_END: usize = 530;
+const CONTOUR_4: usize = 444 - INDEX_ROWS;
 
-pub const SEED: usize = 533;
+pub const PERIOD: usize = 478 - INDEX_ROWS;
 
-pub const SEED_END: usize = 537;
+pub const PERIOD_END: usize = 481 - INDEX_ROWS;
 
-pub const GAIN_LOW: usize = 548;
+// The filters of 8, 16 and 32 entries start so many behind here: at 481, 489 and 505.
+pub const FILTERS: usize = 473 - INDEX_ROWS;
 
-pub const GAIN_LOW_END: usize = 556;
+pub const SCALE: usize = 537 - INDEX_ROWS;
+
+pub const SCALE_END: usize = 540 - INDEX_ROWS;
+
+// Even tables of 4, 6 and 8 parts.
+const EVEN_4: usize = 543 - INDEX_ROWS;
+
+const EVEN_6: usize = 552 - INDEX_ROWS;
+
+const EVEN_8: usize = 558 - INDEX_ROWS;
+
+pub const SEED: usize = EVEN_4;
+
+pub const SEED_END: usize = 547 - INDEX_ROWS;
+
+pub const GAIN_LOW: usize = EVEN_8;
+
+pub const GAIN_LOW_END: usize = 566 - INDEX_ROWS;
 
 // ---- rows that rate and subframes pick
 
@@ -58,11 +79,11 @@ pub fn lag_low_start(khz: u32) -> usize
     ensures { λ a. ⌜ a ≡ lagLowStart khz ⌝ }
 {
     if khz == 8 {
-        533
+        EVEN_4
     } else if khz == 12 {
-        542
+        EVEN_6
     } else {
-        548
+        EVEN_8
     }
 }
 
@@ -71,9 +92,9 @@ pub fn contour_start(khz: u32, subframes: u32) -> usize
     ensures { λ a. ⌜ a ≡ contourStart khz subframes ⌝ }
 {
     if khz == 8 {
-        if subframes == 2 { 408 } else { 411 }
+        if subframes == 2 { CONTOUR_1 } else { CONTOUR_2 }
     } else {
-        if subframes == 2 { 422 } else { 434 }
+        if subframes == 2 { CONTOUR_3 } else { CONTOUR_4 }
     }
 }
 

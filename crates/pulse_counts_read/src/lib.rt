@@ -9,6 +9,8 @@ ghost use Rattle.tree.specs.Inner.Ran.{Ran};
 ghost use Rattle.silk.specs.PulseSyntax.{count, counts};
 ghost use Rattle.silk.specs.Inner.Pulses.{PulseRows, blocksFrom};
 use entcode::Dec;
+use pulse_row_places::COUNT;
+use pulse_row_places::COUNT_END;
 
 // A block's count before low bits, the number of its low bits, and the reader behind them.
 pub struct BlockRead {
@@ -34,7 +36,7 @@ fn count_run(packet: &[u8], from: Dec, rows: &[u8], level: usize) -> BlockRead
         ⌜ Ran (now (packet .entry)) from (count level) (ofSymbols 11) (record { count = a .count; lows = a .lows }) (a .state) ⌝ }
     ensures { λ a. ⌜ (a .count ≤ 16) × (a .lows ≤ 10) ⌝ }
 {
-    let start = 18 + level * 18;
+    let start = COUNT + level * 18;
     let end = start + 18;
     let a = entdec_run::ec_dec_icdf8_run(packet, from, &rows[start..end]);
     let mut d = a.state;
@@ -43,7 +45,7 @@ fn count_run(packet: &[u8], from: Dec, rows: &[u8], level: usize) -> BlockRead
     while v == 17 {
         j += 1;
         let at = pulse_row_places::later_at(j);
-        let b = entdec_run::ec_dec_icdf8_run(packet, d, &rows[at..198]);
+        let b = entdec_run::ec_dec_icdf8_run(packet, d, &rows[at..COUNT_END]);
         v = b.value;
         d = b.state;
     }

@@ -10,6 +10,8 @@ ghost use Rattle.tree.specs.Inner.Told.{Told};
 ghost use Rattle.silk.specs.PulseSyntax.{countSaid, lowCounts, counts};
 ghost use Rattle.silk.specs.Inner.Pulses.{PulseRows, blocksFrom};
 use entcode::Enc;
+use pulse_row_places::COUNT;
+use pulse_row_places::COUNT_END;
 
 // What is said after j low bits.
 fn count_said(j: u32, sum: u32, lows: u32) -> u32
@@ -34,7 +36,7 @@ fn later_tell(buf: &mut [u8], from: Enc, rows: &[u8], sum: u32, lows: u32) -> En
         j += 1;
         let at = pulse_row_places::later_at(j);
         let v = count_said(j, sum, lows);
-        w = entenc_run::ec_enc_icdf_run(buf, w, v, &rows[at..198], 8);
+        w = entenc_run::ec_enc_icdf_run(buf, w, v, &rows[at..COUNT_END], 8);
     }
     w
 }
@@ -57,7 +59,7 @@ pub fn counts_tell_run(
     ensures { λ r.
         ⌜ Told (out (now (buf .entry)) from) (blocksFrom sums lows 0 n) (counts level n) (ofSymbols 220) (out (now (buf .exit)) r) ⌝ }
 {
-    let start = 18 + level * 18;
+    let start = COUNT + level * 18;
     let end = start + 18;
     let mut w = from;
     let mut i: usize = 0;

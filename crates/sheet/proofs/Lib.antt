@@ -2,6 +2,6 @@ pub mod DirectoryLaws
 pub mod SheetRule
 pub mod Places
 pub mod Families
-pub mod Probabilities
+pub mod RowLaws
 pub mod BooksLaws
 pub mod WeightsLaws

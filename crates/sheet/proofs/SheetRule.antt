@@ -16,23 +16,23 @@ use Rattle.lists.proofs.EveryLaws.{every-at}
 use Rattle.icdf.specs.Rule.{Icdf, Writable, before}
 use Rattle.icdf.specs.Test.{icdfOk}
 use Rattle.icdf.proofs.RuleLaws.{icdf-of}
-use Rattle.sheet.specs.Rows.{headerRows, indexRows, pulseRows, sheet}
+use Rattle.sheet.specs.Rows.{rows}
 use Rattle.sheet.proofs.DirectoryLaws.{rowCount}
 use Rattle.sheet.specs.Directory.{rowOf, countRow, lastCountRow}
 
-row-counted : length sheet ≡ rowCount
-unfolding sheet headerRows indexRows pulseRows
+row-counted : length rows ≡ rowCount
+unfolding rows
 row-counted = refl
 
 -- ---- the rule of tables
 
-all-good : every (icdfOk 8) sheet ≡ true
-unfolding sheet headerRows indexRows pulseRows icdfOk
+all-good : every (icdfOk 8) rows ≡ true
+unfolding rows icdfOk
 all-good = refl
 
 pub row-good : (k : ℕ) → k < rowCount → Icdf 8 (rowOf k)
 unfolding rowOf
-row-good k h = icdf-of 8 (getD sheet k []) refl (every-at (icdfOk 8) sheet [] all-good k (omega (arith, row-counted)))
+row-good k h = icdf-of 8 (getD rows k []) refl (every-at (icdfOk 8) rows [] all-good k (omega (arith, row-counted)))
 
 -- ---- probabilities above 0
 
@@ -41,8 +41,8 @@ abbrev dropsFrom : ℕ → List ℕ → Bool
 dropsFrom m [] = true
 dropsFrom m (x ∷ t) = ltb x m && dropsFrom x t
 
-all-drop : every (dropsFrom (2 ^ 8)) sheet ≡ true
-unfolding sheet headerRows indexRows pulseRows
+all-drop : every (dropsFrom (2 ^ 8)) rows ≡ true
+unfolding rows
 all-drop = refl
 
 drops-later : (x : ℕ) (t : List ℕ) → dropsFrom x t ≡ true → (i : ℕ) → i < length t → getD t i 0 < getD (x ∷ t) i 0
@@ -57,10 +57,11 @@ drops-at t e (suc i) h = drops-later (2 ^ 8) t e (suc i) h
 pub row-writable : (k i : ℕ) → k < rowCount → i < length (rowOf k) → Writable 8 (rowOf k) i
 unfolding rowOf
 row-writable k i h l =
-    record { inside = l; chance = drops-at (getD sheet k []) (every-at (dropsFrom (2 ^ 8)) sheet [] all-drop k (omega (arith, row-counted))) i l }
+    let d = every-at (dropsFrom (2 ^ 8)) rows [] all-drop k (omega (arith, row-counted)) in
+    record { inside = l; chance = drops-at (getD rows k []) d i l }
 
 -- ---- the last count row (section 4.2.7.8.2)
 
 pub last-count-is : lastCountRow ≡ drop 1 (countRow 9)
-unfolding rowOf sheet headerRows indexRows pulseRows
+unfolding rowOf rows
 last-count-is = refl

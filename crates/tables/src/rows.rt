@@ -1,18 +1,24 @@
-// The inverse rows, one after the other, in the sheet's order: one constant for each part of a frame.
+// The inverse rows: one sheet, each row behind the one before it (docs/TABLES.md), and the three parts of it that calls
+// lend. A part is copied out of the constant, of which the compiler keeps that part alone.
 ghost use mathlib.Core.Path.{_≡_};
 ghost use mathlib.Core.List.{flatten};
+ghost use lib.ListN.{length};
 ghost use Rattle.sheet.specs.Rows.{headerRows, indexRows, pulseRows};
+use sheet::INDEX_ROWS;
+use sheet::PULSE_ROWS;
+use sheet::SHEET_END;
 
-const HEADER_ROWS: [u8; 10] = [203, 150, 0, 215, 195, 166, 125, 110, 82, 0];
-
-// The rows of an Opus frame's header.
-pub fn header_rows() -> [u8; 10]
-    ensures { λ r. ⌜ r ≡ flatten headerRows ⌝ }
-{
-    HEADER_ROWS
-}
-
-const INDEX_ROWS: [u8; 556] = [
+const SHEET: [u8; 1475] = [
+    203,
+    150,
+    0,
+    215,
+    195,
+    166,
+    125,
+    110,
+    82,
+    0,
     230,
     0,
     232,
@@ -569,16 +575,6 @@ const INDEX_ROWS: [u8; 556] = [
     64,
     32,
     0,
-];
-
-// The rows of the side indices.
-pub fn index_rows() -> [u8; 556]
-    ensures { λ r. ⌜ r ≡ flatten indexRows ⌝ }
-{
-    INDEX_ROWS
-}
-
-const PULSE_ROWS: [u8; 909] = [
     241,
     190,
     178,
@@ -1490,9 +1486,43 @@ const PULSE_ROWS: [u8; 909] = [
     0,
 ];
 
-// The rows of the pulses.
+fn copy(from: &[u8], to: &mut [u8])
+    requires { ⌜ length (now from) ≡ length (now to) ⌝ }
+    ensures { λ _. ⌜ now (to .exit) ≡ now (from .entry) ⌝ }
+{
+    let mut k: usize = 0;
+    while k < to.len() {
+        to[k] = from[k];
+        k += 1;
+    }
+}
+
+// The rows of an Opus frame's header.
+pub fn header_rows() -> [u8; 10]
+    ensures { λ r. ⌜ r ≡ flatten headerRows ⌝ }
+{
+    let sheet = SHEET;
+    let mut rows: [u8; 10] = [0; 10];
+    copy(&sheet[0..INDEX_ROWS], &mut rows);
+    rows
+}
+
+// The rows of side indices.
+pub fn index_rows() -> [u8; 556]
+    ensures { λ r. ⌜ r ≡ flatten indexRows ⌝ }
+{
+    let sheet = SHEET;
+    let mut rows: [u8; 556] = [0; 556];
+    copy(&sheet[INDEX_ROWS..PULSE_ROWS], &mut rows);
+    rows
+}
+
+// The rows of pulses.
 pub fn pulse_rows() -> [u8; 909]
     ensures { λ r. ⌜ r ≡ flatten pulseRows ⌝ }
 {
-    PULSE_ROWS
+    let sheet = SHEET;
+    let mut rows: [u8; 909] = [0; 909];
+    copy(&sheet[PULSE_ROWS..SHEET_END], &mut rows);
+    rows
 }

@@ -7,7 +7,7 @@ use Rattle.bitlen.specs.Length.{bitLength, lengthIn}
 use Rattle.icdf.specs.Search.{search}
 use Rattle.icdf.specs.Test.{icdfOk, symbolOk, symbolRule}
 use Rattle.refusals.specs.First.{firstOf}
-use Rattle.sheet.specs.Rows.{headerRows, indexRows, pulseRows, sheet}
+use Rattle.sheet.specs.Rows.{rows}
 use Rattle.sheet.specs.Directory.{rowOf}
 use Rattle.sheet.specs.Books.{narrowBook}
 use Rattle.entcode.specs.Cuts.{account}
@@ -49,7 +49,7 @@ spectra-hold = (refl, (refl, (refl, (refl, (refl, tt)))))
 
 lag-hold : AllHold lagCases
 unfolding lagCases decodeIndices nextLag settingOk decOpen firstOf gateR soundR opened cutDown readVal readNext
-    search wrap16 headerRows indexRows sheet rowOf narrowBook then of tree.run side.kind side.firstGain
+    search wrap16 rows rowOf narrowBook then of tree.run side.kind side.firstGain
     side.moreGains side.gains side.residual side.residuals side.spectrum side.interpolation side.lag side.contour
     side.filters side.period side.scale side.pitch side.voicing side.seed side.indices
 lag-hold = (refl, tt)
@@ -58,7 +58,7 @@ run-hold : AllHold runCases
 unfolding runCases decSym decTell decOpen reading.answered firstOf gateR soundR opened cutDown readVal readNext
     account bitLength lengthIn leadingZeros encSym encOpen writing.answered gateW soundW written stabiliseCall
     spectra.answered stabiliseRefusal lengthsOk goodGaps stabilise run keeps least diffs total minZ symbolOk icdfOk
-    symbolRule headerRows indexRows pulseRows sheet rowOf then of symbols allSaid pulseNumbersOk pulse.each
+    symbolRule rows rowOf then of symbols allSaid pulseNumbersOk pulse.each
     pulse.lowCounts pulse.count pulse.total pulse.split pulse.shell pulse.lowBits pulse.sign pulse.rows16 blockSays
     shiftOk firstFrom writeRule writeNumbers encodePulses
 run-hold = (refl, (refl, (refl, (refl, (refl, (refl, (refl, (refl, (refl, tt)))))))))

@@ -1,13 +1,17 @@
--- `pulse_rows` meets its contract: the constant is the list, by computation. Assumes nothing.
-use mathlib.Core.Path.{refl}
-use mathlib.Core.List.{flatten}
-use Rattle.sheet.specs.Rows.{pulseRows}
+-- `pulse_rows` meets its contract: the part of the sheet is the rows'. Assumes nothing.
+use borrow.Author.Needs.{needs}
+use mathlib.Core.Path.{_≡_, refl, _∙_}
+use lib.ListN.{take, drop}
+use Rattle.sheet.specs.Sheet.{sheet}
+use Rattle.sheet.proofs.Places.{pulse-part}
 use Rattle.tables.proofs.rows.pulse_rows.Statement.{statement}
 use Rattle.tables.proofs.rows.pulse_rows.Tie as tie
 
 returns : tie.Need-returns
-unfolding pulseRows flatten
-returns c = refl
+unfolding sheet
+returns c = let e : c .before .copy .last .1 .0 ≡ take 909 (drop 566 sheet) = c .before .copy .ensures in e ∙ pulse-part
 
 pub pulse-rows-spec : {M : Type 1} → statement M
-pulse-rows-spec = tie.close (tie.spec returns)
+pulse-rows-spec =
+    tie.close
+    (tie.spec (λ c. search needs) (λ c. search needs) (λ c. search needs) (λ c. search needs) (λ c κs. refl) returns)
