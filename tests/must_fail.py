@@ -62,8 +62,8 @@ def proved(room):
 
 @functools.cache
 def build_folder():
-    """The folder's name in which this build of the prover keeps modules: that of a room which names no other."""
-    room = next(room for room, names in named().items() if not names)
+    """The folder's name in which this build of the prover keeps modules: that of the cheapest room which names no other."""
+    room = [room for room, names in named().items() if not names][-1]
     with tempfile.TemporaryDirectory() as kept:
         check(room, TOP / 'crates' / room / 'src/lib.rt', kept)
         return os.listdir(kept)[0]

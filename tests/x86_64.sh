@@ -9,8 +9,9 @@ if [ "$(uname -m)" != x86_64 ]; then
     export CARGO_BUILD_TARGET=x86_64-unknown-linux-gnu
     export CARGO_TARGET_X86_64_UNKNOWN_LINUX_GNU_LINKER=$CC
     export CARGO_TARGET_X86_64_UNKNOWN_LINUX_GNU_RUNNER=$run
-    # Under the emulator a program that was not optimised runs far longer than optimising it takes.
+    # Under the emulator a program that was not optimised runs far longer than optimising it takes, and vectors do not pay.
     export CARGO_PROFILE_DEV_OPT_LEVEL=1 CARGO_PROFILE_DEV_DEBUG=0 CARGO_INCREMENTAL=0
+    export RUSTFLAGS="${RUSTFLAGS:-} -Cno-vectorize-loops -Cno-vectorize-slp"
     while read -r rustc; do
         if [ -d "$("$rustc" --print target-libdir --target $CARGO_BUILD_TARGET 2>/dev/null)" ]; then
             export RUSTC=$rustc PATH=${rustc%/*}:$PATH

@@ -1,8 +1,9 @@
 // The inverse rows: one sheet, each row behind the one before it (docs/TABLES.md), and the three parts of it that calls
-// lend. A part is copied out of the constant, of which the compiler keeps that part alone.
+// lend. A part is copied out of the sheet, of which the compiler keeps that part alone.
 ghost use mathlib.Core.Path.{_≡_};
 ghost use mathlib.Core.List.{flatten};
 ghost use lib.ListN.{length};
+ghost use Rattle.sheet.specs.Sheet.{sheet};
 ghost use Rattle.sheet.specs.Rows.{headerRows, indexRows, pulseRows};
 use sheet::INDEX_ROWS;
 use sheet::PULSE_ROWS;
@@ -1486,6 +1487,12 @@ const SHEET: [u8; 1475] = [
     0,
 ];
 
+fn all_rows() -> [u8; 1475]
+    ensures { λ r. ⌜ r ≡ sheet ⌝ }
+{
+    SHEET
+}
+
 fn copy(from: &[u8], to: &mut [u8])
     requires { ⌜ length (now from) ≡ length (now to) ⌝ }
     ensures { λ _. ⌜ now (to .exit) ≡ now (from .entry) ⌝ }
@@ -1501,9 +1508,9 @@ fn copy(from: &[u8], to: &mut [u8])
 pub fn header_rows() -> [u8; 10]
     ensures { λ r. ⌜ r ≡ flatten headerRows ⌝ }
 {
-    let sheet = SHEET;
+    let all = all_rows();
     let mut rows: [u8; 10] = [0; 10];
-    copy(&sheet[0..INDEX_ROWS], &mut rows);
+    copy(&all[0..INDEX_ROWS], &mut rows);
     rows
 }
 
@@ -1511,9 +1518,9 @@ pub fn header_rows() -> [u8; 10]
 pub fn index_rows() -> [u8; 556]
     ensures { λ r. ⌜ r ≡ flatten indexRows ⌝ }
 {
-    let sheet = SHEET;
+    let all = all_rows();
     let mut rows: [u8; 556] = [0; 556];
-    copy(&sheet[INDEX_ROWS..PULSE_ROWS], &mut rows);
+    copy(&all[INDEX_ROWS..PULSE_ROWS], &mut rows);
     rows
 }
 
@@ -1521,8 +1528,8 @@ pub fn index_rows() -> [u8; 556]
 pub fn pulse_rows() -> [u8; 909]
     ensures { λ r. ⌜ r ≡ flatten pulseRows ⌝ }
 {
-    let sheet = SHEET;
+    let all = all_rows();
     let mut rows: [u8; 909] = [0; 909];
-    copy(&sheet[PULSE_ROWS..SHEET_END], &mut rows);
+    copy(&all[PULSE_ROWS..SHEET_END], &mut rows);
     rows
 }
