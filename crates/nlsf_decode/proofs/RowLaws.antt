@@ -1,6 +1,7 @@
 -- The rows that a book has for one vector: what placing asks, and that placing by them is placing by the book. Assumes nothing.
 use Prim.Native.Nat.{ℕ, suc, _+_, _*_, _/_, _≤_, _<_}
 use mathlib.Core.Path.{_≡_, refl, sym, ap, ap₂, subst⁻¹, _∙_}
+use mathlib.Core.Bool.{true}
 use mathlib.Core.List.{List, [], map}
 use native.Mathlib.Omega.{arith}
 use borrow.Author.Tests.{eq-eqb, ne-eqb}
@@ -9,7 +10,10 @@ use lib.ListN.{length, getD, take, drop, length-drop}
 use lib.Seq.{length-take-le}
 use Rattle.ints.specs.Parts.{up, down}
 use Rattle.sheet.specs.Books.{Book, narrowBook, wideBook}
+use Rattle.sheet.specs.Statement.{Rising}
+use Rattle.sheet.specs.Weights.{risesBy}
 use Rattle.sheet.proofs.BooksLaws.{narrow-shaped, wide-shaped}
+use Rattle.sheet.proofs.WeightsLaws.{rises-at}
 use Rattle.tables.specs.Inner.{predictorRow}
 use Rattle.tables.proofs.PredictorRow.{predictor-row-length, predictor-row-at}
 use Rattle.spectrum.proofs.BookLaws.{Usable, gaps-long}
@@ -23,7 +27,7 @@ use Rattle.spectrum.specs.Residuals.{residuals, listOf, predictorIn}
 use Rattle.spectrum.specs.Stabilising.{Stable, stabilise, kept16}
 use Rattle.spectrum.specs.Values.{at, total, Within}
 use Rattle.nlsf_stabilize_move.specs.Inner.{MoveOk}
-use Rattle.nlsf_places.specs.Inner.{Rows, predictorAt, predictorBy, residualsBy, placesBy, PlacesOk}
+use Rattle.nlsf_places.specs.Inner.{Rows, predictorOf, predictorAt, predictorBy, residualsBy, placesBy, PlacesOk}
 use Rattle.nlsf_decode.specs.Inner.{Indexed, spectrumOf}
 
 pub record RowsOf (b : Book) (v : ℕ) (t : Rows) : Type 0 where
@@ -42,7 +46,7 @@ module _ (b : Book) (v : ℕ) (t : Rows) (r : RowsOf b v t) (u : Usable b) where
 
   -- of each place, the predictor in the row is the book's
   predictors-by : (i : ℕ) → i < b .order → predictorBy t i ≡ predictorIn (getD (b .selectors) v []) (b .predictors) i
-  unfolding predictorAt predictorIn
+  unfolding predictorOf predictorIn
   predictors-by i h =
       let l = listOf (getD (getD (b .selectors) v []) (i / 2) 0) i in
       let half : length (predictorRow b) / 2 ≡ b .order = omega (arith, lists-long) in
@@ -63,6 +67,7 @@ module _ (b : Book) (v : ℕ) (t : Rows) (r : RowsOf b v t) (u : Usable b) where
       let s = u .shaped in
       let ws : length (getD (b .weights) v []) ≡ b .order = s .weights .width v (i .row) in
       record {
+        some = omega (arith, i .long, u .some);
         few = omega (arith, i .long, u .few);
         indices = i .many ∙ sym (i .long);
         tens = i .tens;
@@ -85,8 +90,9 @@ pub record Handed (b : Book) (v : ℕ) (xs g p : List ℤ) : Type 0 where
   pub answer : {s : Stable} → s ≡ stabilise kept16 g p → s ≡ spectrumOf b v xs
 
 module _ {b : Book} {n v : ℕ} {t : Rows} {w xs : List ℤ} (u : Usable b) (o : b .order ≡ n) (r : RowsOf b v t) (i : Indexed n w v xs) where
-  pub places-asked : PlacesOk t w xs
-  places-asked = places-ok b v t r u w xs (subst⁻¹ (λ (m : ℕ). Indexed m w v xs) o i)
+  pub places-asked : Rising b → PlacesOk t w xs × (risesBy 47 0 (t .values) ≡ true)
+  places-asked g =
+      (places-ok b v t r u w xs (subst⁻¹ (λ (m : ℕ). Indexed m w v xs) o i), ap (risesBy 47 0) (r .values) ∙ rises-at (u .shaped) g v (i .row))
 
   pub handed : {g p : List ℤ} → g ≡ map pos (b .gaps) → p ≡ placesBy t xs → length p ≡ length w → Handed b v xs g p
   handed {g} {p} e f l =

@@ -9,7 +9,6 @@ use tables::books::narrow_gaps;
 use tables::books::narrow_predictors;
 use tables::books::narrow_selectors_run;
 use tables::books::narrow_vector_run;
-use tables::books::narrow_weights_run;
 
 // The step of its residuals (section 4.2.7.5.2).
 const STEP: u16 = 11796;
@@ -23,10 +22,9 @@ pub fn narrow_run(vector: &mut [i16], v: usize, xs: &[i8]) -> u32
     ensures { λ m. ⌜ record { vector = now (vector .exit); moves = m } ≡ spectrumOf narrowBook v (now (xs .entry)) ⌝ }
 {
     let value = narrow_vector_run(v);
-    let weight = narrow_weights_run(v);
     let selector = narrow_selectors_run(v);
     let lists = narrow_predictors();
-    places_run(vector, xs, STEP, &selector, &lists, &value, &weight);
+    places_run(vector, xs, STEP, &selector, &lists, &value);
     let gaps = narrow_gaps();
     if stays_run(vector, &gaps) {
         return 0;

@@ -9,7 +9,6 @@ use tables::books::wide_gaps;
 use tables::books::wide_predictors;
 use tables::books::wide_selectors_run;
 use tables::books::wide_vector_run;
-use tables::books::wide_weights_run;
 
 // The step of its residuals (section 4.2.7.5.2).
 const STEP: u16 = 9830;
@@ -23,10 +22,9 @@ pub fn wide_run(vector: &mut [i16], v: usize, xs: &[i8]) -> u32
     ensures { λ m. ⌜ record { vector = now (vector .exit); moves = m } ≡ spectrumOf wideBook v (now (xs .entry)) ⌝ }
 {
     let value = wide_vector_run(v);
-    let weight = wide_weights_run(v);
     let selector = wide_selectors_run(v);
     let lists = wide_predictors();
-    places_run(vector, xs, STEP, &selector, &lists, &value, &weight);
+    places_run(vector, xs, STEP, &selector, &lists, &value);
     let gaps = wide_gaps();
     if stays_run(vector, &gaps) {
         return 0;

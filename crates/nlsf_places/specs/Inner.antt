@@ -6,6 +6,7 @@ use mathlib.Core.List.{List}
 use lib.IntN.{ℤ, pos, negsuc}
 use lib.Signed.{ltZ}
 use lib.ListN.{length, getD}
+use Rattle.sheet.specs.Weights.{weightsOf}
 use Rattle.spectrum.specs.Places.{placedAll}
 use Rattle.spectrum.specs.Residuals.{residuals, listOf}
 use Rattle.spectrum.specs.Values.{Within}
@@ -14,9 +15,13 @@ use Rattle.spectrum.specs.Values.{Within}
 unfoldable pub towardZero : ℤ → ℤ
 towardZero x = cond (ltZ (pos 0) x) (negsuc 101) (cond (ltZ x (pos 0)) (pos 102) (pos 0))
 
--- the predictor of place i, by the selectors of a vector and both lists in one row
-unfoldable pub predictorAt : List ℕ → List ℕ → ℕ → ℕ
-predictorAt selectors lists i = getD lists (listOf (getD selectors (i / 2) 0) i * (length lists / 2) + i) 0
+-- the predictor of place i in list l, both lists in one row
+unfoldable pub predictorOf : List ℕ → ℕ → ℕ → ℕ
+predictorOf lists l i = getD lists (l * (length lists / 2) + i) 0
+
+-- the predictor of place i, by the selectors of a vector
+abbrev pub predictorAt : List ℕ → List ℕ → ℕ → ℕ
+predictorAt selectors lists i = predictorOf lists (listOf (getD selectors (i / 2) 0) i) i
 
 -- a book's step, and what it has for one vector: selectors, both lists of predictors in one row, values and weights
 pub record Rows : Type 0 where
@@ -29,6 +34,10 @@ pub record Rows : Type 0 where
 abbrev pub rows : ℕ → List ℕ → List ℕ → List ℕ → List ℕ → Rows
 rows s e p b w = record { step = s; selectors = e; lists = p; values = b; weights = w }
 
+-- those of a vector whose weights are worked out
+abbrev pub weighted : ℕ → List ℕ → List ℕ → List ℕ → Rows
+weighted s e p b = rows s e p b (weightsOf b)
+
 abbrev pub predictorBy : Rows → ℕ → ℕ
 predictorBy t = predictorAt (t .selectors) (t .lists)
 
@@ -39,14 +48,15 @@ residualsBy t xs = residuals (t .step) (predictorBy t) 0 xs
 abbrev pub placesBy : Rows → List ℤ → List ℤ
 placesBy t xs = placedAll (t .values) (t .weights) (residualsBy t xs)
 
--- at most 16 values, rows as long, indices from -10 to 10, weights above 0, a selector for each two places, a
+-- 1 to 16 values, rows as long, indices from -10 to 10, weights above 0, a selector for each two places, a
 -- predictor of each list for each place
 pub record PlacesOk (t : Rows) (v xs : List ℤ) : Type 0 where
+  pub some : 1 ≤ length v
   pub few : length v ≤ 16
   pub indices : length xs ≡ length v
   pub tens : Within 10 10 xs
   pub small : t .step ≤ 11796
-  pub pairs : length v ≤ 2 * length (t .selectors)
+  pub pairs : length v ≡ 2 * length (t .selectors)
   pub lists : length (t .lists) ≡ 2 * length v
   pub book : length (t .values) ≡ length v
   pub weighed : length (t .weights) ≡ length v

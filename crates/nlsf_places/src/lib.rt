@@ -1,33 +1,30 @@
 // Residuals and places of a line spectrum (RFC 6716, sections 4.2.7.5.2 and 4.2.7.5.3): the first half of the crate's
 // NLSF_decode.rs, with the predictors of its NLSF_unpack.rs.
 ghost use mathlib.Core.Path.{_≡_};
+ghost use mathlib.Core.Bool.{true};
 ghost use Prim.Native.Nat.{_*_, _/_, _≤_, _<_};
 ghost use lib.ListN.{length};
 ghost use lib.IntN.{pos, _+ℤ_, _*ℤ_};
 ghost use lib.Signed.{quotZ};
+ghost use Rattle.sheet.specs.Weights.{risesBy};
 ghost use Rattle.spectrum.specs.Values.{Mag};
-ghost use Rattle.spectrum.specs.Residuals.{nudged, scaled, predicted, listOf};
+ghost use Rattle.spectrum.specs.Residuals.{nudged, scaled, predicted};
 ghost use Rattle.spectrum.specs.Places.{placed};
-ghost use Rattle.nlsf_places.specs.Inner.{towardZero, predictorAt, rows, placesBy, PlacesOk};
+ghost use Rattle.nlsf_places.specs.Inner.{towardZero, predictorOf, weighted, placesBy, PlacesOk};
+use nlsf_weights::last_share_run;
+use nlsf_weights::roots;
+use nlsf_weights::shares;
+use nlsf_weights::weigh_run;
 
 // ---- predictors
 
-// The list that a selector byte names for place i.
-fn list_of(e: u8, i: usize) -> u8
-    ensures { λ r. ⌜ r ≡ listOf e i ⌝ }
+// The predictor of place i in list l. Both lists stand in one row, since which of them it comes from can't be guessed
+// ahead: a choice of two loads would be compiled to a jump.
+fn predictor(lists: &[u8], l: u8, i: usize) -> u8
+    requires { ⌜ (l < 2) × (i < length (now lists) / 2) ⌝ }
+    ensures { λ p. ⌜ p ≡ predictorOf (now (lists .entry)) l i ⌝ }
 {
-    if i % 2 == 0 { e % 2 } else { e / 16 % 2 }
-}
-
-// The predictor of place i. Both lists stand in one row, since which of them it comes from can't be guessed ahead: a
-// choice of two loads would be compiled to a jump.
-fn predictor(selectors: &[u8], lists: &[u8], i: usize) -> u8
-    requires { ⌜ (i / 2 < length (now selectors)) × (i < length (now lists) / 2) ⌝ }
-    ensures { λ p. ⌜ p ≡ predictorAt (now (selectors .entry)) (now (lists .entry)) i ⌝ }
-{
-    let n = lists.len() / 2;
-    let l = list_of(selectors[i / 2], i);
-    lists[(l as usize) * n + i]
+    lists[(l as usize) * (lists.len() / 2) + i]
 }
 
 // ---- residuals
@@ -104,29 +101,29 @@ fn place(value: u8, weight: u16, r: i32) -> i16
 
 // ---- the vector
 
-// Every place of a vector, from the last down.
-pub fn places_run(
-    vector: &mut [i16],
-    xs: &[i8],
-    step: u16,
-    selectors: &[u8],
-    lists: &[u8],
-    values: &[u8],
-    weights: &[u16],
-)
-    requires { ⌜ PlacesOk (rows step (now selectors) (now lists) (now values) (now weights)) (now vector) (now xs) ⌝ }
+// Every place of a vector, from the last down, each by its weight: two places a turn, since a selector serves two.
+pub fn places_run(vector: &mut [i16], xs: &[i8], step: u16, selectors: &[u8], lists: &[u8], values: &[u8])
+    requires { ⌜ PlacesOk (weighted step (now selectors) (now lists) (now values)) (now vector) (now xs) × (risesBy 47 0 (now values) ≡ true) ⌝ }
     ensures { λ _.
         ⌜ now (vector .exit) ≡
-        placesBy (rows step (now (selectors .entry)) (now (lists .entry)) (now (values .entry)) (now (weights .entry)))
-        (now (xs .entry)) ⌝ }
+        placesBy (weighted step (now (selectors .entry)) (now (lists .entry)) (now (values .entry))) (now (xs .entry)) ⌝ }
 {
+    let shares = shares();
+    let roots = roots();
+    let mut q = last_share_run(&shares, values);
     let mut r: i32 = 0;
-    let mut k: usize = values.len();
+    let mut k: usize = selectors.len();
     while k > 0 {
-        let j = k - 1;
-        let p = predictor(selectors, lists, j);
-        r = residual(xs[j], step, p, r);
-        vector[j] = place(values[j], weights[j], r);
-        k = j;
+        k -= 1;
+        let e = selectors[k];
+        let j = 2 * k + 1;
+        r = residual(xs[j], step, predictor(lists, e / 16 % 2, j), r);
+        let w = weigh_run(&shares, &roots, values, j, q);
+        vector[j] = place(values[j], w.weight, r);
+        let i = 2 * k;
+        r = residual(xs[i], step, predictor(lists, e % 2, i), r);
+        let u = weigh_run(&shares, &roots, values, i, w.share);
+        vector[i] = place(values[i], u.weight, r);
+        q = u.share;
     }
 }

@@ -1,12 +1,16 @@
--- All 832 weights of the two books are by the rule of RFC 6716, section 4.2.7.5.3. Assumes nothing.
-use Prim.Native.Nat.{ℕ}
+-- All 832 weights of the two books are by the rule of RFC 6716, section 4.2.7.5.3, which never divides by 0 there. Assumes nothing.
+use Prim.Native.Nat.{ℕ, _<_}
 use mathlib.Core.Path.{_≡_, refl, sym, ap, _∙_}
+use mathlib.Core.Bool.{true}
 use mathlib.Core.List.{List, []}
+use native.Mathlib.Omega.{arith}
 use lib.ListN.{getD, List·getD-map}
 use Rattle.bitlen.specs.Length.{bitLength, lengthIn}
+use Rattle.lists.proofs.EveryLaws.{every-at}
 use Rattle.sheet.specs.Books.{Book, narrowBook, wideBook}
-use Rattle.sheet.specs.Weights.{rootAt, weight, weightsFrom, weightsOf}
-use Rattle.sheet.specs.Statement.{ByRule, NarrowByRule, WideByRule}
+use Rattle.sheet.specs.Weights.{rootAt, weight, weightsFrom, weightsOf, risesBy}
+use Rattle.sheet.specs.Statement.{ByRule, NarrowByRule, WideByRule, Rising, NarrowRises, WideRises}
+use Rattle.sheet.proofs.BooksLaws.{Shaped}
 
 pub narrow-by-rule : NarrowByRule
 unfolding narrowBook weightsOf weightsFrom weight rootAt bitLength lengthIn
@@ -20,3 +24,17 @@ wide-by-rule = record { all = refl }
 pub weights-at : {b : Book} → ByRule b → (v : ℕ) → getD (b .weights) v [] ≡ weightsOf (getD (b .vectors) v [])
 unfolding weightsOf weightsFrom
 weights-at {b} r v = ap (λ (l : List (List ℕ)). getD l v []) (sym (r .all)) ∙ List·getD-map weightsOf (b .vectors) v []
+
+-- ---- the values rise
+
+pub narrow-rises : NarrowRises
+unfolding narrowBook risesBy
+narrow-rises = refl
+
+pub wide-rises : WideRises
+unfolding wideBook risesBy
+wide-rises = refl
+
+-- those of vector v
+pub rises-at : {n : ℕ} {b : Book} → Shaped n b → Rising b → (v : ℕ) → v < 32 → risesBy 47 0 (getD (b .vectors) v []) ≡ true
+rises-at {n} {b} s r v h = every-at (risesBy 47 0) (b .vectors) [] r v (omega (arith, s .vectors .count))

@@ -1,8 +1,8 @@
 -- The weights of a spectrum vector (RFC 6716, section 4.2.7.5.3). Assumes nothing.
 use Prim.Native.Nat.{ℕ, _+_, _-_, _*_, _/_, _%_, _^_}
-use mathlib.Core.Bool.{cond}
+use mathlib.Core.Bool.{Bool, cond, _&&_}
 use mathlib.Core.List.{List, [], _∷_}
-use lib.Dec.{eqb}
+use lib.Dec.{eqb, ltb, leb}
 use Rattle.bitlen.specs.Length.{bitLength}
 
 -- the square of the weight of x between its neighbours a and z
@@ -28,3 +28,9 @@ weightsFrom a (x ∷ y ∷ t) = weight a x y ∷ weightsFrom x (y ∷ t)
 -- the weights of a vector: 0 stands before its first value and 256 behind its last
 unfoldable pub weightsOf : List ℕ → List ℕ
 weightsOf v = weightsFrom 0 v
+
+-- whether each value lies 1 to m above the one before it, the first above a, and 256 as far above the last: then no
+-- difference of neighbours is 0
+unfoldable pub risesBy : ℕ → ℕ → List ℕ → Bool
+risesBy m a [] = ltb a 256 && leb 256 (a + m)
+risesBy m a (x ∷ t) = (ltb a x && leb x (a + m)) && risesBy m x t

@@ -1,2 +1,3 @@
 pub mod PredictorRow
 pub mod Arms
+pub mod VectorLaws

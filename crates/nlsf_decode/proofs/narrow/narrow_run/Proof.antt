@@ -5,34 +5,34 @@ use borrow.Author.Needs.{needs}
 use lib.IntN.{pos}
 use Rattle.sheet.specs.Books.{narrowBook}
 use Rattle.sheet.proofs.BooksLaws.{narrow-shaped}
+use Rattle.sheet.proofs.WeightsLaws.{narrow-by-rule, narrow-rises}
+use Rattle.tables.proofs.VectorLaws.{vector-weighed}
 use Rattle.spectrum.proofs.BookLaws.{narrow-usable}
 use Rattle.spectrum.specs.Values.{total}
 use Rattle.nlsf_stabilize_stays.proofs.StayLaws.{stays-still}
-use Rattle.nlsf_places.specs.Inner.{Rows, rows}
+use Rattle.nlsf_places.specs.Inner.{Rows, weighted}
 use Rattle.nlsf_decode.proofs.RowLaws.{RowsOf, Handed, places-asked, handed}
 use Rattle.nlsf_decode.proofs.narrow.narrow_run.Statement.{statement}
 use Rattle.nlsf_decode.proofs.narrow.narrow_run.Tie as tie
 
 -- the start, behind the last row
 abbrev start : tie.After-narrow-predictors → tie.Start
-start d = d .before .before .before .before
+start d = d .before .before .before
 
 abbrev lent : tie.After-narrow-predictors → Rows
 lent d =
-    let w = d .before .before in
-    rows 11796 (d .before .narrow-selectors-run .result) (d .narrow-predictors .result) (w .before .narrow-vector-run .result)
-    (w .narrow-weights-run .result)
+    weighted 11796 (d .before .narrow-selectors-run .result) (d .narrow-predictors .result) (d .before .before .narrow-vector-run .result)
 
 lent-are : (d : tie.After-narrow-predictors) → RowsOf narrowBook (start d .args .v) (lent d)
 unfolding narrowBook
 lent-are d =
-    let w = d .before .before in
+    let e = d .before .before .narrow-vector-run .ensures in
     record {
       step = refl;
       selectors = d .before .narrow-selectors-run .ensures;
       lists = d .narrow-predictors .ensures;
-      values = w .before .narrow-vector-run .ensures;
-      weights = w .narrow-weights-run .ensures;
+      values = e;
+      weights = vector-weighed (start d .args .v) e narrow-by-rule;
     }
 
 gap-total : total (map pos (narrowBook .gaps)) ≡ pos 742
@@ -41,7 +41,7 @@ gap-total = refl
 
 -- the last row, behind the gaps
 abbrev rowed : tie.After-narrow-gaps → tie.After-narrow-predictors
-rowed q = q .before .before .before .before .before .before .before .before
+rowed q = q .before .before .before .before .before .before .before
 
 to-stabilise : (q : tie.After-narrow-gaps) → let a = start (rowed q) .args in
     Handed narrowBook (a .v) (a .xs .now) (q .narrow-gaps .result) (q .before .before .places-run .last .0)
@@ -69,12 +69,10 @@ narrow-run-spec =
     (λ c κs. search needs)
     (λ c κs. search needs)
     (λ c κs. search needs)
-    (λ c κs. search needs)
     (λ c. search needs)
     (λ c. search needs)
     (λ c. search needs)
-    (λ c. search needs)
-    (λ c κs. let d = c .before .before .before .before .before in places-asked narrow-usable (narrow-shaped .order) (lent-are d) (start d .pre))
+    (λ c κs. let d = c .before .before .before .before in places-asked narrow-usable (narrow-shaped .order) (lent-are d) (start d .pre) narrow-rises)
     (λ c κs. search needs)
     (λ c. search needs)
     (λ c κs. search needs)

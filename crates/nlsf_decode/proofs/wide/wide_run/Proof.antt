@@ -5,34 +5,34 @@ use borrow.Author.Needs.{needs}
 use lib.IntN.{pos}
 use Rattle.sheet.specs.Books.{wideBook}
 use Rattle.sheet.proofs.BooksLaws.{wide-shaped}
+use Rattle.sheet.proofs.WeightsLaws.{wide-by-rule, wide-rises}
+use Rattle.tables.proofs.VectorLaws.{vector-weighed}
 use Rattle.spectrum.proofs.BookLaws.{wide-usable}
 use Rattle.spectrum.specs.Values.{total}
 use Rattle.nlsf_stabilize_stays.proofs.StayLaws.{stays-still}
-use Rattle.nlsf_places.specs.Inner.{Rows, rows}
+use Rattle.nlsf_places.specs.Inner.{Rows, weighted}
 use Rattle.nlsf_decode.proofs.RowLaws.{RowsOf, Handed, places-asked, handed}
 use Rattle.nlsf_decode.proofs.wide.wide_run.Statement.{statement}
 use Rattle.nlsf_decode.proofs.wide.wide_run.Tie as tie
 
 -- the start, behind the last row
 abbrev start : tie.After-wide-predictors → tie.Start
-start d = d .before .before .before .before
+start d = d .before .before .before
 
 abbrev lent : tie.After-wide-predictors → Rows
 lent d =
-    let w = d .before .before in
-    rows 9830 (d .before .wide-selectors-run .result) (d .wide-predictors .result) (w .before .wide-vector-run .result)
-    (w .wide-weights-run .result)
+    weighted 9830 (d .before .wide-selectors-run .result) (d .wide-predictors .result) (d .before .before .wide-vector-run .result)
 
 lent-are : (d : tie.After-wide-predictors) → RowsOf wideBook (start d .args .v) (lent d)
 unfolding wideBook
 lent-are d =
-    let w = d .before .before in
+    let e = d .before .before .wide-vector-run .ensures in
     record {
       step = refl;
       selectors = d .before .wide-selectors-run .ensures;
       lists = d .wide-predictors .ensures;
-      values = w .before .wide-vector-run .ensures;
-      weights = w .wide-weights-run .ensures;
+      values = e;
+      weights = vector-weighed (start d .args .v) e wide-by-rule;
     }
 
 gap-total : total (map pos (wideBook .gaps)) ≡ pos 583
@@ -41,7 +41,7 @@ gap-total = refl
 
 -- the last row, behind the gaps
 abbrev rowed : tie.After-wide-gaps → tie.After-wide-predictors
-rowed q = q .before .before .before .before .before .before .before .before
+rowed q = q .before .before .before .before .before .before .before
 
 to-stabilise : (q : tie.After-wide-gaps) → let a = start (rowed q) .args in
     Handed wideBook (a .v) (a .xs .now) (q .wide-gaps .result) (q .before .before .places-run .last .0)
@@ -69,12 +69,10 @@ wide-run-spec =
     (λ c κs. search needs)
     (λ c κs. search needs)
     (λ c κs. search needs)
-    (λ c κs. search needs)
     (λ c. search needs)
     (λ c. search needs)
     (λ c. search needs)
-    (λ c. search needs)
-    (λ c κs. let d = c .before .before .before .before .before in places-asked wide-usable (wide-shaped .order) (lent-are d) (start d .pre))
+    (λ c κs. let d = c .before .before .before .before in places-asked wide-usable (wide-shaped .order) (lent-are d) (start d .pre) wide-rises)
     (λ c κs. search needs)
     (λ c. search needs)
     (λ c κs. search needs)

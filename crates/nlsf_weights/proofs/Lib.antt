@@ -1,0 +1,3 @@
+pub mod Rising
+mod RootLaws
+mod RowLaws
