@@ -1,13 +1,15 @@
 -- The rows that a book has for one vector: what placing asks, and that placing by them is placing by the book. Assumes nothing.
-use Prim.Native.Nat.{ℕ, suc, _+_, _*_, _/_, _≤_, _<_}
+use Prim.Native.Nat.{ℕ, suc, _*_, _/_, _%_, _≤_, _<_}
 use mathlib.Core.Path.{_≡_, refl, sym, ap, ap₂, subst⁻¹, _∙_}
 use mathlib.Core.Bool.{true}
 use mathlib.Core.List.{List, [], map}
 use native.Mathlib.Omega.{arith}
 use borrow.Author.Tests.{eq-eqb, ne-eqb}
+use lib.Dec.{eqb}
 use lib.IntN.{ℤ, pos, negsuc, natAbs}
 use lib.ListN.{length, getD, take, drop, length-drop}
 use lib.Seq.{length-take-le}
+use Rattle.deciding.proofs.Choice.{chosen}
 use Rattle.ints.specs.Parts.{up, down}
 use Rattle.sheet.specs.Books.{Book, narrowBook, wideBook}
 use Rattle.sheet.specs.Statement.{Rising}
@@ -37,6 +39,9 @@ pub record RowsOf (b : Book) (v : ℕ) (t : Rows) : Type 0 where
   pub values : t .values ≡ getD (b .vectors) v []
   pub weights : t .weights ≡ getD (b .weights) v []
 
+list-below : (e i : ℕ) → listOf e i < 2
+list-below e i = chosen (λ (n : ℕ). n < 2) (eqb (i % 2) 0) (λ g. omega arith) (λ g. omega arith)
+
 module _ (b : Book) (v : ℕ) (t : Rows) (r : RowsOf b v t) (u : Usable b) where
   some : 1 ≤ b .order
   some = omega (arith, u .some)
@@ -49,10 +54,8 @@ module _ (b : Book) (v : ℕ) (t : Rows) (r : RowsOf b v t) (u : Usable b) where
   unfolding predictorOf predictorIn
   predictors-by i h =
       let l = listOf (getD (getD (b .selectors) v []) (i / 2) 0) i in
-      let half : length (predictorRow b) / 2 ≡ b .order = omega (arith, lists-long) in
       ap₂ (λ (e : List ℕ) (p : List ℕ). predictorAt e p i) (r .selectors) (r .lists)
-      ∙ ap (λ (n : ℕ). getD (predictorRow b) (l * n + i) 0) half
-      ∙ predictor-row-at b (b .order) (u .shaped) some l i h
+      ∙ predictor-row-at b (b .order) (u .shaped) some l i (list-below (getD (getD (b .selectors) v []) (i / 2) 0) i) h
 
   places-by : (xs : List ℤ) → length xs ≡ b .order → placesBy t xs ≡ places b v xs
   unfolding places
@@ -62,8 +65,8 @@ module _ (b : Book) (v : ℕ) (t : Rows) (r : RowsOf b v t) (u : Usable b) where
       ∙ ap (placedAll (getD (b .vectors) v []) (getD (b .weights) v []))
       (residuals-alike (b .step) (predictorBy t) (predictorIn (getD (b .selectors) v []) (b .predictors)) (b .order) predictors-by 0 xs (omega arith))
 
-  places-ok : (w xs : List ℤ) → Indexed (b .order) w v xs → PlacesOk t w xs
-  places-ok w xs i =
+  places-ok : Rising b → (w xs : List ℤ) → Indexed (b .order) w v xs → PlacesOk t w xs
+  places-ok g w xs i =
       let s = u .shaped in
       let ws : length (getD (b .weights) v []) ≡ b .order = s .weights .width v (i .row) in
       record {
@@ -75,6 +78,7 @@ module _ (b : Book) (v : ℕ) (t : Rows) (r : RowsOf b v t) (u : Usable b) where
         pairs = omega (arith, i .long, u .even, ap length (r .selectors), s .selectors .width v (i .row));
         lists = omega (arith, ap length (r .lists), lists-long, i .long);
         book = ap length (r .values) ∙ s .vectors .width v (i .row) ∙ sym (i .long);
+        rising = ap (risesBy 47 0) (r .values) ∙ rises-at (u .shaped) g v (i .row);
         weighed = ap length (r .weights) ∙ ws ∙ sym (i .long);
         heavy = λ k h.
             subst⁻¹ (λ (l : List ℕ). 1 ≤ getD l k 0) (r .weights)
@@ -90,9 +94,8 @@ pub record Handed (b : Book) (v : ℕ) (xs g p : List ℤ) : Type 0 where
   pub answer : {s : Stable} → s ≡ stabilise kept16 g p → s ≡ spectrumOf b v xs
 
 module _ {b : Book} {n v : ℕ} {t : Rows} {w xs : List ℤ} (u : Usable b) (o : b .order ≡ n) (r : RowsOf b v t) (i : Indexed n w v xs) where
-  pub places-asked : Rising b → PlacesOk t w xs × (risesBy 47 0 (t .values) ≡ true)
-  places-asked g =
-      (places-ok b v t r u w xs (subst⁻¹ (λ (m : ℕ). Indexed m w v xs) o i), ap (risesBy 47 0) (r .values) ∙ rises-at (u .shaped) g v (i .row))
+  pub places-asked : Rising b → PlacesOk t w xs
+  places-asked g = places-ok b v t r u g w xs (subst⁻¹ (λ (m : ℕ). Indexed m w v xs) o i)
 
   pub handed : {g p : List ℤ} → g ≡ map pos (b .gaps) → p ≡ placesBy t xs → length p ≡ length w → Handed b v xs g p
   handed {g} {p} e f l =

@@ -1,12 +1,12 @@
 -- What placing a vector asks of its rows, and what it leaves in the vector. Assumes nothing.
 use Prim.Native.Nat.{ℕ, _+_, _*_, _/_, _≤_, _<_}
 use mathlib.Core.Path.{_≡_}
-use mathlib.Core.Bool.{cond}
+use mathlib.Core.Bool.{true, cond}
 use mathlib.Core.List.{List}
 use lib.IntN.{ℤ, pos, negsuc}
 use lib.Signed.{ltZ}
 use lib.ListN.{length, getD}
-use Rattle.sheet.specs.Weights.{weightsOf}
+use Rattle.sheet.specs.Weights.{weightsOf, risesBy}
 use Rattle.spectrum.specs.Places.{placedAll}
 use Rattle.spectrum.specs.Residuals.{residuals, listOf}
 use Rattle.spectrum.specs.Values.{Within}
@@ -15,9 +15,9 @@ use Rattle.spectrum.specs.Values.{Within}
 unfoldable pub towardZero : ℤ → ℤ
 towardZero x = cond (ltZ (pos 0) x) (negsuc 101) (cond (ltZ x (pos 0)) (pos 102) (pos 0))
 
--- the predictor of place i in list l, both lists in one row
+-- the predictor of place i in list l, both lists in one row place by place
 unfoldable pub predictorOf : List ℕ → ℕ → ℕ → ℕ
-predictorOf lists l i = getD lists (l * (length lists / 2) + i) 0
+predictorOf lists l i = getD lists (2 * i + l) 0
 
 -- the predictor of place i, by the selectors of a vector
 abbrev pub predictorAt : List ℕ → List ℕ → ℕ → ℕ
@@ -59,5 +59,6 @@ pub record PlacesOk (t : Rows) (v xs : List ℤ) : Type 0 where
   pub pairs : length v ≡ 2 * length (t .selectors)
   pub lists : length (t .lists) ≡ 2 * length v
   pub book : length (t .values) ≡ length v
+  pub rising : risesBy 47 0 (t .values) ≡ true
   pub weighed : length (t .weights) ≡ length v
   pub heavy : (i : ℕ) → i < length v → 1 ≤ getD (t .weights) i 0

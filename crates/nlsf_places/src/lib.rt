@@ -1,12 +1,10 @@
 // Residuals and places of a line spectrum (RFC 6716, sections 4.2.7.5.2 and 4.2.7.5.3): the first half of the crate's
 // NLSF_decode.rs, with the predictors of its NLSF_unpack.rs.
 ghost use mathlib.Core.Path.{_≡_};
-ghost use mathlib.Core.Bool.{true};
-ghost use Prim.Native.Nat.{_*_, _/_, _≤_, _<_};
+ghost use Prim.Native.Nat.{_+_, _*_, _≤_, _<_};
 ghost use lib.ListN.{length};
 ghost use lib.IntN.{pos, _+ℤ_, _*ℤ_};
 ghost use lib.Signed.{quotZ};
-ghost use Rattle.sheet.specs.Weights.{risesBy};
 ghost use Rattle.spectrum.specs.Values.{Mag};
 ghost use Rattle.spectrum.specs.Residuals.{nudged, scaled, predicted};
 ghost use Rattle.spectrum.specs.Places.{placed};
@@ -21,10 +19,10 @@ use nlsf_weights::weigh_run;
 // The predictor of place i in list l. Both lists stand in one row, since which of them it comes from can't be guessed
 // ahead: a choice of two loads would be compiled to a jump.
 fn predictor(lists: &[u8], l: u8, i: usize) -> u8
-    requires { ⌜ (l < 2) × (i < length (now lists) / 2) ⌝ }
+    requires { ⌜ (l < 2) × (2 * i + 1 < length (now lists)) ⌝ }
     ensures { λ p. ⌜ p ≡ predictorOf (now (lists .entry)) l i ⌝ }
 {
-    lists[(l as usize) * (lists.len() / 2) + i]
+    lists[2 * i + (l as usize)]
 }
 
 // ---- residuals
@@ -102,8 +100,15 @@ fn place(value: u8, weight: u16, r: i32) -> i16
 // ---- the vector
 
 // Every place of a vector, from the last down, each by its weight: two places a turn, since a selector serves two.
-pub fn places_run(vector: &mut [i16], xs: &[i8], step: u16, selectors: &[u8], lists: &[u8], values: &[u8])
-    requires { ⌜ PlacesOk (weighted step (now selectors) (now lists) (now values)) (now vector) (now xs) × (risesBy 47 0 (now values) ≡ true) ⌝ }
+pub fn places_run(
+    vector: &mut [i16],
+    xs: &[i8],
+    step: u16,
+    selectors: &[u8],
+    lists: &[u8],
+    values: &[u8],
+)
+    requires { ⌜ PlacesOk (weighted step (now selectors) (now lists) (now values)) (now vector) (now xs) ⌝ }
     ensures { λ _.
         ⌜ now (vector .exit) ≡
         placesBy (weighted step (now (selectors .entry)) (now (lists .entry)) (now (values .entry))) (now (xs .entry)) ⌝ }

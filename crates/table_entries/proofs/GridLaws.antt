@@ -2,7 +2,7 @@
 use Prim.Native.Nat.{ℕ, _+_, _-_, _*_, _/_, _%_, _≤_, _<_}
 use mathlib.Core.Path.{_≡_, sym, ap, _∙_}
 use mathlib.Core.List.{List, [], map, flatten}
-use native.Mathlib.Nat.{mod-lt}
+use native.Mathlib.Nat.{mod-lt, div-lt-iff-lt-mul}
 use native.Mathlib.Omega.{arith}
 use lib.IntN.{ℤ, pos}
 use lib.ListN.{getD, List·getD-eq-default, List·getD-map}
@@ -27,14 +27,15 @@ module _ {n w : ℕ} {rs : List (List ℕ)} (g : Grid n w rs) (i : ℕ) where
 -- ---- predictors and gaps of a book of order n
 
 module _ {n : ℕ} {b : Book} (s : Shaped n b) (i : ℕ) where
-  -- the lists are one shorter than the order, and stand the order apart
-  pub predictor-inside : 2 ≤ n → i < 2 * (n - 1) → {x : ℕ} {r : List ℕ} → x ≡ getD r (i / (n - 1) * n + i % (n - 1)) 0 → r ≡ predictorRow b
+  -- the lists are one shorter than the order, and stand in one row place by place
+  pub predictor-inside : 2 ≤ n → i < 2 * (n - 1) → {x : ℕ} {r : List ℕ} → x ≡ getD r (2 * (i % (n - 1)) + i / (n - 1)) 0 → r ≡ predictorRow b
       → x ≡ getD (flatten (b .predictors)) i noEntry
   predictor-inside h l e f =
       let w = n - 1 in
       let k : 0 < w = omega arith in
-      e ∙ ap (λ (r : List ℕ). getD r (i / w * n + i % w) 0) f
-      ∙ predictor-row-at b n s (omega arith) (i / w) (i % w) (omega (arith, mod-lt i k))
+      let q : i / w < 2 = div-lt-iff-lt-mul {k = w} {x = i} {y = 2} k .1 l in
+      e ∙ ap (λ (r : List ℕ). getD r (2 * (i % w) + i / w) 0) f
+      ∙ predictor-row-at b n s (omega arith) (i / w) (i % w) q (omega (arith, mod-lt i k))
       ∙ grid-inside 2 w (b .predictors) (s .predictors) k i 0 noEntry l
 
   pub gap-past : n + 1 ≤ i → noEntry ≡ getD (b .gaps) i noEntry

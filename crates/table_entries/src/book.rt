@@ -72,7 +72,7 @@ fn selectors_entry(wide: bool, place: usize) -> u32
     byte(t[place % 5])
 }
 
-// The 0 behind each list is no entry.
+// The 0 for the last place is no entry.
 fn predictors_entry(wide: bool, place: usize) -> u32
     ensures { λ r. ⌜ r ≡ getD (flatten (bookBy wide .predictors)) place noEntry ⌝ }
 {
@@ -81,13 +81,13 @@ fn predictors_entry(wide: bool, place: usize) -> u32
             return NO_ENTRY;
         }
         let t = wide_predictors();
-        return byte(t[place / 15 * 16 + place % 15]);
+        return byte(t[2 * (place % 15) + place / 15]);
     }
     if place >= 18 {
         return NO_ENTRY;
     }
     let t = narrow_predictors();
-    byte(t[place / 9 * 10 + place % 9])
+    byte(t[2 * (place % 9) + place / 9])
 }
 
 fn gaps_entry(wide: bool, place: usize) -> u32

@@ -114,9 +114,8 @@ fitting : (b : tie.At-loop Inv-loop μ-loop) → (k : ℕ) → Mag 29200 (at (re
 unfolding predictorOf
 fitting b =
     let s = start b in
-    let p = s .args .lists .now in
-    near (lent s) (s .args .vector .now) (s .args .xs .now) (s .pre .0)
-    (λ i. omega (arith, b .before .before .before .before .before .before .shared-slice-known2 .given (listOf (getD (s .args .selectors .now) (i / 2) 0) i * (length p / 2) + i)))
+    near (lent s) (s .args .vector .now) (s .args .xs .now) (s .pre)
+    (λ i. omega (arith, b .before .before .before .before .before .before .shared-slice-known2 .given (2 * i + listOf (getD (s .args .selectors .now) (i / 2) 0) i)))
 
 -- the residual that the machine has at the odd place, and at the even one
 odd-residual : (c : tie.After-residual Inv-loop μ-loop) → let b = head c in
@@ -129,19 +128,20 @@ odd-residual c =
     let j = 2 * k + 1 in
     let x = at (s .args .xs .now) j in
     let f : SFits w8 x = sfits-of (c .before .before .residual-arg .given) in
-    let p : c .before .predictor .result ≡ predictorBy t j = c .before .predictor .ensures ∙ odd-by (t .selectors) (t .lists) k in
+    let l : c .before .predictor .result ≡ predictorOf (t .lists) (getD (t .selectors) k 0 / 16 % 2) j = c .before .predictor .ensures in
+    let p = l ∙ odd-by (t .selectors) (t .lists) k in
     let r = toZ w32 (b .loop .r) in
     let g = scaled (s .args .step) x in
     toZ-ofZ {w = w32} (sfits-of (c .residual .ok))
     ∙ (rw (toZ-ofZ f) at (c .residual .ensures))
     ∙ ap (λ (n : ℕ). predicted n r +ℤ g) p
-    ∙ turn t (s .args .vector .now) (s .args .xs .now) (s .pre .0) j (2 * b .loop .k) r (omega arith) (b .loop .inv .here) (b .loop .inv .left)
+    ∙ turn t (s .args .vector .now) (s .args .xs .now) (s .pre) j (2 * b .loop .k) r (omega arith) (b .loop .inv .here) (b .loop .inv .left)
 
 last-share-run-requires : tie.Need-last-share-run-requires Inv-loop μ-loop
 last-share-run-requires c κs =
     let s = c .before .before .before .before .before .before in
-    let o = s .pre .0 in
-    (c .before .before .shares .ensures, (omega (arith, o .some, o .book), s .pre .1))
+    let o = s .pre in
+    (c .before .before .shares .ensures, (omega (arith, o .some, o .book), s .pre .rising))
 
 loop-holds : tie.Need-loop-holds Inv-loop μ-loop
 loop-holds c =
@@ -149,7 +149,7 @@ loop-holds c =
     let t = lent s in
     let v = s .args .vector .now in
     let xs = s .args .xs .now in
-    let o = s .pre .0 in
+    let o = s .pre in
     let n : length v ≡ 2 * length (s .args .selectors .now) = o .pairs in
     record {
       here = omega (arith, n);
@@ -161,7 +161,7 @@ loop-holds c =
 predictor-requires : tie.Need-predictor-requires Inv-loop μ-loop
 predictor-requires c κs =
     let b = c .before .before .before in
-    let o = start b .pre .0 in
+    let o = start b .pre in
     (omega arith, omega (arith, o .lists, b .loop .inv .here))
 
 residual-requires : tie.Need-residual-requires Inv-loop μ-loop
@@ -171,9 +171,9 @@ residual-requires c κs =
     let j = 2 * (b .loop .k - 1) + 1 in
     let x = at (s .args .xs .now) j in
     let f : SFits w8 x = sfits-of (c .before .residual-arg .given) in
-    let w = within-at 10 10 (s .args .xs .now) (s .pre .0 .tens) j in
+    let w = within-at 10 10 (s .args .xs .now) (s .pre .tens) j in
     let n : Mag 29200 (toZ w32 (b .loop .r)) = rw (b .loop .inv .left) (fitting b (2 * b .loop .k)) in
-    rw (toZ-ofZ f) (((w .1, w .0), s .pre .0 .small), n)
+    rw (toZ-ofZ f) (((w .1, w .0), s .pre .small), n)
 
 weigh-run-requires : tie.Need-weigh-run-requires Inv-loop μ-loop
 weigh-run-requires c κs =
@@ -183,8 +183,8 @@ weigh-run-requires c κs =
     record {
       shares = b .before .before .before .before .shares .ensures;
       roots = b .before .before .before .roots .ensures;
-      rising = s .pre .1;
-      inside = omega (arith, s .pre .0 .book, b .loop .inv .here);
+      rising = s .pre .rising;
+      inside = omega (arith, s .pre .book, b .loop .inv .here);
       behind = b .loop .inv .share ∙ ap (shareAt (s .args .values .now)) e;
     }
 
@@ -193,7 +193,7 @@ place-requires c κs =
     let d = c .before .before .before .before in
     let b = head d in
     let j = 2 * (b .loop .k - 1) + 1 in
-    (rw (odd-residual d) (fitting b j), omega (arith, c .before .weigh-run .ensures .0, start b .pre .0 .heavy j (omega (arith, b .loop .inv .here))))
+    (rw (odd-residual d) (fitting b j), omega (arith, c .before .weigh-run .ensures .0, start b .pre .heavy j (omega (arith, b .loop .inv .here))))
 
 -- behind the odd place
 midway : (c : tie.After-place Inv-loop μ-loop) → let d = odd-res c in
@@ -208,10 +208,10 @@ midway c =
     let w = c .before .before .weigh-run in
     let j = 2 * (b .loop .k - 1) + 1 in
     let r = odd-residual d in
-    let p = puts (lent s) (s .args .vector .now) (s .args .xs .now) (s .pre .0) j (omega (arith, b .loop .inv .here)) in
+    let p = puts (lent s) (s .args .vector .now) (s .args .xs .now) (s .pre) j (omega (arith, b .loop .inv .here)) in
     let x = getD (s .args .values .now) j 0 in
     let z : toZ w16 (ofZ w16 (c .place .result)) ≡ at (placesBy (lent s) (s .args .xs .now)) j = toZ-ofZ {w = w16} (sfits-of (c .place .ok)) ∙ c .place .ensures ∙ ap₂ (placed x) (w .ensures .0) r ∙ p in
-    went (lent s) (s .args .vector .now) (s .args .xs .now) (s .pre .0) (b .loop .inv) (omega arith) r z (w .ensures .1)
+    went (lent s) (s .args .vector .now) (s .args .xs .now) (s .pre) (b .loop .inv) (omega arith) r z (w .ensures .1)
 
 even-residual : (c : tie.After-residual2 Inv-loop μ-loop) → let b = head (odd-res (odd c)) in
     toZ w32 (ofZ w32 (c .residual2 .result)) ≡ at (residualsBy (lent (start b)) (start b .args .xs .now)) (2 * (b .loop .k - 1))
@@ -226,17 +226,18 @@ even-residual c =
     let x = at (s .args .xs .now) i in
     let r = toZ w32 (ofZ w32 (d .residual .result)) in
     let f : SFits w8 x = sfits-of (c .before .before .residual-arg2 .given) in
-    let p : c .before .predictor2 .result ≡ predictorBy t i = c .before .predictor2 .ensures ∙ even-by (t .selectors) (t .lists) k in
+    let l : c .before .predictor2 .result ≡ predictorOf (t .lists) (getD (t .selectors) k 0 % 2) i = c .before .predictor2 .ensures in
+    let p = l ∙ even-by (t .selectors) (t .lists) k in
     let g = scaled (s .args .step) x in
     toZ-ofZ {w = w32} (sfits-of (c .residual2 .ok))
     ∙ (rw (toZ-ofZ f) at (c .residual2 .ensures))
     ∙ ap (λ (n : ℕ). predicted n r +ℤ g) p
-    ∙ turn t (s .args .vector .now) (s .args .xs .now) (s .pre .0) i (2 * k + 1) r (omega arith) (midway m .here) (midway m .left)
+    ∙ turn t (s .args .vector .now) (s .args .xs .now) (s .pre) i (2 * k + 1) r (omega arith) (midway m .here) (midway m .left)
 
 predictor-requires-2 : tie.Need-predictor-requires-2 Inv-loop μ-loop
 predictor-requires-2 c κs =
     let b = head (odd-res (c .before)) in
-    let o = start b .pre .0 in
+    let o = start b .pre in
     (omega arith, omega (arith, o .lists, b .loop .inv .here))
 
 residual-requires-2 : tie.Need-residual-requires-2 Inv-loop μ-loop
@@ -247,9 +248,9 @@ residual-requires-2 c κs =
     let i = 2 * (b .loop .k - 1) in
     let x = at (s .args .xs .now) i in
     let f : SFits w8 x = sfits-of (c .before .residual-arg2 .given) in
-    let w = within-at 10 10 (s .args .xs .now) (s .pre .0 .tens) i in
+    let w = within-at 10 10 (s .args .xs .now) (s .pre .tens) i in
     let n : Mag 29200 (toZ w32 (ofZ w32 (odd-res m .residual .result))) = rw (midway m .left) (fitting b (i + 1)) in
-    rw (toZ-ofZ f) (((w .1, w .0), s .pre .0 .small), n)
+    rw (toZ-ofZ f) (((w .1, w .0), s .pre .small), n)
 
 weigh-run-requires-2 : tie.Need-weigh-run-requires-2 Inv-loop μ-loop
 weigh-run-requires-2 c κs =
@@ -259,8 +260,8 @@ weigh-run-requires-2 c κs =
     record {
       shares = b .before .before .before .before .shares .ensures;
       roots = b .before .before .before .roots .ensures;
-      rising = s .pre .1;
-      inside = omega (arith, s .pre .0 .book, b .loop .inv .here);
+      rising = s .pre .rising;
+      inside = omega (arith, s .pre .book, b .loop .inv .here);
       behind = midway m .share ∙ ap (shareAt (s .args .values .now)) (omega arith);
     }
 
@@ -268,7 +269,7 @@ place-requires-2 : tie.Need-place-requires-2 Inv-loop μ-loop
 place-requires-2 c κs =
     let d = c .before .before .before .before in
     let b = head (odd-res (odd d)) in
-    let o = start b .pre .0 in
+    let o = start b .pre in
     let i = 2 * (b .loop .k - 1) in
     (rw (even-residual d) (fitting b i), omega (arith, c .before .weigh-run2 .ensures .0, o .heavy i (omega (arith, o .some, b .loop .inv .here))))
 
@@ -281,10 +282,10 @@ loop-again c =
     let w = c .before .before .weigh-run2 in
     let i = 2 * (b .loop .k - 1) in
     let r = even-residual d in
-    let p = puts (lent s) (s .args .vector .now) (s .args .xs .now) (s .pre .0) i (omega (arith, b .loop .inv .here)) in
+    let p = puts (lent s) (s .args .vector .now) (s .args .xs .now) (s .pre) i (omega (arith, b .loop .inv .here)) in
     let x = getD (s .args .values .now) i 0 in
     let z : toZ w16 (ofZ w16 (c .place2 .result)) ≡ at (placesBy (lent s) (s .args .xs .now)) i = toZ-ofZ {w = w16} (sfits-of (c .place2 .ok)) ∙ c .place2 .ensures ∙ ap₂ (placed x) (w .ensures .0) r ∙ p in
-    went (lent s) (s .args .vector .now) (s .args .xs .now) (s .pre .0) (midway m) (omega arith) r z (w .ensures .1)
+    went (lent s) (s .args .vector .now) (s .args .xs .now) (s .pre) (midway m) (omega arith) r z (w .ensures .1)
 
 returns : tie.Need-returns Inv-loop μ-loop
 returns c =
@@ -292,25 +293,25 @@ returns c =
     let s = start b in
     let e : b .loop .k ≡ 0 = omega arith in
     down-end (placesBy (lent s) (s .args .xs .now)) (s .args .vector .now) (b .loop .vector)
-    (full (lent s) (s .args .vector .now) (s .args .xs .now) (s .pre .0))
+    (full (lent s) (s .args .vector .now) (s .args .xs .now) (s .pre))
     (rw e at (b .loop .inv .done))
 
 -- what the search does not reach
 read-even : tie.Need-shared-slice-read-place-2 Inv-loop μ-loop
 read-even c =
     let b = head (odd-res (odd (c .before .before .before .before))) in
-    omega (arith, start b .pre .0 .book, b .loop .inv .here)
+    omega (arith, start b .pre .book, b .loop .inv .here)
 
 mul-even : tie.Need-mul-t24 Inv-loop μ-loop
 mul-even c =
     let b = head (odd-res (odd (even-res c))) in
-    omega (arith, start b .pre .0 .few, b .loop .inv .here)
+    omega (arith, start b .pre .few, b .loop .inv .here)
 
 write-even : tie.Need-slice-set-from-vector-2 Inv-loop μ-loop
 write-even c =
     let m = odd (even-res c) in
     let b = head (odd-res m) in
-    omega (arith, midway m .done .long, start b .pre .0 .some, b .loop .inv .here)
+    omega (arith, midway m .done .long, start b .pre .some, b .loop .inv .here)
 
 loop-less : tie.Need-loop-less Inv-loop μ-loop
 loop-less c = omega (arith, odd-res (odd (even-res c)) .before .before .before .before .loop-test .taken)

@@ -24,8 +24,8 @@ returns : tie.Need-returns
 returns c =
     let s = c .before .before .before .before in
     let v = s .args .values .now in
-    c .share .ensures
-    ∙ ap₂ (λ (x a : ℕ). 1024 / (x - a)) (sym (edge-last v)) (sym (edge-before v (s .pre .1 .0)))
+    let q : c .share .result ≡ 1024 / (256 - getD v (length v - 1) 0) = c .share .ensures in
+    q ∙ ap₂ (λ (x a : ℕ). 1024 / (x - a)) (sym (edge-last v)) (sym (edge-before v (s .pre .1 .0)))
 
 pub last-share-run-spec : {M : Type 1} → statement M
 last-share-run-spec = tie.close (tie.spec (λ c. search needs) (λ c. search needs) cast-share share-requires returns)

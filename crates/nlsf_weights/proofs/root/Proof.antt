@@ -1,6 +1,6 @@
 -- `root` meets its contract. Assumes nothing.
-use Prim.Native.Nat.{ℕ, _*_, _/_, _%_, _^_, _≤_}
-use mathlib.Core.Path.{_≡_, ap, _∙_}
+use Prim.Native.Nat.{ℕ, _+_, _*_, _/_, _%_, _^_, _≤_}
+use mathlib.Core.Path.{_≡_, ap, ap₂, _∙_}
 use native.Mathlib.Omega.{arith}
 use borrow.Author.Needs.{needs}
 use lib.ListN.{getD}
@@ -33,12 +33,18 @@ line d = line-small (digits d) (start d) (omega arith) (small d)
 inside : tie.Need-shared-slice-read-y
 inside c = omega (arith, few (c .before), roots-long (c .before .before .before .pre .0))
 
+digits-are : (d : tie.After-shared-slice-known2) → let s = d .before .before .before .args .s in
+    digits d ≡ s * 256 / 2 ^ bitLength s % 128
+digits-are d =
+    let s = d .before .before .before .args .s in
+    let e : s * 256 % 4294967296 ≡ s * 256 = omega (arith, d .before .before .before .pre .1 .1) in
+    ap₂ (λ (n i : ℕ). n / 2 ^ i % 128) e (d .before .ec-ilog .ensures)
+
 returns : tie.Need-returns
 returns c =
-    let s = c .before .before .before .args .s in
     let p = c .before .before .before .pre .1 in
-    let e : s * 256 % 4294967296 ≡ s * 256 = omega (arith, p .1) in
-    rw (start-is c, c .before .ec-ilog .ensures, e) (root-is s (p .0) (p .1))
+    ap₂ (λ (y f : ℕ). y + 213 * f * y / 65536) (start-is c ∙ ap startOf (c .before .ec-ilog .ensures)) (digits-are c)
+    ∙ root-is (c .before .before .before .args .s) (p .0) (p .1)
 
 pub root-spec : {M : Type 1} → statement M
 root-spec =

@@ -53,8 +53,7 @@ returns c =
     let d = c .before in
     let s = start d in
     let v = s .args .values .now in
-    let e : d .share .result + s .args .behind ≡ shareAt v (s .args .i) + shareAt v (suc (s .args .i)) = ap₂ (λ (n m : ℕ). n + m) (share-is d) (s .pre .behind) in
-    (
+    let e : d .share .result + s .args .behind ≡ shareAt v (s .args .i) + shareAt v (suc (s .args .i)) = ap₂ (λ (n m : ℕ). n + m) (share-is d) (s .pre .behind) in (
       c .root .ensures ∙ ap (λ (n : ℕ). rootAt (n * 2 ^ 16) (bitLength (n * 2 ^ 16))) e ∙ sym (weight-at v (s .args .i) (s .pre .inside)),
       share-is d,
     )

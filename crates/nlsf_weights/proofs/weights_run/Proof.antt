@@ -59,8 +59,7 @@ loop-again c =
     let n = b .loop .inv .0 in
     let l = weights-long v in
     let e : b .loop .k ≡ suc i = omega arith in
-    let d : drop (suc i) w ≡ drop (suc i) (weightsOf v) = rw e at (b .loop .inv .1) in
-    (
+    let d : drop (suc i) w ≡ drop (suc i) (weightsOf v) = rw e at (b .loop .inv .1) in (
       (omega (arith, n .0), length-set w i x ∙ n .1),
       from-place (weightsOf v) w i x (omega (arith, n .0, n .1)) (n .1 ∙ sym l) (c .weigh-run .ensures .0) d,
       c .weigh-run .ensures .1,

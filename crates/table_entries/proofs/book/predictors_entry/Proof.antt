@@ -1,4 +1,4 @@
--- `predictors_entry` meets its contract: the lists are 9 or 15 long, and stand 10 or 16 apart. Assumes nothing.
+-- `predictors_entry` meets its contract: the lists are 9 or 15 long, and stand in one row place by place. Assumes nothing.
 use borrow.Author.Needs.{needs}
 use native.Mathlib.Omega.{arith}
 use Rattle.sheet.proofs.BooksLaws.{narrow-shaped, wide-shaped}

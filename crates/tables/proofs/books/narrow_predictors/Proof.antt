@@ -1,13 +1,12 @@
 -- `narrow_predictors` meets its contract: the constant is the row, by computation. Assumes nothing.
 use mathlib.Core.Path.{refl}
-use mathlib.Core.List.{flatten}
 use Rattle.sheet.specs.Books.{narrowBook}
 use Rattle.tables.specs.Inner.{predictorRow}
 use Rattle.tables.proofs.books.narrow_predictors.Statement.{statement}
 use Rattle.tables.proofs.books.narrow_predictors.Tie as tie
 
 returns : tie.Need-returns
-unfolding narrowBook predictorRow flatten
+unfolding narrowBook predictorRow
 returns c = refl
 
 pub narrow-predictors-spec : {M : Type 1} → statement M
