@@ -2,7 +2,7 @@
 // values around it. Vectors are gone through from the last value down, as places are, and a distance serves both values.
 ghost use mathlib.Core.Path.{_≡_};
 ghost use mathlib.Core.Bool.{true};
-ghost use Prim.Native.Nat.{suc, _-_, _*_, _/_, _^_, _≤_, _<_};
+ghost use Prim.Native.Nat.{_-_, _*_, _/_, _^_, _≤_, _<_};
 ghost use lib.ListN.{length, getD};
 ghost use Rattle.bitlen.specs.Length.{bitLength};
 ghost use Rattle.sheet.specs.Weights.{rootAt, weightsOf, risesBy};

@@ -28,8 +28,8 @@ module _ {n w : ℕ} {rs : List (List ℕ)} (g : Grid n w rs) (i : ℕ) where
 
 module _ {n : ℕ} {b : Book} (s : Shaped n b) (i : ℕ) where
   -- the lists are one shorter than the order, and stand in one row place by place
-  pub predictor-inside : 2 ≤ n → i < 2 * (n - 1) → {x : ℕ} {r : List ℕ} → x ≡ getD r (2 * (i % (n - 1)) + i / (n - 1)) 0 → r ≡ predictorRow b
-      → x ≡ getD (flatten (b .predictors)) i noEntry
+  pub predictor-inside : 2 ≤ n → i < 2 * (n - 1) → {x : ℕ} {r : List ℕ} → x ≡ getD r (2 * (i % (n - 1)) + i / (n - 1)) 0
+      → r ≡ predictorRow b → x ≡ getD (flatten (b .predictors)) i noEntry
   predictor-inside h l e f =
       let w = n - 1 in
       let k : 0 < w = omega arith in

@@ -1,10 +1,10 @@
 -- The lists of predictors of a book in one row, two entries for each place: the last place has no predictor, and a 0 stands there for
 -- either list. Assumes nothing.
 use Prim.Native.Nat.{ℕ, zero, suc, _+_, _-_, _*_, _≤_, _<_}
-use mathlib.Core.Path.{_≡_, refl, _∙_}
+use mathlib.Core.Path.{_≡_, refl}
 use mathlib.Core.List.{List, [], _∷_}
 use native.Mathlib.Omega.{arith}
-use lib.ListN.{length, getD, List·getD-eq-default}
+use lib.ListN.{length, getD}
 use Rattle.sheet.specs.Books.{Book}
 use Rattle.sheet.proofs.BooksLaws.{Shaped}
 use Rattle.tables.specs.Inner.{paired, predictorRow}
@@ -56,7 +56,9 @@ module _ (b : Book) (n : ℕ) (s : Shaped n b) (h : 1 ≤ n) where
   pub predictor-row-at : (k i : ℕ) → k < 2 → i < n → getD (predictorRow b) (2 * i + k) 0 ≡ getD (getD (b .predictors) k []) i 0
   unfolding predictorRow
   predictor-row-at zero i g l =
-      first-at (getD (b .predictors) 0 []) (getD (b .predictors) 1 []) alike i (2 * i + 0) (omega arith) (omega (arith, wide 0 (omega arith)))
+      let w = wide 0 (omega arith) in
+      first-at (getD (b .predictors) 0 []) (getD (b .predictors) 1 []) alike i (2 * i + 0) (omega arith) (omega (arith, w))
   predictor-row-at (suc zero) i g l =
-      second-at (getD (b .predictors) 0 []) (getD (b .predictors) 1 []) alike i (2 * i + 1) refl (omega (arith, wide 0 (omega arith)))
+      let w = wide 0 (omega arith) in
+      second-at (getD (b .predictors) 0 []) (getD (b .predictors) 1 []) alike i (2 * i + 1) refl (omega (arith, w))
   predictor-row-at (suc (suc k)) i g l = absurd (omega arith)

@@ -1,7 +1,7 @@
 -- `places_run` meets its contract. The invariant: from place 2 k on stand the places, before it the old values; r is the residual of
 -- place 2 k, and q the share before its value. Assumes nothing.
 use Prim.Native.Nat.{ℕ, suc, _+_, _-_, _*_, _/_, _%_, _≤_, _<_}
-use mathlib.Core.Path.{_≡_, refl, sym, subst, ap, ap₂, _∙_}
+use mathlib.Core.Path.{_≡_, sym, subst, ap, ap₂, _∙_}
 use mathlib.Core.Bool.{cond}
 use mathlib.Core.List.{List}
 use native.Mathlib.Omega.{arith}
@@ -54,13 +54,15 @@ module _ (t : Rows) (v₀ xs : List ℤ) (o : PlacesOk t v₀ xs) where
 
   puts : (j : ℕ) → j < length v₀ → placed (getD (t .values) j 0) (getD (t .weights) j 0) (at (residualsBy t xs) j) ≡ at (placesBy t xs) j
   puts j h =
-      sym (placed-at (t .values) (t .weights) (residualsBy t xs) j (omega (arith, o .book)) (omega (arith, o .weighed)) (omega (arith, many)))
+      sym
+      (placed-at (t .values) (t .weights) (residualsBy t xs) j (omega (arith, o .book)) (omega (arith, o .weighed)) (omega (arith, many)))
 
   full : length (placesBy t xs) ≡ length v₀
   full = length-placed (t .values) (t .weights) (residualsBy t xs) (o .book ∙ sym many) (o .weighed ∙ sym many) ∙ many
 
   -- place j behind place k
-  went : {v : List ℤ} {r r′ z : ℤ} {q q′ k j : ℕ} → Came t v₀ xs v r q k → suc j ≡ k → r′ ≡ at (residualsBy t xs) j → z ≡ at (placesBy t xs) j
+  went : {v : List ℤ} {r r′ z : ℤ} {q q′ k j : ℕ} → Came t v₀ xs v r q k → suc j ≡ k → r′ ≡ at (residualsBy t xs) j
+      → z ≡ at (placesBy t xs) j
       → q′ ≡ shareAt (t .values) j → Came t v₀ xs (set v j z) r′ q′ j
   went {v = v} {z = z} {k = k} {j = j} c e f g h =
       record { here = omega (arith, c .here); done = down-step (placesBy t xs) v₀ v k j z e (c .here) g (c .done); left = f; share = h }
@@ -115,7 +117,9 @@ unfolding predictorOf
 fitting b =
     let s = start b in
     near (lent s) (s .args .vector .now) (s .args .xs .now) (s .pre)
-    (λ i. omega (arith, b .before .before .before .before .before .before .shared-slice-known2 .given (2 * i + listOf (getD (s .args .selectors .now) (i / 2) 0) i)))
+    (λ i.
+    let l = listOf (getD (s .args .selectors .now) (i / 2) 0) i in
+    omega (arith, b .before .before .before .before .before .before .shared-slice-known2 .given (2 * i + l)))
 
 -- the residual that the machine has at the odd place, and at the even one
 odd-residual : (c : tie.After-residual Inv-loop μ-loop) → let b = head c in
@@ -193,14 +197,17 @@ place-requires c κs =
     let d = c .before .before .before .before in
     let b = head d in
     let j = 2 * (b .loop .k - 1) + 1 in
-    (rw (odd-residual d) (fitting b j), omega (arith, c .before .weigh-run .ensures .0, start b .pre .heavy j (omega (arith, b .loop .inv .here))))
+    let w = start b .pre .heavy j (omega (arith, b .loop .inv .here)) in
+    (rw (odd-residual d) (fitting b j), omega (arith, c .before .weigh-run .ensures .0, w))
 
 -- behind the odd place
 midway : (c : tie.After-place Inv-loop μ-loop) → let d = odd-res c in
     let b = head d in
     let s = start b in
     let j = 2 * (b .loop .k - 1) + 1 in
-    Came (lent s) (s .args .vector .now) (s .args .xs .now) (set (b .loop .vector) j (toZ w16 (ofZ w16 (c .place .result)))) (toZ w32 (ofZ w32 (d .residual .result))) (c .before .before .weigh-run .result .share) j
+    let v = set (b .loop .vector) j (toZ w16 (ofZ w16 (c .place .result))) in
+    let r = toZ w32 (ofZ w32 (d .residual .result)) in
+    Came (lent s) (s .args .vector .now) (s .args .xs .now) v r (c .before .before .weigh-run .result .share) j
 midway c =
     let d = odd-res c in
     let b = head d in
@@ -210,7 +217,7 @@ midway c =
     let r = odd-residual d in
     let p = puts (lent s) (s .args .vector .now) (s .args .xs .now) (s .pre) j (omega (arith, b .loop .inv .here)) in
     let x = getD (s .args .values .now) j 0 in
-    let z : toZ w16 (ofZ w16 (c .place .result)) ≡ at (placesBy (lent s) (s .args .xs .now)) j = toZ-ofZ {w = w16} (sfits-of (c .place .ok)) ∙ c .place .ensures ∙ ap₂ (placed x) (w .ensures .0) r ∙ p in
+    let z = toZ-ofZ {w = w16} (sfits-of (c .place .ok)) ∙ c .place .ensures ∙ ap₂ (placed x) (w .ensures .0) r ∙ p in
     went (lent s) (s .args .vector .now) (s .args .xs .now) (s .pre) (b .loop .inv) (omega arith) r z (w .ensures .1)
 
 even-residual : (c : tie.After-residual2 Inv-loop μ-loop) → let b = head (odd-res (odd c)) in
@@ -271,7 +278,8 @@ place-requires-2 c κs =
     let b = head (odd-res (odd d)) in
     let o = start b .pre in
     let i = 2 * (b .loop .k - 1) in
-    (rw (even-residual d) (fitting b i), omega (arith, c .before .weigh-run2 .ensures .0, o .heavy i (omega (arith, o .some, b .loop .inv .here))))
+    let w = o .heavy i (omega (arith, o .some, b .loop .inv .here)) in
+    (rw (even-residual d) (fitting b i), omega (arith, c .before .weigh-run2 .ensures .0, w))
 
 loop-again : tie.Need-loop-again Inv-loop μ-loop
 loop-again c =
@@ -284,7 +292,7 @@ loop-again c =
     let r = even-residual d in
     let p = puts (lent s) (s .args .vector .now) (s .args .xs .now) (s .pre) i (omega (arith, b .loop .inv .here)) in
     let x = getD (s .args .values .now) i 0 in
-    let z : toZ w16 (ofZ w16 (c .place2 .result)) ≡ at (placesBy (lent s) (s .args .xs .now)) i = toZ-ofZ {w = w16} (sfits-of (c .place2 .ok)) ∙ c .place2 .ensures ∙ ap₂ (placed x) (w .ensures .0) r ∙ p in
+    let z = toZ-ofZ {w = w16} (sfits-of (c .place2 .ok)) ∙ c .place2 .ensures ∙ ap₂ (placed x) (w .ensures .0) r ∙ p in
     went (lent s) (s .args .vector .now) (s .args .xs .now) (s .pre) (midway m) (omega arith) r z (w .ensures .1)
 
 returns : tie.Need-returns Inv-loop μ-loop

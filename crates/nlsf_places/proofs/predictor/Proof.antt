@@ -1,6 +1,5 @@
 -- `predictor` meets its contract: either list's entry stands inside the row. Assumes nothing.
 use mathlib.Core.Path.{refl}
-use native.Mathlib.Omega.{arith}
 use borrow.Author.Needs.{needs}
 use Rattle.nlsf_places.specs.Inner.{predictorOf}
 use Rattle.nlsf_places.proofs.predictor.Statement.{statement}

@@ -1,10 +1,9 @@
 -- `last_share_run` meets its contract. Assumes nothing.
-use Prim.Native.Nat.{ℕ, suc, _-_, _/_}
+use Prim.Native.Nat.{ℕ, _-_, _/_}
 use mathlib.Core.Path.{_≡_, sym, ap₂, _∙_}
 use native.Mathlib.Omega.{arith}
 use borrow.Author.Needs.{needs}
 use lib.ListN.{length, getD}
-use Rattle.nlsf_weights.specs.Inner.{edges}
 use Rattle.nlsf_weights.proofs.Rising.{edge-before, edge-last, step-at}
 use Rattle.nlsf_weights.proofs.last_share_run.Statement.{statement}
 use Rattle.nlsf_weights.proofs.last_share_run.Tie as tie

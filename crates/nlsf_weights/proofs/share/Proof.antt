@@ -1,6 +1,5 @@
 -- `share` meets its contract: the row's entry is the quotient. Assumes nothing.
-use Prim.Native.Nat.{_-_, _<_}
-use mathlib.Core.Path.{_≡_}
+use Prim.Native.Nat.{_-_}
 use native.Mathlib.Omega.{arith}
 use borrow.Author.Needs.{needs}
 use Rattle.nlsf_weights.proofs.RowLaws.{shares-long, share-in}

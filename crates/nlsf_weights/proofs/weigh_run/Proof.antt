@@ -3,7 +3,6 @@ use Prim.Native.Nat.{ℕ, suc, _+_, _-_, _*_, _/_, _^_, _≤_}
 use mathlib.Core.Path.{_≡_, sym, ap, ap₂, _∙_}
 use native.Mathlib.Omega.{arith}
 use borrow.Author.Needs.{needs}
-use lib.ListN.{length, getD}
 use Rattle.bitlen.specs.Length.{bitLength}
 use Rattle.sheet.specs.Weights.{rootAt}
 use Rattle.nlsf_weights.specs.Inner.{shareAt}
@@ -32,7 +31,8 @@ share-is : (d : tie.After-share) → d .share .result ≡ shareAt (start d .args
 share-is d =
     let s = start d in
     d .share .ensures
-    ∙ ap₂ (λ (x a : ℕ). 1024 / (x - a)) (sym (edge-value (s .args .values .now) (s .args .i) (s .pre .inside))) (d .before .before .value-before .ensures)
+    ∙ ap₂ (λ (x a : ℕ). 1024 / (x - a)) (sym (edge-value (s .args .values .now) (s .args .i) (s .pre .inside)))
+    (d .before .before .value-before .ensures)
 
 -- both shares together
 record Sum (d : tie.After-share) : Type 0 where
@@ -53,7 +53,7 @@ returns c =
     let d = c .before in
     let s = start d in
     let v = s .args .values .now in
-    let e : d .share .result + s .args .behind ≡ shareAt v (s .args .i) + shareAt v (suc (s .args .i)) = ap₂ (λ (n m : ℕ). n + m) (share-is d) (s .pre .behind) in (
+    let e = ap₂ (λ (n m : ℕ). n + m) (share-is d) (s .pre .behind) in (
       c .root .ensures ∙ ap (λ (n : ℕ). rootAt (n * 2 ^ 16) (bitLength (n * 2 ^ 16))) e ∙ sym (weight-at v (s .args .i) (s .pre .inside)),
       share-is d,
     )

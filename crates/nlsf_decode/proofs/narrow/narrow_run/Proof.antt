@@ -72,7 +72,9 @@ narrow-run-spec =
     (λ c. search needs)
     (λ c. search needs)
     (λ c. search needs)
-    (λ c κs. let d = c .before .before .before .before in places-asked narrow-usable (narrow-shaped .order) (lent-are d) (start d .pre) narrow-rises)
+    (λ c κs.
+    let d = c .before .before .before .before in
+    places-asked narrow-usable (narrow-shaped .order) (lent-are d) (start d .pre) narrow-rises)
     (λ c κs. search needs)
     (λ c. search needs)
     (λ c κs. search needs)

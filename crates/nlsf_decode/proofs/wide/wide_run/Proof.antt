@@ -72,7 +72,9 @@ wide-run-spec =
     (λ c. search needs)
     (λ c. search needs)
     (λ c. search needs)
-    (λ c κs. let d = c .before .before .before .before in places-asked wide-usable (wide-shaped .order) (lent-are d) (start d .pre) wide-rises)
+    (λ c κs.
+    let d = c .before .before .before .before in
+    places-asked wide-usable (wide-shaped .order) (lent-are d) (start d .pre) wide-rises)
     (λ c κs. search needs)
     (λ c. search needs)
     (λ c κs. search needs)
