@@ -12,6 +12,9 @@ const BOOK_TABLES: usize = 10;
 
 const NAME: &str = "tg_table_entry";
 
+/// Of these the two that ours works out.
+const WEIGHTS: &str = "weights of books";
+
 pub fn hold_all(board: &mut Board) {
     let names = hold(CRATE, unopus::rows, board);
     let of_books = names.iter().filter(|name| name.starts_with(unopus::BOOKS));
@@ -56,14 +59,19 @@ fn against_libopus(board: &mut Board) {
 
 /// Holds each table of ours to the rows of a source, and answers the names of those rows.
 fn hold(with: &'static str, rows: fn(u32) -> Vec<Row>, board: &mut Board) -> Vec<String> {
-    let (mut names, mut score) = (Vec::new(), Score::default());
+    let (mut names, mut held, mut weights) = (Vec::new(), Score::default(), Score::default());
     for table in 0..TABLES {
         let rows = rows(table);
         let entry = |place| table_entry(table, place);
-        compare(&mut score, &format!("table {table}"), entry, &rows);
+        let score = match rows[0].0.ends_with("weights") {
+            true => &mut weights,
+            false => &mut held,
+        };
+        compare(score, &format!("table {table}"), entry, &rows);
         names.extend(rows.into_iter().map(|(name, _)| name));
     }
-    board.row(NAME, with, &score);
+    board.row(NAME, with, &held);
+    board.row(WEIGHTS, with, &weights);
     names
 }
 
