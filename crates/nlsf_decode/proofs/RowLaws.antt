@@ -12,7 +12,7 @@ use Rattle.deciding.proofs.Choice.{chosen}
 use Rattle.ints.specs.Parts.{up, down}
 use Rattle.sheet.specs.Books.{Book, narrowBook, wideBook}
 use Rattle.sheet.specs.Statement.{Rising}
-use Rattle.sheet.specs.Weights.{risesBy}
+use Rattle.sheet.specs.Weights.{rises}
 use Rattle.sheet.proofs.BooksLaws.{narrow-shaped, wide-shaped}
 use Rattle.sheet.proofs.WeightsLaws.{rises-at}
 use Rattle.tables.specs.Inner.{predictorRow}
@@ -77,7 +77,7 @@ module _ (b : Book) (v : ℕ) (t : Rows) (r : RowsOf b v t) (u : Usable b) where
         pairs = omega (arith, i .long, u .even, ap length (r .selectors), s .selectors .width v (i .row));
         lists = omega (arith, ap length (r .lists), lists-long, i .long);
         book = ap length (r .values) ∙ s .vectors .width v (i .row) ∙ sym (i .long);
-        rising = ap (risesBy 47 0) (r .values) ∙ rises-at (u .shaped) g v (i .row);
+        rising = ap rises (r .values) ∙ rises-at (u .shaped) g v (i .row);
         weighed = ap length (r .weights) ∙ ws ∙ sym (i .long);
         heavy = λ k h.
             subst⁻¹ (λ (l : List ℕ). 1 ≤ getD l k 0) (r .weights)

@@ -6,7 +6,7 @@ use mathlib.Core.List.{List}
 use lib.IntN.{ℤ, pos, negsuc}
 use lib.Signed.{ltZ}
 use lib.ListN.{length, getD}
-use Rattle.sheet.specs.Weights.{weightsOf, risesBy}
+use Rattle.sheet.specs.Weights.{weightsOf, rises}
 use Rattle.spectrum.specs.Places.{placedAll}
 use Rattle.spectrum.specs.Residuals.{residuals, listOf}
 use Rattle.spectrum.specs.Values.{Within}
@@ -31,12 +31,9 @@ pub record Rows : Type 0 where
   pub values : List ℕ
   pub weights : List ℕ
 
-abbrev pub rows : ℕ → List ℕ → List ℕ → List ℕ → List ℕ → Rows
-rows s e p b w = record { step = s; selectors = e; lists = p; values = b; weights = w }
-
 -- those of a vector whose weights are worked out
 abbrev pub weighted : ℕ → List ℕ → List ℕ → List ℕ → Rows
-weighted s e p b = rows s e p b (weightsOf b)
+weighted s e p b = record { step = s; selectors = e; lists = p; values = b; weights = weightsOf b }
 
 abbrev pub predictorBy : Rows → ℕ → ℕ
 predictorBy t = predictorAt (t .selectors) (t .lists)
@@ -48,7 +45,7 @@ residualsBy t xs = residuals (t .step) (predictorBy t) 0 xs
 abbrev pub placesBy : Rows → List ℤ → List ℤ
 placesBy t xs = placedAll (t .values) (t .weights) (residualsBy t xs)
 
--- 1 to 16 values, rows as long, indices from -10 to 10, weights above 0, a selector for each two places, a
+-- 1 to 16 values that rise, rows as long, indices from -10 to 10, weights above 0, a selector for each two places, a
 -- predictor of each list for each place
 pub record PlacesOk (t : Rows) (v xs : List ℤ) : Type 0 where
   pub some : 1 ≤ length v
@@ -59,6 +56,6 @@ pub record PlacesOk (t : Rows) (v xs : List ℤ) : Type 0 where
   pub pairs : length v ≡ 2 * length (t .selectors)
   pub lists : length (t .lists) ≡ 2 * length v
   pub book : length (t .values) ≡ length v
-  pub rising : risesBy 47 0 (t .values) ≡ true
+  pub rising : rises (t .values) ≡ true
   pub weighed : length (t .weights) ≡ length v
   pub heavy : (i : ℕ) → i < length v → 1 ≤ getD (t .weights) i 0

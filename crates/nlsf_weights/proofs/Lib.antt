@@ -1,3 +1,3 @@
-pub mod Rising
+mod Rising
 mod RootLaws
 mod RowLaws

@@ -11,7 +11,7 @@ use lib.ListN.{length, getD, List·getD-append}
 use lib.Seq.{getD-append-seam}
 use Rattle.bitlen.specs.Length.{bitLength}
 use Rattle.deciding.proofs.Both.{and-both}
-use Rattle.sheet.specs.Weights.{rootAt, weight, weightsFrom, weightsOf, risesBy}
+use Rattle.sheet.specs.Weights.{rootAt, weight, weightsFrom, weightsOf, risesBy, rises}
 use Rattle.nlsf_weights.specs.Inner.{edges, shareAt}
 
 -- ---- edges
@@ -46,13 +46,13 @@ steps m a [] e (suc k) h = absurd (not-suc-le-zero h)
 steps m a (x ∷ t) e zero h = step-of m a x (and-both (ltb a x && leb x (a + m)) (risesBy m x t) e .0)
 steps m a (x ∷ t) e (suc k) h = steps m x t (and-both (ltb a x && leb x (a + m)) (risesBy m x t) e .1) k (le-of-suc-le-suc h)
 
-pub step-at : (v : List ℕ) → risesBy 47 0 v ≡ true → (k : ℕ) → k ≤ length v
+pub step-at : (v : List ℕ) → rises v ≡ true → (k : ℕ) → k ≤ length v
     → Step 47 (getD (edges v) k 0) (getD (edges v) (suc k) 0)
 step-at v e = steps 47 0 v e
 
 -- ---- shares
 
-pub share-some : (v : List ℕ) → risesBy 47 0 v ≡ true → (k : ℕ) → k ≤ length v → (1 ≤ shareAt v k) × (shareAt v k ≤ 1024)
+pub share-some : (v : List ℕ) → rises v ≡ true → (k : ℕ) → k ≤ length v → (1 ≤ shareAt v k) × (shareAt v k ≤ 1024)
 share-some v e k h =
     let s = step-at v e k h in
     let d = getD (edges v) (suc k) 0 - getD (edges v) k 0 in

@@ -5,7 +5,7 @@ use mathlib.Core.Bool.{true, cond}
 use mathlib.Core.List.{List, [], _∷_, _++_}
 use lib.Dec.{eqb}
 use lib.ListN.{length, getD}
-use Rattle.sheet.specs.Weights.{risesBy}
+use Rattle.sheet.specs.Weights.{rises}
 
 -- f at the n numbers from k on
 abbrev pub from : (ℕ → ℕ) → ℕ → ℕ → List ℕ
@@ -35,6 +35,6 @@ shareAt v k = 1024 / (getD (edges v) (suc k) 0 - getD (edges v) k 0)
 pub record Asked (s r v : List ℕ) (k q : ℕ) : Type 0 where
   pub shares : s ≡ shareRow
   pub roots : r ≡ rootRow
-  pub rising : risesBy 47 0 v ≡ true
+  pub rising : rises v ≡ true
   pub inside : k < length v
   pub behind : q ≡ shareAt v (suc k)

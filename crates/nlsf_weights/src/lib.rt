@@ -5,7 +5,7 @@ ghost use mathlib.Core.Bool.{true};
 ghost use Prim.Native.Nat.{_-_, _*_, _/_, _^_, _≤_, _<_};
 ghost use lib.ListN.{length, getD};
 ghost use Rattle.bitlen.specs.Length.{bitLength};
-ghost use Rattle.sheet.specs.Weights.{rootAt, weightsOf, risesBy};
+ghost use Rattle.sheet.specs.Weights.{rootAt, weightsOf, rises};
 ghost use Rattle.nlsf_weights.specs.Inner.{shareRow, rootRow, shareAt, edges, Asked};
 use bitlen::ec_ilog;
 
@@ -124,7 +124,7 @@ fn value_before(values: &[u8], i: usize) -> u32
 
 // The share behind the last value: 256 stands there.
 pub fn last_share_run(shares: &[u16], values: &[u8]) -> u32
-    requires { ⌜ (now shares ≡ shareRow) × ((1 ≤ length (now values)) × (risesBy 47 0 (now values) ≡ true)) ⌝ }
+    requires { ⌜ (now shares ≡ shareRow) × ((1 ≤ length (now values)) × (rises (now values) ≡ true)) ⌝ }
     ensures { λ q. ⌜ q ≡ shareAt (now (values .entry)) (length (now (values .entry))) ⌝ }
 {
     share(shares, values[values.len() - 1] as u32, 256)
@@ -151,7 +151,7 @@ pub fn weigh_run(shares: &[u16], roots: &[u16], values: &[u8], i: usize, behind:
 
 // The weights of a whole vector.
 pub fn weights_run(weights: &mut [u16], values: &[u8])
-    requires { ⌜ (length (now weights) ≡ length (now values)) × ((1 ≤ length (now values)) × (risesBy 47 0 (now values) ≡ true)) ⌝ }
+    requires { ⌜ (length (now weights) ≡ length (now values)) × ((1 ≤ length (now values)) × (rises (now values) ≡ true)) ⌝ }
     ensures { λ _. ⌜ now (weights .exit) ≡ weightsOf (now (values .entry)) ⌝ }
 {
     let shares = shares();

@@ -8,7 +8,7 @@ use lib.ListN.{getD, List·getD-map}
 use Rattle.bitlen.specs.Length.{bitLength, lengthIn}
 use Rattle.lists.proofs.EveryLaws.{every-at}
 use Rattle.sheet.specs.Books.{Book, narrowBook, wideBook}
-use Rattle.sheet.specs.Weights.{rootAt, weight, weightsFrom, weightsOf, risesBy}
+use Rattle.sheet.specs.Weights.{rootAt, weight, weightsFrom, weightsOf, risesBy, rises}
 use Rattle.sheet.specs.Statement.{ByRule, NarrowByRule, WideByRule, Rising, NarrowRises, WideRises}
 use Rattle.sheet.proofs.BooksLaws.{Shaped}
 
@@ -36,5 +36,5 @@ unfolding wideBook risesBy
 wide-rises = refl
 
 -- those of vector v
-pub rises-at : {n : ℕ} {b : Book} → Shaped n b → Rising b → (v : ℕ) → v < 32 → risesBy 47 0 (getD (b .vectors) v []) ≡ true
-rises-at {n} {b} s r v h = every-at (risesBy 47 0) (b .vectors) [] r v (omega (arith, s .vectors .count))
+pub rises-at : {n : ℕ} {b : Book} → Shaped n b → Rising b → (v : ℕ) → v < 32 → rises (getD (b .vectors) v []) ≡ true
+rises-at {n} {b} s r v h = every-at rises (b .vectors) [] r v (omega (arith, s .vectors .count))

@@ -9,7 +9,7 @@ use Rattle.sheet.specs.Rows.{rows, partOf}
 use Rattle.sheet.specs.Directory.{named}
 use Rattle.sheet.specs.Probabilities.{chances, inverse, total}
 use Rattle.sheet.specs.Books.{Book, narrowBook, wideBook}
-use Rattle.sheet.specs.Weights.{weightsOf, risesBy}
+use Rattle.sheet.specs.Weights.{weightsOf, rises}
 
 -- ---- the rows (RFC 6716, section 4.2)
 
@@ -43,7 +43,7 @@ WideByRule = ByRule wideBook
 
 -- the values of each vector of a book rise from 0 to 256 in steps of 1 to 47, so that no weight divides by 0
 abbrev pub Rising : Book → Type 0
-Rising b = every (risesBy 47 0) (b .vectors) ≡ true
+Rising b = every rises (b .vectors) ≡ true
 
 abbrev pub NarrowRises : Type 0
 NarrowRises = Rising narrowBook

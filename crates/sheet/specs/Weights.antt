@@ -34,3 +34,7 @@ weightsOf v = weightsFrom 0 v
 unfoldable pub risesBy : ℕ → ℕ → List ℕ → Bool
 risesBy m a [] = ltb a 256 && leb 256 (a + m)
 risesBy m a (x ∷ t) = (ltb a x && leb x (a + m)) && risesBy m x t
+
+-- both books' vectors rise from 0 to 256 in such steps (`narrow-rises`, `wide-rises`)
+abbrev pub rises : List ℕ → Bool
+rises v = risesBy 47 0 v

@@ -1,7 +1,7 @@
 -- The lists of predictors of a book in one row, two entries for each place: the last place has no predictor, and a 0 stands there for
 -- either list. Assumes nothing.
 use Prim.Native.Nat.{ℕ, zero, suc, _+_, _-_, _*_, _≤_, _<_}
-use mathlib.Core.Path.{_≡_, refl}
+use mathlib.Core.Path.{_≡_, refl, sym, ap, _∙_}
 use mathlib.Core.List.{List, [], _∷_}
 use native.Mathlib.Omega.{arith}
 use lib.ListN.{length, getD}
@@ -14,31 +14,33 @@ pairs-long [] ys e = refl
 pairs-long (x ∷ xs) [] e = absurd (omega arith)
 pairs-long (x ∷ xs) (y ∷ ys) e = omega (arith, pairs-long xs ys (omega arith))
 
--- entry i of the first list, and of the second
-first-at : (xs ys : List ℕ) → length xs ≡ length ys → (i m : ℕ) → m ≡ 2 * i → i ≤ length xs → getD (paired xs ys) m 0 ≡ getD xs i 0
-first-at [] ys e zero zero f h = refl
-first-at [] ys e zero (suc m) f h = absurd (omega arith)
-first-at [] ys e (suc i) m f h = absurd (omega arith)
-first-at (x ∷ xs) [] e i m f h = absurd (omega arith)
-first-at (x ∷ xs) (y ∷ ys) e zero zero f h = refl
-first-at (x ∷ xs) (y ∷ ys) e zero (suc m) f h = absurd (omega arith)
-first-at (x ∷ xs) (y ∷ ys) e (suc i) zero f h = absurd (omega arith)
-first-at (x ∷ xs) (y ∷ ys) e (suc i) (suc zero) f h = absurd (omega arith)
-first-at (x ∷ xs) (y ∷ ys) e (suc i) (suc (suc m)) f h = first-at xs ys (omega arith) i m (omega arith) (omega arith)
+-- the entry of place i that is of list l
+abbrev entryOf : ℕ → ℕ → ℕ
+entryOf l zero = l
+entryOf l (suc i) = suc (suc (entryOf l i))
 
-second-at : (xs ys : List ℕ) → length xs ≡ length ys → (i m : ℕ) → m ≡ 2 * i + 1 → i ≤ length xs → getD (paired xs ys) m 0 ≡ getD ys i 0
-second-at [] [] e zero zero f h = absurd (omega arith)
-second-at [] [] e zero (suc zero) f h = refl
-second-at [] [] e zero (suc (suc m)) f h = absurd (omega arith)
-second-at [] [] e (suc i) m f h = absurd (omega arith)
-second-at [] (y ∷ ys) e i m f h = absurd (omega arith)
-second-at (x ∷ xs) [] e i m f h = absurd (omega arith)
-second-at (x ∷ xs) (y ∷ ys) e zero zero f h = absurd (omega arith)
-second-at (x ∷ xs) (y ∷ ys) e zero (suc zero) f h = refl
-second-at (x ∷ xs) (y ∷ ys) e zero (suc (suc m)) f h = absurd (omega arith)
-second-at (x ∷ xs) (y ∷ ys) e (suc i) zero f h = absurd (omega arith)
-second-at (x ∷ xs) (y ∷ ys) e (suc i) (suc zero) f h = absurd (omega arith)
-second-at (x ∷ xs) (y ∷ ys) e (suc i) (suc (suc m)) f h = second-at xs ys (omega arith) i m (omega arith) (omega arith)
+entry-is : (l i : ℕ) → entryOf l i ≡ 2 * i + l
+entry-is l zero = omega arith
+entry-is l (suc i) = omega (arith, entry-is l i)
+
+entry-at : (xs ys : List ℕ) → length xs ≡ length ys → (l i : ℕ) → l < 2 → i ≤ length xs
+    → getD (paired xs ys) (entryOf l i) 0 ≡ getD (getD (xs ∷ ys ∷ []) l []) i 0
+entry-at [] [] e zero zero g h = refl
+entry-at [] [] e (suc zero) zero g h = refl
+entry-at [] [] e (suc (suc l)) zero g h = absurd (omega arith)
+entry-at [] [] e l (suc i) g h = absurd (omega arith)
+entry-at [] (y ∷ ys) e l i g h = absurd (omega arith)
+entry-at (x ∷ xs) [] e l i g h = absurd (omega arith)
+entry-at (x ∷ xs) (y ∷ ys) e zero zero g h = refl
+entry-at (x ∷ xs) (y ∷ ys) e (suc zero) zero g h = refl
+entry-at (x ∷ xs) (y ∷ ys) e zero (suc i) g h = entry-at xs ys (omega arith) zero i g (omega arith)
+entry-at (x ∷ xs) (y ∷ ys) e (suc zero) (suc i) g h = entry-at xs ys (omega arith) (suc zero) i g (omega arith)
+entry-at (x ∷ xs) (y ∷ ys) e (suc (suc l)) i g h = absurd (omega arith)
+
+both : (rs : List (List ℕ)) (l : ℕ) → l < 2 → getD (getD rs 0 [] ∷ getD rs 1 [] ∷ []) l [] ≡ getD rs l []
+both rs zero g = refl
+both rs (suc zero) g = refl
+both rs (suc (suc l)) g = absurd (omega arith)
 
 module _ (b : Book) (n : ℕ) (s : Shaped n b) (h : 1 ≤ n) where
   wide : (k : ℕ) → k < 2 → length (getD (b .predictors) k []) ≡ n - 1
@@ -55,10 +57,9 @@ module _ (b : Book) (n : ℕ) (s : Shaped n b) (h : 1 ≤ n) where
   -- entry i of list k, up to the last place
   pub predictor-row-at : (k i : ℕ) → k < 2 → i < n → getD (predictorRow b) (2 * i + k) 0 ≡ getD (getD (b .predictors) k []) i 0
   unfolding predictorRow
-  predictor-row-at zero i g l =
-      let w = wide 0 (omega arith) in
-      first-at (getD (b .predictors) 0 []) (getD (b .predictors) 1 []) alike i (2 * i + 0) (omega arith) (omega (arith, w))
-  predictor-row-at (suc zero) i g l =
-      let w = wide 0 (omega arith) in
-      second-at (getD (b .predictors) 0 []) (getD (b .predictors) 1 []) alike i (2 * i + 1) refl (omega (arith, w))
-  predictor-row-at (suc (suc k)) i g l = absurd (omega arith)
+  predictor-row-at k i g l =
+      let xs = getD (b .predictors) 0 [] in
+      let ys = getD (b .predictors) 1 [] in
+      ap (λ (m : ℕ). getD (paired xs ys) m 0) (sym (entry-is k i))
+      ∙ entry-at xs ys alike k i g (omega (arith, wide 0 (omega arith)))
+      ∙ ap (λ (r : List ℕ). getD r i 0) (both (b .predictors) k g)

@@ -62,8 +62,7 @@ module _ (t : Rows) (v₀ xs : List ℤ) (o : PlacesOk t v₀ xs) where
 
   -- place j behind place k
   went : {v : List ℤ} {r r′ z : ℤ} {q q′ k j : ℕ} → Came t v₀ xs v r q k → suc j ≡ k → r′ ≡ at (residualsBy t xs) j
-      → z ≡ at (placesBy t xs) j
-      → q′ ≡ shareAt (t .values) j → Came t v₀ xs (set v j z) r′ q′ j
+      → z ≡ at (placesBy t xs) j → q′ ≡ shareAt (t .values) j → Came t v₀ xs (set v j z) r′ q′ j
   went {v = v} {z = z} {k = k} {j = j} c e f g h =
       record { here = omega (arith, c .here); done = down-step (placesBy t xs) v₀ v k j z e (c .here) g (c .done); left = f; share = h }
 
@@ -121,7 +120,7 @@ fitting b =
     let l = listOf (getD (s .args .selectors .now) (i / 2) 0) i in
     omega (arith, b .before .before .before .before .before .before .shared-slice-known2 .given (2 * i + l)))
 
--- the residual that the machine has at the odd place, and at the even one
+-- the residual that the machine has at the odd place
 odd-residual : (c : tie.After-residual Inv-loop μ-loop) → let b = head c in
     toZ w32 (ofZ w32 (c .residual .result)) ≡ at (residualsBy (lent (start b)) (start b .args .xs .now)) (2 * (b .loop .k - 1) + 1)
 odd-residual c =
@@ -145,7 +144,7 @@ last-share-run-requires : tie.Need-last-share-run-requires Inv-loop μ-loop
 last-share-run-requires c κs =
     let s = c .before .before .before .before .before .before in
     let o = s .pre in
-    (c .before .before .shares .ensures, (omega (arith, o .some, o .book), s .pre .rising))
+    (c .before .before .shares .ensures, (omega (arith, o .some, o .book), o .rising))
 
 loop-holds : tie.Need-loop-holds Inv-loop μ-loop
 loop-holds c =
@@ -220,6 +219,7 @@ midway c =
     let z = toZ-ofZ {w = w16} (sfits-of (c .place .ok)) ∙ c .place .ensures ∙ ap₂ (placed x) (w .ensures .0) r ∙ p in
     went (lent s) (s .args .vector .now) (s .args .xs .now) (s .pre) (b .loop .inv) (omega arith) r z (w .ensures .1)
 
+-- the residual that it has at the even place
 even-residual : (c : tie.After-residual2 Inv-loop μ-loop) → let b = head (odd-res (odd c)) in
     toZ w32 (ofZ w32 (c .residual2 .result)) ≡ at (residualsBy (lent (start b)) (start b .args .xs .now)) (2 * (b .loop .k - 1))
 even-residual c =
