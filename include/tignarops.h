@@ -167,8 +167,9 @@ typedef struct {
 tg_moves tg_nlsf_decode(int16_t *vector, size_t n, tg_spectrum indices, uint32_t khz);
 
 /* A vector of n values, 2 to 16, made to keep its m = n + 1 least gaps in 0 to 32,768: at most 20
- * moves, then the fallback of RFC 6716, section 4.2.7.5.4. Refusals 6 (lengths) and 7 (a gap below 0,
- * a last gap of 0, more than 32,768 together); a refusal leaves the vector as it is. */
+ * moves, in whole numbers, then the fallback of RFC 6716, section 4.2.7.5.4 (RFC 8251, section 7).
+ * Refusals 6 (lengths) and 7 (a gap below 0, a last gap of 0, more than 32,768 together); a refusal
+ * leaves the vector as it is. */
 tg_moves tg_nlsf_stabilise(int16_t *vector, size_t n, const int16_t *gaps, size_t m);
 
 /* A whole Opus packet: its configuration 0 to 11, the arrangement of its frames (RFC 6716, section 3.2:

@@ -113,7 +113,7 @@ impl Board {
         }
     }
 
-    /// The ways and answers that no case had; a fault where there were enough cases.
+    /// The ways and answers that no case had, or too few; a fault where there were enough cases.
     pub fn covered(&mut self, what: &str, missing: impl Iterator<Item = String>) {
         match report::complete(missing) {
             Err(missing) if self.lenient => println!("{what}: so few cases; {missing}"),

@@ -34,6 +34,8 @@ pub trait Kind: Sized {
     const SYMBOLS: &'static [&'static str] = SYMBOL_WAYS;
     /// Ways that an accepted call can take, besides those of its symbol.
     const BRANCHES: &'static [&'static str];
+    /// The places in `BRANCHES` of ways that a comparison must take often.
+    const OFTEN: &'static [usize] = &[];
 
     /// The place of the call in `CALLS`.
     fn call(ask: Self::Ask<'_>) -> usize;

@@ -51,6 +51,12 @@ impl<K: Kind> Counters<K> {
         names.copied().zip(self.branches.iter().copied())
     }
 
+    /// The ways that must be taken often, each with how often it was.
+    pub fn often(&self) -> impl Iterator<Item = (&'static str, u64)> + '_ {
+        let own = &self.branches[K::SYMBOLS.len()..];
+        K::OFTEN.iter().map(|&way| (K::BRANCHES[way], own[way]))
+    }
+
     /// In the order of the kind's calls.
     pub fn scores(&self) -> &[Score] {
         &self.scores

@@ -10,6 +10,9 @@ use crate::report;
 use crate::rng::Rng;
 use std::ops::Range;
 
+/// A way that must be taken often is taken by more than one in so many cases: by 10,000 in the gate.
+const ONE_IN: u64 = 20;
+
 /// What a plan comes to: an error is an answer that the plan rules out.
 pub type Outcome = Result<(), String>;
 
@@ -44,7 +47,7 @@ pub trait Plans: Sides + 'static {
 pub fn to_the_crate<K: Plans>(extent: &Extent, board: &mut Board) {
     let mut pair = Pair::<K>::new(K::ours, K::unopus);
     board.check(K::NAME, run(&mut pair, extent));
-    settle(&pair, CRATE, board, |_, _| true);
+    settle(&pair, CRATE, extent, board, |_, _| true);
 }
 
 /// The calls that document 01 accepts and libopus has a function for.
@@ -53,7 +56,7 @@ pub fn to_libopus<K: Plans>(extent: &Extent, board: &mut Board) {
     let mut accepted = Accepted::<K>::default();
     board.check(K::NAME, run(&mut accepted, extent));
     let has = |call, refusal| refusal == 0 && call != K::ACCOUNT;
-    settle(&accepted, LIBOPUS, board, has);
+    settle(&accepted, LIBOPUS, extent, board, has);
 }
 
 fn run<K: Plans>(sink: &mut dyn Sink<K>, extent: &Extent) -> Outcome {
@@ -67,6 +70,7 @@ fn run<K: Plans>(sink: &mut dyn Sink<K>, extent: &Extent) -> Outcome {
 fn settle<K: Plans>(
     sink: &dyn Sink<K>,
     with: &'static str,
+    extent: &Extent,
     board: &mut Board,
     wanted: impl Fn(usize, usize) -> bool + 'static,
 ) {
@@ -78,5 +82,12 @@ fn settle<K: Plans>(
             board.row(call, with, score);
         }
     }
-    board.covered(&what, counters.missing(wanted));
+    let few = extent.cases / ONE_IN;
+    if !K::OFTEN.is_empty() {
+        let often = report::counts(counters.often());
+        board.note(format!("{what}, more than {few} calls each: {often}"));
+    }
+    let seldom = counters.often().filter(|(_, n)| *n <= few);
+    let seldom = seldom.map(|(way, _)| format!("more than {few} calls {way}"));
+    board.covered(&what, counters.missing(wanted).chain(seldom));
 }

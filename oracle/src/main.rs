@@ -1,8 +1,9 @@
-//! Holds our calls and tables to the crate's and to libopus's, those on whole packets to a plain rewrite
-//! and to libopus's, and what our writer writes to reading back: what the cases were, then a table with a
-//! row for each exported call and for the crate, the rewrite and libopus, below it the first difference
-//! of each row, then the recorded answers. A difference is counted and stops nothing; status 1 where
-//! there is one, or where a way was never compared.
+//! Holds our calls and tables to the crate's and to libopus's, stabilising to whole numbers where a store
+//! of theirs leaves 16 bits, the calls on whole packets to a plain rewrite and to libopus's, and what our
+//! writer writes to reading back: what the cases were, then a table with a row for each exported call and
+//! for the crate, the rewrite and libopus, below it the first difference of each row, then the recorded
+//! answers. A difference is counted and stops nothing; status 1 where there is one, or where a way was
+//! never compared, or not as often as it must be.
 //!
 //! CASES is how many cases at random each exported call has with the crate or the rewrite, ten times as
 //! many where a whole packet is read; with libopus it has as many less those that document 01 refuses.
@@ -21,7 +22,7 @@ use std::path::{Path, PathBuf};
 use std::process::ExitCode;
 use std::{env, fs};
 
-/// Cases of each call; with fewer, a way that is never compared is said and fails nothing.
+/// Cases of each call; with fewer, a way that is never compared, or seldom, is said and fails nothing.
 const CASES: u64 = 200_000;
 
 /// As many, built for debugging.

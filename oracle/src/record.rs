@@ -1,5 +1,5 @@
-//! The fixed lists of calls with the crate's answers that the programs crates/.._cases replay, in the
-//! layout of docs/RECORDED.md.
+//! The fixed lists of calls with the crate's answers (in whole numbers where a store of its stabiliser
+//! leaves 16 bits) that the programs crates/.._cases replay, in the layout of docs/RECORDED.md.
 
 use crate::compare::{Answer, Sides, Sink};
 use crate::counters::Counters;

@@ -25,9 +25,9 @@ use Rattle.spectrum.specs.Calls.{bookOf, decoded}
 use Rattle.spectrum.specs.Gaps.{Ruled}
 use Rattle.spectrum.specs.Places.{placedAll, places}
 use Rattle.spectrum.specs.Residuals.{residuals, listOf, predictorIn}
-use Rattle.spectrum.specs.Stabilising.{Stable, stabilise, kept16}
+use Rattle.spectrum.specs.Stabilising.{Stable, stabilise}
 use Rattle.spectrum.specs.Values.{at, total, Within}
-use Rattle.nlsf_stabilize_move.specs.Inner.{MoveOk}
+use Rattle.nlsf_stabilize.specs.Inner.{Ready}
 use Rattle.nlsf_places.specs.Inner.{Rows, predictorOf, predictorAt, predictorBy, residualsBy, placesBy, PlacesOk}
 use Rattle.nlsf_decode.specs.Inner.{Indexed, spectrumOf}
 
@@ -84,13 +84,13 @@ module _ (b : Book) (v : ℕ) (t : Rows) (r : RowsOf b v t) (u : Usable b) where
             (u .sized .heavy v k (omega (arith, i .row, s .weights .count)) (omega (arith, ws, i .long)));
       }
 
--- ---- what the stabiliser is handed: gaps g and places p. It is what a move asks, and what the stabiliser leaves of it is vector v
--- of the book b, moved by the indices xs
+-- ---- what the stabiliser is handed: gaps g and places p. It is what stabilising asks, and what the stabiliser leaves of it is
+-- vector v of the book b, moved by the indices xs
 
 pub record Handed (b : Book) (v : ℕ) (xs g p : List ℤ) : Type 0 where
-  pub asked : MoveOk g p 0
+  pub asked : Ready g p
   pub sum : total g ≡ total (map pos (b .gaps))
-  pub answer : {s : Stable} → s ≡ stabilise kept16 g p → s ≡ spectrumOf b v xs
+  pub answer : {s : Stable} → s ≡ stabilise g p → s ≡ spectrumOf b v xs
 
 module _ {b : Book} {n v : ℕ} {t : Rows} {w xs : List ℤ} (u : Usable b) (o : b .order ≡ n) (r : RowsOf b v t) (i : Indexed n w v xs) where
   pub places-asked : Rising b → PlacesOk t w xs
@@ -107,10 +107,9 @@ module _ {b : Book} {n v : ℕ} {t : Rows} {w xs : List ℤ} (u : Usable b) (o :
               long = omega (arith, l, i .long);
               some = omega (arith, l, i .long, u .some);
               few = omega (arith, l, i .long, u .few);
-              place = omega arith;
             };
         sum = ap total e;
-        answer = λ h. h ∙ ap₂ (stabilise kept16) e (f ∙ places-by b v t r u xs (i .many ∙ sym o));
+        answer = λ h. h ∙ ap₂ stabilise e (f ∙ places-by b v t r u xs (i .many ∙ sym o));
       }
 
 -- ---- the book of a rate, and its order n
@@ -149,10 +148,10 @@ module _ {khz n : ℕ} {b : Book} (u : Under khz b n) (index : List ℤ) where
         row = omega (arith, natural-is (at index 0) (a .first0), a .first);
       }
 
-  pub decoded-as : down (at index 0) ≡ 0 → spectrumOf b (natAbs (at index 0)) (take n (drop 1 index)) ≡ decoded kept16 (bookOf khz) index
+  pub decoded-as : down (at index 0) ≡ 0 → spectrumOf b (natAbs (at index 0)) (take n (drop 1 index)) ≡ decoded (bookOf khz) index
   unfolding decoded
   decoded-as d =
-      ap₂ (λ (m k : ℕ). stabilise kept16 (map pos (b .gaps)) (places b m (take k (drop 1 index)))) (natural-is (at index 0) d)
+      ap₂ (λ (m k : ℕ). stabilise (map pos (b .gaps)) (places b m (take k (drop 1 index)))) (natural-is (at index 0) d)
       (sym (u .order))
-      ∙ ap (λ (c : Book). stabilise kept16 (map pos (c .gaps)) (places c (up (at index 0)) (take (c .order) (drop 1 index))))
+      ∙ ap (λ (c : Book). stabilise (map pos (c .gaps)) (places c (up (at index 0)) (take (c .order) (drop 1 index))))
       (sym (u .book))

@@ -6,7 +6,7 @@ use lib.IntN.{ℤ, pos}
 use lib.ListN.{length}
 use Rattle.sheet.specs.Books.{Book}
 use Rattle.spectrum.specs.Places.{places}
-use Rattle.spectrum.specs.Stabilising.{Stable, stabilise, kept16}
+use Rattle.spectrum.specs.Stabilising.{Stable, stabilise}
 use Rattle.spectrum.specs.Values.{Within}
 
 pub record Indexed (n : ℕ) (vector : List ℤ) (v : ℕ) (xs : List ℤ) : Type 0 where
@@ -17,4 +17,4 @@ pub record Indexed (n : ℕ) (vector : List ℤ) (v : ℕ) (xs : List ℤ) : Typ
 
 -- vector v of a book, moved by the indices of its places and stabilised by the book's gaps
 abbrev pub spectrumOf : Book → ℕ → List ℤ → Stable
-spectrumOf b v xs = stabilise kept16 (map pos (b .gaps)) (places b v xs)
+spectrumOf b v xs = stabilise (map pos (b .gaps)) (places b v xs)

@@ -4,7 +4,6 @@ ghost use mathlib.Core.Path.{_≡_};
 ghost use lib.IntN.{pos, negsuc};
 ghost use Rattle.lists.specs.Every.{every};
 ghost use Rattle.ranges.specs.InRange.{inRange};
-ghost use Rattle.spectrum.specs.Stabilising.{kept16};
 ghost use Rattle.spectrum.specs.Calls.{bookOf, placeIndices, numbersOk, decodeRefusal, decoded, decodeCall};
 use narrow::narrow_run;
 use ranges::all_in_range;
@@ -58,7 +57,7 @@ fn refusal(vector: &[i16], index: [i8; 17], khz: u32) -> u32
 // The spectrum of the indices, stabilised, with the number of moves.
 fn decode(vector: &mut [i16], index: [i8; 17], khz: u32) -> u32
     requires { ⌜ decodeRefusal (now vector) index khz ≡ 0 ⌝ }
-    ensures { λ m. ⌜ record { vector = now (vector .exit); moves = m } ≡ decoded kept16 (bookOf khz) index ⌝ }
+    ensures { λ m. ⌜ record { vector = now (vector .exit); moves = m } ≡ decoded (bookOf khz) index ⌝ }
 {
     let v = index[0] as usize;
     if khz == 16 {

@@ -18,8 +18,7 @@ use Rattle.spectrum.specs.Gaps.{goodGaps}
 use Rattle.spectrum.specs.Values.{total}
 use Rattle.nlsf_stabilize_stays.proofs.StayLaws.{stays-still}
 use Rattle.nlsf_stabilize_stays.specs.Inner.{stays}
-use Rattle.nlsf_stabilize_move.specs.Inner.{MoveOk}
-use Rattle.nlsf_stabilize.specs.Inner.{ruledSum}
+use Rattle.nlsf_stabilize.specs.Inner.{Ready, ruledSum}
 
 -- the sum is below 0 just where the rule is broken
 pub ruled-sum : (n : ℕ) (g : List ℤ) (r : ℤ) → length g ≡ suc n → r ≡ ruledSum n g → (t : Bool) → leZ (pos 0) r ≡ t → goodGaps n g ≡ t
@@ -52,12 +51,12 @@ module _ (v g : List ℤ) where
   accepted e f = ap₂ (λ (t u : Bool). cond t (cond u 0 7) 6) e f
 
 -- an accepted call's vector and gaps are what the loop of moves asks
-pub move-ok : (v g : List ℤ) → stabiliseRefusal v g ≡ 0 → MoveOk g v 0
-move-ok v g e =
+pub ready : (v g : List ℤ) → stabiliseRefusal v g ≡ 0 → Ready g v
+ready v g e =
     let p = stabilise-accepted v g e in
     let l = lengths-are v g (p .0) in
     let h : length g ≡ suc (length v) = omega (arith, l .one-more) in
-    record { rule = ruled (length v) g h (p .1); long = h; some = omega (arith, l .least); few = l .most; place = omega arith }
+    record { rule = ruled (length v) g h (p .1); long = h; some = omega (arith, l .least); few = l .most }
 
 -- a vector that stays is answered as it is, with 0 moves
 pub stays-answers : (v g : List ℤ) → lengthsOk v g ≡ true → stays g v ≡ true → called v 0 0 ≡ stabiliseCall v g

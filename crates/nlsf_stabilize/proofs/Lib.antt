@@ -1,2 +1,3 @@
-pub mod RunLaws
 pub mod CallLaws
+pub mod RunLaws
+pub mod StepLaws

@@ -3,15 +3,16 @@
 ghost use mathlib.Core.Path.{_≡_};
 ghost use mathlib.Core.Bool.{false};
 ghost use Rattle.spectrum.specs.Values.{total};
-ghost use Rattle.spectrum.specs.Stabilising.{kept16, stabilise};
+ghost use Rattle.spectrum.specs.Stabilising.{stabilise};
 ghost use Rattle.spectrum.specs.Calls.{lengthsOk, stabiliseCall};
 ghost use Rattle.nlsf_stabilize_stays.specs.Inner.{stays};
-ghost use Rattle.nlsf_stabilize_move.specs.Inner.{MoveOk};
+ghost use Rattle.nlsf_stabilize.specs.Inner.{Ready};
 use gaps::ruled_sum_run;
 use nlsf_stabilize_fallback::fall_back_run;
 use nlsf_stabilize_move::move_at_run;
-use nlsf_stabilize_search::place_of_run;
-use nlsf_stabilize_search::smallest_run;
+use nlsf_stabilize_search::place_run;
+use nlsf_stabilize_search::rises_run;
+use nlsf_stabilize_slack::slacks_run;
 use nlsf_stabilize_stays::stays_run;
 use spectrum::Moves;
 
@@ -21,15 +22,18 @@ mod gaps; // gaps.rt: the gap set's rule
 // the move, since callers have made it before. Behind the last move it spares the fallback, which leaves a vector
 // that stays as it is.
 pub fn stabilise_run(v: &mut [i16], g: &[i16], sum: i32) -> u32
-    requires { ⌜ (MoveOk (now g) (now v) 0 × (sum ≡ total (now g))) × (stays (now g) (now v) ≡ false) ⌝ }
-    ensures { λ r. ⌜ record { vector = now (v .exit); moves = r } ≡ stabilise kept16 (now (g .entry)) (now (v .entry)) ⌝ }
+    requires { ⌜ (Ready (now g) (now v) × (sum ≡ total (now g))) × (stays (now g) (now v) ≡ false) ⌝ }
+    ensures { λ r. ⌜ record { vector = now (v .exit); moves = r } ≡ stabilise (now (g .entry)) (now (v .entry)) ⌝ }
 {
+    let mut w = [32768 - sum; 18];
+    let mut s = [0i32; 18];
+    slacks_run(&mut w, &mut s, v, g);
     let mut m: u32 = 0;
     while m < 20 {
-        let l = smallest_run(v, g);
-        move_at_run(v, g, sum, l.before, place_of_run(l.key));
+        let i = place_run(&w, v.len());
+        move_at_run(v, &mut w, &s, g, i);
         m += 1;
-        if stays_run(v, g) {
+        if rises_run(&w, v.len()) {
             return m;
         }
     }

@@ -1,2 +1,2 @@
-pub mod PairLaws
+pub mod MeetLaws
 pub mod MoveLaws

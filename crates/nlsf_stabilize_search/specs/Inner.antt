@@ -1,17 +1,24 @@
--- The keys that the search compares. Assumes nothing.
-use Prim.Native.Nat.{ℕ}
+-- What the search finds of slacks w. Assumes nothing.
+use Prim.Native.Nat.{ℕ, suc, _+_, _≤_, _<_}
 use mathlib.Core.List.{List}
-use lib.IntN.{ℤ, pos, _+ℤ_, _*ℤ_}
-use Rattle.spectrum.specs.Distances.{diffs, place}
+use lib.IntN.{ℤ}
+use Rattle.ints.specs.Parts.{up, down}
+use Rattle.spectrum.specs.Inner.{_≼_, First, step}
 use Rattle.spectrum.specs.Values.{at}
 
--- a difference and its place in one number: the smallest of these keys has the smallest difference, and of equal ones
--- the first place
-unfoldable pub keyed : ℤ → ℕ → ℤ
-keyed d i = d *ℤ pos 32 +ℤ pos i
+-- i is the first place of the smallest of the steps 0 to n, and of some more
+pub record Searched (w : List ℤ) (n i : ℕ) : Type 0 where
+  pub to : ℕ
+  pub past : n < to
+  pub most : to ≤ 17
+  pub first : First (step w) to i
 
-abbrev pub keyAt : List ℤ → List ℤ → ℕ → ℤ
-keyAt g v i = keyed (at (diffs (pos 0) v g) i) i
+-- none of the first m steps is below 0
+pub record UpTo (m : ℕ) (w : List ℤ) : Type 0 where
+  pub each : (k : ℕ) → k < m → at w k ≼ at w (suc k)
 
-abbrev pub smallestKey : List ℤ → List ℤ → ℤ
-smallestKey g v = keyAt g v (place g v)
+-- one of them is
+pub record Falls (m : ℕ) (w : List ℤ) : Type 0 where
+  pub place : ℕ
+  pub within : place < m
+  pub less : up (at w (suc place)) + down (at w place) < up (at w place) + down (at w (suc place))

@@ -1,86 +1,62 @@
-// The stabiliser's search: the differences of a vector to its least gaps, and the first smallest of them (RFC 6716, section
-// 4.2.7.5.4). A difference and its place make one key, so that the search is a minimum without jumps: which of two is smaller
-// can't be guessed ahead.
+// The stabiliser's search: the first smallest difference of a vector to its least gaps (RFC 6716, section 4.2.7.5.4), which is the
+// first smallest step of its slacks; and whether none is below 0.
 ghost use mathlib.Core.Path.{_≡_};
-ghost use Prim.Native.Nat.{suc, _<_, _≤_};
-ghost use lib.IntN.{pos, _+ℤ_, _-ℤ_, _*ℤ_};
-ghost use lib.ListN.{length, take};
-ghost use lib.Signed.{shrZ};
-ghost use Rattle.ints.specs.Parts.{up, down};
-ghost use Rattle.spectrum.specs.Distances.{place};
-ghost use Rattle.spectrum.specs.Values.{total};
-ghost use Rattle.nlsf_stabilize_search.specs.Inner.{keyed, keyAt, smallestKey};
+ghost use mathlib.Core.Bool.{true, false};
+ghost use Prim.Native.Nat.{ℕ, suc, _≤_};
+ghost use lib.ListN.{length};
+ghost use Rattle.spectrum.specs.Inner.{First, step};
+ghost use Rattle.spectrum.specs.Values.{Mag, at};
+ghost use Rattle.nlsf_stabilize_search.specs.Inner.{Searched, UpTo, Falls};
 
-// The key of place i, where x lies above p and the gap g together.
-fn key(x: i32, p: i16, g: i16, i: usize) -> i32
-    requires { ⌜ ((up x ≤ 32768) × (down x ≤ 32768)) × (i ≤ 16) ⌝ }
-    ensures { λ r. ⌜ r ≡ keyed (x -ℤ (p +ℤ g)) i ⌝ }
+// The place of the first smallest step.
+fn first_smallest(w: &[i32]) -> usize
+    requires { ⌜ (2 ≤ length (now w)) × ((k : ℕ) → Mag 65536 (at (now w) k)) ⌝ }
+    ensures { λ i. ⌜ ((n : ℕ) → suc n ≡ length (now (w .entry)) → First (step (now (w .entry))) n i) ⌝ }
 {
-    (x - ((p as i32) + (g as i32))) * 32 + (i as i32)
-}
-
-// The key of a place between two values.
-fn key_between(v: &[i16], g: &[i16], i: usize) -> i32
-    requires { ⌜ ((length (now g) ≡ suc (length (now v))) × (length (now v) ≤ 16)) × ((1 ≤ i) × (i < length (now v))) ⌝ }
-    ensures { λ r. ⌜ r ≡ keyAt (now (g .entry)) (now (v .entry)) i ⌝ }
-{
-    key(v[i] as i32, v[i - 1], g[i], i)
-}
-
-// The key of the first place.
-fn key_first(v: &[i16], g: &[i16]) -> i32
-    requires { ⌜ (0 < length (now v)) × (length (now g) ≡ suc (length (now v))) ⌝ }
-    ensures { λ r. ⌜ r ≡ keyAt (now (g .entry)) (now (v .entry)) 0 ⌝ }
-{
-    key(v[0] as i32, 0, g[0], 0)
-}
-
-// The key of the last place.
-fn key_last(v: &[i16], g: &[i16]) -> i32
-    requires { ⌜ (0 < length (now v)) × ((length (now g) ≡ suc (length (now v))) × (length (now v) ≤ 16)) ⌝ }
-    ensures { λ r. ⌜ r ≡ keyAt (now (g .entry)) (now (v .entry)) (length (now (v .entry))) ⌝ }
-{
-    let n = v.len();
-    key(32768, v[n - 1], g[n], n)
-}
-
-// The smallest key, with the sum of the gaps before its place.
-pub struct Least {
-    pub key: i32,
-    pub before: i32,
-}
-
-// The search. The first and the last place have one value each and stand outside the loop. The sum goes along: a loop of its own
-// would end at a place that can't be guessed ahead.
-pub fn smallest_run(v: &[i16], g: &[i16]) -> Least
-    requires { ⌜ (0 < length (now v)) × ((length (now g) ≡ suc (length (now v))) × (length (now v) ≤ 16)) ⌝ }
-    ensures { λ r. ⌜ r .key ≡ smallestKey (now (g .entry)) (now (v .entry)) ⌝ }
-    ensures { λ r. ⌜ r .before ≡ total (take (place (now (g .entry)) (now (v .entry))) (now (g .entry))) ⌝ }
-{
-    let mut least = key_first(v, g);
-    let mut before: i32 = 0;
-    let mut sum = g[0] as i32;
+    let mut x = w[1];
+    let mut least = x - w[0];
+    let mut place: usize = 0;
     let mut i: usize = 1;
-    while i < v.len() {
-        let k = key_between(v, g, i);
-        if k < least {
-            least = k;
-            before = sum;
+    while i + 1 < w.len() {
+        let y = w[i + 1];
+        let d = y - x;
+        if d < least {
+            least = d;
+            place = i;
         }
-        sum = sum + (g[i] as i32);
+        x = y;
         i += 1;
     }
-    let last = key_last(v, g);
-    if last < least {
-        least = last;
-        before = sum;
-    }
-    Least { key: least, before }
+    place
 }
 
-// The place of a key.
-pub fn place_of_run(k: i32) -> usize
-    ensures { λ i. ⌜ i ≡ up (k -ℤ shrZ k 32 *ℤ pos 32) ⌝ }
+// The place of the first smallest step of n + 1 or some more. Either book's order has its own call, whose number of turns is then
+// known to the compiler: it makes them one after the other, without jumps that can't be guessed ahead.
+pub fn place_run(w: &[i32; 18], n: usize) -> usize
+    requires { ⌜ ((length (now w) ≡ 18) × (n ≤ 16)) × ((k : ℕ) → Mag 65536 (at (now w) k)) ⌝ }
+    ensures { λ i. ⌜ Searched (now (w .entry)) n i ⌝ }
 {
-    (k - (k >> 5) * 32) as usize
+    let all = &w[..];
+    if n <= 10 {
+        return first_smallest(&all[0..12]);
+    }
+    first_smallest(&all[0..18])
+}
+
+// Whether none of the first n + 1 steps is below 0.
+pub fn rises_run(w: &[i32; 18], n: usize) -> bool
+    requires { ⌜ (length (now w) ≡ 18) × (n ≤ 16) ⌝ }
+    ensures { λ b. ⌜ (b ≡ true → UpTo (suc n) (now (w .entry))) × (b ≡ false → Falls (suc n) (now (w .entry))) ⌝ }
+{
+    let mut x = w[0];
+    let mut i: usize = 1;
+    while i <= n + 1 {
+        let y = w[i];
+        if y < x {
+            return false;
+        }
+        x = y;
+        i += 1;
+    }
+    true
 }

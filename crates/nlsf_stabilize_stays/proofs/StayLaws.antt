@@ -22,7 +22,7 @@ use Rattle.spectrum.proofs.Kept.{Kept, kept-keeps, keeps-kept}
 use Rattle.spectrum.proofs.Results.{kept-at, kept-end, kept-by, unmoved}
 use Rattle.spectrum.specs.Distances.{keeps}
 use Rattle.spectrum.specs.Gaps.{goodGaps}
-use Rattle.spectrum.specs.Stabilising.{stabilise, kept16}
+use Rattle.spectrum.specs.Stabilising.{stabilise}
 use Rattle.spectrum.specs.Values.{at, top, total}
 use Rattle.spectrum.specs.Inner.{_≼_}
 use Rattle.nlsf_stabilize_stays.specs.Inner.{stays}
@@ -144,6 +144,6 @@ module _ (g v : List ℤ) (l : length g ≡ suc (length v)) where
 
 -- ---- what the stabiliser makes of a vector that stays: it is left as it is, with 0 moves
 
-pub stays-still : (v g : List ℤ) → length g ≡ suc (length v) → stays g v ≡ true → record { vector = v; moves = 0 } ≡ stabilise kept16 g v
+pub stays-still : (v g : List ℤ) → length g ≡ suc (length v) → stays g v ≡ true → record { vector = v; moves = 0 } ≡ stabilise g v
 stays-still v g l e =
-    let a = and-both (goodGaps (length v) g) (keeps g v) e in sym (unmoved kept16 g v l (a .0) (a .1))
+    let a = and-both (goodGaps (length v) g) (keeps g v) e in sym (unmoved g v l (a .0) (a .1))

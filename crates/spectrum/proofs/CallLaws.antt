@@ -17,7 +17,7 @@ use Rattle.lists.specs.Every.{every}
 use Rattle.ranges.specs.InRange.{inRange}
 use Rattle.spectrum.specs.Calls.{called, answered, lengthsOk, stabiliseRefusal, stabiliseCall, bookOf, placeIndices, numbersOk, decodeRefusal, decoded, decodeCall}
 use Rattle.spectrum.specs.Gaps.{goodGaps}
-use Rattle.spectrum.specs.Stabilising.{Stable, stabilise, kept16}
+use Rattle.spectrum.specs.Stabilising.{Stable, stabilise}
 use Rattle.spectrum.specs.Values.{at, Within}
 use Rattle.spectrum.specs.declared.Spectrum.{Spectrum}
 
@@ -53,15 +53,15 @@ stabilise-accepted v g =
     (λ a e. absurd (omega arith))
 
 -- the vector that is left and the moves made are the definition's: so is the whole answer
-pub stabilise-answers : (v g w : List ℤ) (m : ℕ) → stabiliseRefusal v g ≡ 0 → record { vector = w; moves = m } ≡ stabilise kept16 g v
+pub stabilise-answers : (v g w : List ℤ) (m : ℕ) → stabiliseRefusal v g ≡ 0 → record { vector = w; moves = m } ≡ stabilise g v
     → called w 0 m ≡ stabiliseCall v g
 unfolding stabiliseCall
 stabilise-answers v g w m e f =
-    ap (λ (s : Stable). called (s .vector) 0 (s .moves)) f ∙ sym (answered-none (stabiliseRefusal v g) v (stabilise kept16 g v) e)
+    ap (λ (s : Stable). called (s .vector) 0 (s .moves)) f ∙ sym (answered-none (stabiliseRefusal v g) v (stabilise g v) e)
 
 pub stabilise-refuses : (v g : List ℤ) → (stabiliseRefusal v g ≡ 0 → ⊥) → called v (stabiliseRefusal v g) 0 ≡ stabiliseCall v g
 unfolding stabiliseCall
-stabilise-refuses v g e = sym (answered-some (stabiliseRefusal v g) v (stabilise kept16 g v) e)
+stabilise-refuses v g e = sym (answered-some (stabiliseRefusal v g) v (stabilise g v) e)
 
 -- ---- decoding
 
@@ -109,14 +109,14 @@ decode-accepted v index khz =
     (λ a e. absurd (omega arith))
 
 pub decode-answers : (v : List ℤ) (s : Spectrum) (khz : ℕ) (w : List ℤ) (m : ℕ) → decodeRefusal v (s .index) khz ≡ 0
-    → record { vector = w; moves = m } ≡ decoded kept16 (bookOf khz) (s .index) → called w 0 m ≡ decodeCall v s khz
+    → record { vector = w; moves = m } ≡ decoded (bookOf khz) (s .index) → called w 0 m ≡ decodeCall v s khz
 unfolding decodeCall
 decode-answers v s khz w m e f =
     ap (λ (t : Stable). called (t .vector) 0 (t .moves)) f
-    ∙ sym (answered-none (decodeRefusal v (s .index) khz) v (decoded kept16 (bookOf khz) (s .index)) e)
+    ∙ sym (answered-none (decodeRefusal v (s .index) khz) v (decoded (bookOf khz) (s .index)) e)
 
 pub decode-refuses : (v : List ℤ) (s : Spectrum) (khz : ℕ) → (decodeRefusal v (s .index) khz ≡ 0 → ⊥)
     → called v (decodeRefusal v (s .index) khz) 0 ≡ decodeCall v s khz
 unfolding decodeCall
 decode-refuses v s khz e =
-    sym (answered-some (decodeRefusal v (s .index) khz) v (decoded kept16 (bookOf khz) (s .index)) e)
+    sym (answered-some (decodeRefusal v (s .index) khz) v (decoded (bookOf khz) (s .index)) e)

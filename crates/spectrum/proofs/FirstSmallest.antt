@@ -9,7 +9,7 @@ use borrow.Author.Tests.{ltb-true, ltb-false}
 use lib.Dec.{ltb}
 use lib.IntN.{ℤ, _+ℤ_, _-ℤ_}
 use lib.Signed.{leZ}
-use lib.ListN.{length}
+use lib.ListN.{length, getD}
 use Rattle.ints.proofs.Order.{leZ-false}
 use Rattle.ints.specs.Parts.{up, down}
 use Rattle.spectrum.proofs.Extremes.{min-left, min-right}
@@ -20,27 +20,22 @@ use Rattle.spectrum.specs.Fallback.{fallback}
 use Rattle.spectrum.specs.Gaps.{Good}
 use Rattle.spectrum.specs.Stabilising.{Stable, oneMore, run}
 use Rattle.spectrum.specs.Values.{at, top, minZ}
-use Rattle.spectrum.specs.Inner.{_≼_}
-
-pub record First (l : List ℤ) (n r : ℕ) : Type 0 where
-  pub within : r < n
-  pub least : (k : ℕ) → k < n → at l r ≼ at l k
-  pub before : (k : ℕ) → k < r → up (at l r) + down (at l k) < up (at l k) + down (at l r)
+use Rattle.spectrum.specs.Inner.{_≼_, First}
 
 -- there is only one
-no-less : (l : List ℤ) (n r s : ℕ) → First l n r → First l n s → r ≤ s
-no-less l n r s p q = go (ltb s r) refl
+no-less : (f : ℕ → ℤ) (n r s : ℕ) → First f n r → First f n s → r ≤ s
+no-less f n r s p q = go (ltb s r) refl
   where
     go : (t : Bool) → ltb s r ≡ t → r ≤ s
     go true e = absurd (not-le-of-lt (p .before s (ltb-true s r e)) (q .least r (p .within)))
     go false e = ltb-false s r e
 
-pub first-only : (l : List ℤ) (n r s : ℕ) → First l n r → First l n s → r ≡ s
-first-only l n r s p q = omega (arith, no-less l n r s p q, no-less l n s r q p)
+first-only : (f : ℕ → ℤ) (n r s : ℕ) → First f n r → First f n s → r ≡ s
+first-only f n r s p q = omega (arith, no-less f n r s p q, no-less f n s r q p)
 
 -- ---- `firstLeast` is that place, and `least` the number there
 
-least-at : (l : List ℤ) → least l ≡ at l (firstLeast l)
+pub least-at : (l : List ℤ) → least l ≡ at l (firstLeast l)
 unfolding least firstLeast minZ
 least-at [] = refl
 least-at (x ∷ []) = refl
@@ -51,7 +46,7 @@ least-at (x ∷ (y ∷ r)) = go (leZ x (least (y ∷ r))) (least-at (y ∷ r))
     go true e = refl
     go false e = e
 
-below-all : (l : List ℤ) (k : ℕ) → k < length l → least l ≼ at l k
+pub below-all : (l : List ℤ) (k : ℕ) → k < length l → least l ≼ at l k
 unfolding least
 below-all [] k h = absurd (not-suc-le-zero h)
 below-all (x ∷ []) zero h = omega arith
@@ -74,7 +69,7 @@ before-all (x ∷ (y ∷ r)) k h = go (leZ x (least (y ∷ r))) refl h (λ j i. 
     go false e h f zero i = leZ-false x (least (y ∷ r)) e
     go false e h f (suc j) i = f j (le-of-suc-le-suc i)
 
-pub first-least : (l : List ℤ) (n : ℕ) → length l ≡ suc n → First l (suc n) (firstLeast l)
+first-least : (l : List ℤ) (n : ℕ) → length l ≡ suc n → First (at l) (suc n) (firstLeast l)
 first-least l n e =
     record {
       within = suc-le-suc (first-most l n e);
@@ -83,57 +78,41 @@ first-least l n e =
     }
 
 -- so a loop that ends with such a place has found `firstLeast`, and the number there is `least`
-pub found : (l : List ℤ) (n r : ℕ) → length l ≡ suc n → First l (suc n) r → (r ≡ firstLeast l) × (at l r ≡ least l)
+pub found : (l : List ℤ) (n r : ℕ) → length l ≡ suc n → First (at l) (suc n) r → (r ≡ firstLeast l) × (at l r ≡ least l)
 found l n r e f =
-    let p : r ≡ firstLeast l = first-only l (suc n) r (firstLeast l) f (first-least l n e) in
+    let p : r ≡ firstLeast l = first-only (at l) (suc n) r (firstLeast l) f (first-least l n e) in
     (p, ap (at l) p ∙ sym (least-at l))
 
--- ---- the differences, place by place
+-- ---- the differences, place by place: 32,768 stands behind the last value
 
-pub diff-first : (p v : ℤ) (vs g : List ℤ) → 0 < length g → at (diffs p (v ∷ vs) g) 0 ≡ v -ℤ (p +ℤ at g 0)
+pub diff-at : (p : ℤ) (v g : List ℤ) (i : ℕ) → length g ≡ suc (length v) → i ≤ length v
+    → at (diffs p v g) i ≡ getD v i top -ℤ (getD (p ∷ v) i top +ℤ at g i)
 unfolding diffs
-diff-first p v vs [] h = absurd (not-suc-le-zero h)
-diff-first p v vs (g ∷ gs) h = refl
-
-pub diff-between : (p : ℤ) (v g : List ℤ) (i : ℕ) → length g ≡ suc (length v) → suc i < length v
-    → at (diffs p v g) (suc i) ≡ at v (suc i) -ℤ (at v i +ℤ at g (suc i))
-unfolding diffs
-diff-between p [] g i l h = absurd (not-suc-le-zero h)
-diff-between p (v ∷ []) g i l h = absurd (not-suc-le-zero (le-of-suc-le-suc h))
-diff-between p (v ∷ (w ∷ vs)) [] i l h = absurd (omega arith)
-diff-between p (v ∷ (w ∷ vs)) (a ∷ []) i l h = absurd (omega arith)
-diff-between p (v ∷ (w ∷ vs)) (a ∷ (b ∷ g)) zero l h = refl
-diff-between p (v ∷ (w ∷ vs)) (a ∷ (b ∷ g)) (suc i) l h = diff-between v (w ∷ vs) (b ∷ g) i (suc-inj l) (le-of-suc-le-suc h)
-
-pub diff-last : (p : ℤ) (v g : List ℤ) (i : ℕ) → length g ≡ suc (length v) → suc i ≡ length v
-    → at (diffs p v g) (suc i) ≡ top -ℤ (at v i +ℤ at g (suc i))
-unfolding diffs
-diff-last p [] g i l h = absurd (omega arith)
-diff-last p (v ∷ vs) [] i l h = absurd (omega arith)
-diff-last p (v ∷ vs) (a ∷ []) i l h = absurd (omega arith)
-diff-last p (v ∷ []) (a ∷ (b ∷ g)) zero l h = refl
-diff-last p (v ∷ []) (a ∷ (b ∷ g)) (suc i) l h = absurd (omega arith)
-diff-last p (v ∷ (w ∷ vs)) (a ∷ (b ∷ g)) zero l h = absurd (omega arith)
-diff-last p (v ∷ (w ∷ vs)) (a ∷ (b ∷ g)) (suc i) l h = diff-last v (w ∷ vs) (b ∷ g) i (suc-inj l) (suc-inj h)
+diff-at p [] [] i l h = absurd (omega arith)
+diff-at p [] (g ∷ gs) zero l h = refl
+diff-at p [] (g ∷ gs) (suc i) l h = absurd (not-suc-le-zero h)
+diff-at p (v ∷ vs) [] i l h = absurd (omega arith)
+diff-at p (v ∷ vs) (g ∷ gs) zero l h = refl
+diff-at p (v ∷ vs) (g ∷ gs) (suc i) l h = diff-at v vs gs i (suc-inj l) (le-of-suc-le-suc h)
 
 -- ---- what the loop of moves leans on: m moves made, at most n to come
 
 abbrev pub after : ℕ → Stable → Stable
 after m s = record { vector = s .vector; moves = m + s .moves }
 
-pub turn-stop : (store : ℤ → ℤ) (m n : ℕ) (g v : List ℤ) → length g ≡ suc (length v) → Good g → keeps g v ≡ true
-    → after m (run store n g v) ≡ record { vector = v; moves = m }
-turn-stop store m n g v l r e =
-    ap (after m) (run-settled store n g v l r e) ∙ (let z : m + 0 ≡ m = omega arith in ap (λ (k : ℕ). record { vector = v; moves = k }) z)
+pub turn-stop : (m n : ℕ) (g v : List ℤ) → length g ≡ suc (length v) → Good g → keeps g v ≡ true
+    → after m (run n g v) ≡ record { vector = v; moves = m }
+turn-stop m n g v l r e =
+    ap (after m) (run-settled n g v l r e) ∙ (let z : m + 0 ≡ m = omega arith in ap (λ (k : ℕ). record { vector = v; moves = k }) z)
 
-pub turn-move : (store : ℤ → ℤ) (m n : ℕ) (g v : List ℤ) → keeps g v ≡ false
-    → after m (run store (suc n) g v) ≡ after (m + 1) (run store n g (move store g v (place g v)))
+pub turn-move : (m n : ℕ) (g v : List ℤ) → keeps g v ≡ false
+    → after m (run (suc n) g v) ≡ after (m + 1) (run n g (move g v (place g v)))
 unfolding run
-turn-move store m n g v e =
-    let s = run store n g (move store g v (place g v)) in
+turn-move m n g v e =
+    let s = run n g (move g v (place g v)) in
     ap (λ (t : Bool). after m (cond t (record { vector = v; moves = 0 }) (oneMore s))) e
     ∙ (let z : m + suc (s .moves) ≡ m + 1 + s .moves = omega arith in ap (λ (k : ℕ). record { vector = s .vector; moves = k }) z)
 
-pub turn-end : (store : ℤ → ℤ) (m : ℕ) (g v : List ℤ) → after m (run store 0 g v) ≡ record { vector = fallback g v; moves = m }
+pub turn-end : (m : ℕ) (g v : List ℤ) → after m (run 0 g v) ≡ record { vector = fallback g v; moves = m }
 unfolding run
-turn-end store m g v = let z : m + 0 ≡ m = omega arith in ap (λ (k : ℕ). record { vector = fallback g v; moves = k }) z
+turn-end m g v = let z : m + 0 ≡ m = omega arith in ap (λ (k : ℕ). record { vector = fallback g v; moves = k }) z

@@ -1,4 +1,4 @@
--- Whatever is kept of a store, the stabiliser's result keeps every gap: it is a vector that passed the test, or the fallback's, which keeps
+-- The stabiliser's result keeps every gap, whatever the moves do: it is a vector that passed the test, or the fallback's, which keeps
 -- every gap for any list. Assumes nothing.
 use Prim.Native.Nat.{ℕ, zero, suc, _+_, _≤_}
 use mathlib.Core.Path.{_≡_, refl, sym, ap, _∙_}
@@ -143,17 +143,17 @@ unfolding sorted
 length-sorted [] = refl
 length-sorted (x ∷ r) = length-insert x (sorted r) ∙ ap suc (length-sorted r)
 
-pub length-move : (store : ℤ → ℤ) (g v : List ℤ) (i : ℕ) → length (move store g v i) ≡ length v
+pub length-move : (g v : List ℤ) (i : ℕ) → length (move g v i) ≡ length v
 unfolding move
-length-move store g v zero = length-set v 0 (store (at g 0))
-length-move store g v (suc j) = go (eqb (suc j) (length v))
+length-move g v zero = length-set v 0 ((at g 0))
+length-move g v (suc j) = go (eqb (suc j) (length v))
   where
-    go : (t : Bool) → length (cond t (set v j (store (top -ℤ at g (suc j))))
-        (set (set v j (newLow store g (suc j) (at v j) (at v (suc j)))) (suc j) (newHigh store g (suc j) (at v j) (at v (suc j))))) ≡ length v
-    go true = length-set v j (store (top -ℤ at g (suc j)))
+    go : (t : Bool) → length (cond t (set v j ((top -ℤ at g (suc j))))
+        (set (set v j (newLow g (suc j) (at v j) (at v (suc j)))) (suc j) (newHigh g (suc j) (at v j) (at v (suc j))))) ≡ length v
+    go true = length-set v j ((top -ℤ at g (suc j)))
     go false =
-        length-set (set v j (newLow store g (suc j) (at v j) (at v (suc j)))) (suc j) (newHigh store g (suc j) (at v j) (at v (suc j)))
-        ∙ length-set v j (newLow store g (suc j) (at v j) (at v (suc j)))
+        length-set (set v j (newLow g (suc j) (at v j) (at v (suc j)))) (suc j) (newHigh g (suc j) (at v j) (at v (suc j)))
+        ∙ length-set v j (newLow g (suc j) (at v j) (at v (suc j)))
 
 pub length-climb : (p : ℤ) (gs vs : List ℤ) → length (climb p vs gs) ≡ length vs
 unfolding climb
@@ -210,43 +210,43 @@ pub length-fallback : (g v : List ℤ) → length (fallback g v) ≡ length v
 unfolding fallback
 length-fallback g v = length-lowered (drop 1 g) (raised g (sorted v)) ∙ length-raised g (sorted v) ∙ length-sorted v
 
--- ---- the run, for any store
+-- ---- the run
 
-pub length-run : (store : ℤ → ℤ) (n : ℕ) (g v : List ℤ) → length (run store n g v .vector) ≡ length v
+pub length-run : (n : ℕ) (g v : List ℤ) → length (run n g v .vector) ≡ length v
 unfolding run
-length-run store zero g v = length-fallback g v
-length-run store (suc n) g v =
+length-run zero g v = length-fallback g v
+length-run (suc n) g v =
     chosen (λ (s : Stable). length (s .vector) ≡ length v) (keeps g v) (λ e. refl)
-    (λ e. length-run store n g (move store g v (place g v)) ∙ length-move store g v (place g v))
+    (λ e. length-run n g (move g v (place g v)) ∙ length-move g v (place g v))
 
-pub run-kept : (store : ℤ → ℤ) (n : ℕ) (g v : List ℤ) → length g ≡ suc (length v) → Good g → up (total g) ≤ 32768
-    → Kept (pos 0) (run store n g v .vector) g
+pub run-kept : (n : ℕ) (g v : List ℤ) → length g ≡ suc (length v) → Good g → up (total g) ≤ 32768
+    → Kept (pos 0) (run n g v .vector) g
 unfolding run
-run-kept store zero g v l r b = fallback-kept g v l r b
-run-kept store (suc n) g v l r b =
+run-kept zero g v l r b = fallback-kept g v l r b
+run-kept (suc n) g v l r b =
     chosen (λ (s : Stable). Kept (pos 0) (s .vector) g) (keeps g v) (λ e. keeps-kept v g l e)
-    (λ e. run-kept store n g (move store g v (place g v)) (l ∙ ap suc (sym (length-move store g v (place g v)))) r b)
+    (λ e. run-kept n g (move g v (place g v)) (l ∙ ap suc (sym (length-move g v (place g v)))) r b)
 
 -- ---- moves
 
-pub moves-most : (store : ℤ → ℤ) (n : ℕ) (g v : List ℤ) → run store n g v .moves ≤ n
+pub moves-most : (n : ℕ) (g v : List ℤ) → run n g v .moves ≤ n
 unfolding run
-moves-most store zero g v = omega arith
-moves-most store (suc n) g v =
+moves-most zero g v = omega arith
+moves-most (suc n) g v =
     chosen (λ (s : Stable). s .moves ≤ suc n) (keeps g v) (λ e. omega arith)
-    (λ e. omega (arith, moves-most store n g (move store g v (place g v))))
+    (λ e. omega (arith, moves-most n g (move g v (place g v))))
 
 -- a vector that keeps its gaps is handed back, with 0 moves
-pub run-still : (store : ℤ → ℤ) (n : ℕ) (g v : List ℤ) → keeps g v ≡ true → run store (suc n) g v ≡ record { vector = v; moves = 0 }
+pub run-still : (n : ℕ) (g v : List ℤ) → keeps g v ≡ true → run (suc n) g v ≡ record { vector = v; moves = 0 }
 unfolding run
-run-still store n g v e =
-    ap (λ (t : Bool). cond t (record { vector = v; moves = 0 }) (oneMore (run store n g (move store g v (place g v))))) e
+run-still n g v e =
+    ap (λ (t : Bool). cond t (record { vector = v; moves = 0 }) (oneMore (run n g (move g v (place g v))))) e
 
 -- and 0 moves are made of no other
-pub run-moved : (store : ℤ → ℤ) (n : ℕ) (g v : List ℤ) → run store (suc n) g v .moves ≡ 0 → keeps g v ≡ true
+pub run-moved : (n : ℕ) (g v : List ℤ) → run (suc n) g v .moves ≡ 0 → keeps g v ≡ true
 unfolding run
-run-moved store n g v h = go (keeps g v) h
+run-moved n g v h = go (keeps g v) h
   where
-    go : (t : Bool) → cond t (record { vector = v; moves = 0 }) (oneMore (run store n g (move store g v (place g v)))) .moves ≡ 0 → t ≡ true
+    go : (t : Bool) → cond t (record { vector = v; moves = 0 }) (oneMore (run n g (move g v (place g v)))) .moves ≡ 0 → t ≡ true
     go true e = refl
     go false e = absurd (omega arith)

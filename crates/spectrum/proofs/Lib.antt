@@ -1,4 +1,3 @@
-pub mod StoresLaws
 pub mod Cases
 pub mod Extremes
 pub mod Widened
@@ -9,6 +8,7 @@ pub mod SameStores
 pub mod MoveBounds
 pub mod Sorting
 pub mod Settled
+pub mod Capped
 pub mod FirstSmallest
 pub mod ResidualBounds
 pub mod CallLaws

@@ -11,23 +11,22 @@ use borrow.Author.Tests.{eqb-true, eqb-false}
 use lib.Dec.{eqb}
 use lib.IntN.{ℤ, pos, negsuc, _+ℤ_, _-ℤ_}
 use lib.Signed.{leZ}
-use lib.ListN.{length, take, drop}
+use lib.ListN.{length, set, take, drop}
 use Rattle.ints.proofs.Order.{parts-alone}
 use Rattle.ints.specs.Parts.{up, down}
 use Rattle.ints.proofs.Sums.{up-sum, down-sum, up-diff, down-diff}
+use Rattle.ints.specs.Wrap.{wrap16}
 use Rattle.deciding.proofs.Both.{both-and}
 use Rattle.deciding.proofs.Choice.{chosen}
 use Rattle.lists.specs.Every.{every}
 use Rattle.spectrum.proofs.Extremes.{le-leZ, held-least, held-most, half-nat}
-use Rattle.spectrum.proofs.Kept.{good-total, length-move}
-use Rattle.spectrum.proofs.SameStores.{kept16-keeps, run-same}
-use Rattle.spectrum.specs.Distances.{diffs, least, firstLeast, keeps, place, lower, upper, centre, newLow, move}
+use Rattle.spectrum.proofs.Kept.{good-total}
+use Rattle.spectrum.proofs.SameStores.{fits-kept, length-move16, same-stabiliser}
+use Rattle.spectrum.specs.Distances.{diffs, least, firstLeast, keeps, place, lower, upper, centre, newLow, newHigh, move}
 use Rattle.spectrum.specs.Gaps.{Good, Ruled}
-use Rattle.spectrum.specs.Stabilising.{stabilise, kept16}
 use Rattle.spectrum.specs.Statement.{SameTwo}
-use Rattle.spectrum.specs.Stores.{fits16, stores, calm}
-use Rattle.spectrum.proofs.StoresLaws.{Keeps16}
-use Rattle.spectrum.specs.Values.{at, top, held, half, total}
+use Rattle.spectrum.specs.Stores.{low16, move16, fits16, stores, calm}
+use Rattle.spectrum.specs.Values.{at, top, held, half, total, Within}
 use Rattle.spectrum.specs.Inner.{_≼_}
 
 pub good-at : (g : List ℤ) → Good g → (i : ℕ) → (down (at g i) ≡ 0) × (up (at g i) ≤ up (total g))
@@ -138,37 +137,26 @@ pub fits-nat : (z : ℤ) → down z ≡ 0 → up z ≤ 32767 → fits16 z ≡ tr
 unfolding fits16
 fits-nat z d u = ap (λ (t : Bool). t && leZ z (pos 32767)) (le-leZ (negsuc 32767) z (omega arith)) ∙ le-leZ z (pos 32767) (omega arith)
 
-module _ (store : ℤ → ℤ) (k : Keeps16 store) where
-  -- the value before the gap: 0 .. 32,767
-  pub low-is : (g : List ℤ) (i n : ℕ) (a b : ℤ) → up (total g) ≤ 32768 → Cut g i n → newLow store g i a b ≡ centre g i a b -ℤ half (at g i)
-  unfolding newLow
-  low-is g i n a b m c =
-      let e = centred g i n a b m c in
-      let f = half-nat (at g i) (c .here0) in
-      let z = centre g i a b in
-      let s : store z ≡ z = k z (fits-nat z (e .nat) (omega (arith, e .most, c .some))) in
-      ap (λ (y : ℤ). store (y -ℤ half (at g i))) s
-      ∙ k (z -ℤ half (at g i))
-      (fits-nat (z -ℤ half (at g i)) (omega (arith, down-diff z (half (at g i)), e .nat, f .0, e .least)) (omega (arith, up-diff z (half (at g i)), e .nat, f .0, e .most, c .some)))
+-- what a move makes of a pair: the value before the gap lies in 0 .. 32,767, the one behind it reaches 32,769 less the gaps behind it
+pub record Stored (g : List ℤ) (i : ℕ) (a b : ℤ) : Type 0 where
+  pub low0 : down (newLow g i a b) ≡ 0
+  pub low : up (newLow g i a b) ≤ 32767
+  pub high0 : down (newHigh g i a b) ≡ 0
+  pub high : up (newHigh g i a b) + up (total (drop (suc i) g)) ≤ 32769
 
-  pub record Stored (g : List ℤ) (i n : ℕ) (z : ℤ) : Type 0 where
-    pub nat : down z ≡ 0
-    pub least : up (total (take i g)) ≤ up z
-    pub most : up z + up (total (drop (suc i) g)) ≤ 32769
-
-  -- the value behind the gap, before it is stored: at most 32,769 less the gaps behind it
-  pub high-within : (g : List ℤ) (i n : ℕ) (a b : ℤ) → up (total g) ≤ 32768 → Cut g i n → Stored g i n (newLow store g i a b +ℤ at g i)
-  high-within g i n a b m c =
-      let e = centred g i n a b m c in
-      let f = half-nat (at g i) (c .here0) in
-      let z = centre g i a b in
-      let h = half (at g i) in
-      subst (λ (y : ℤ). Stored g i n (y +ℤ at g i)) (sym (low-is g i n a b m c))
-      (record {
-        nat = omega (arith, down-sum (z -ℤ h) (at g i), up-diff z h, down-diff z h, e .nat, f .0, e .least, c .here0);
-        least = omega (arith, up-sum (z -ℤ h) (at g i), up-diff z h, down-diff z h, e .nat, f .0, e .least, c .here0);
-        most = omega (arith, up-sum (z -ℤ h) (at g i), up-diff z h, down-diff z h, e .nat, f .0, f .1 .1, e .least, e .most, c .here0);
-      })
+pub stored : (g : List ℤ) (i n : ℕ) (a b : ℤ) → up (total g) ≤ 32768 → Cut g i n → Stored g i a b
+unfolding newLow newHigh
+stored g i n a b m c =
+    let e = centred g i n a b m c in
+    let f = half-nat (at g i) (c .here0) in
+    let z = centre g i a b in
+    let h = half (at g i) in
+    record {
+      low0 = omega (arith, down-diff z h, e .nat, f .0, e .least);
+      low = omega (arith, up-diff z h, e .nat, f .0, e .most, c .some);
+      high0 = omega (arith, down-sum (z -ℤ h) (at g i), up-diff z h, down-diff z h, e .nat, f .0, e .least, c .here0);
+      high = omega (arith, up-sum (z -ℤ h) (at g i), up-diff z h, down-diff z h, e .nat, f .0, f .1 .1, e .least, e .most, c .here0);
+    }
 
 -- ---- the place of a move is one of 0 .. the order
 
@@ -193,56 +181,87 @@ pub place-most : (v g : List ℤ) → length g ≡ suc (length v) → place g v 
 unfolding place
 place-most v g l = first-most (diffs (pos 0) v g) (length v) (length-diffs (pos 0) v g l)
 
--- ---- where the last gap is 2 or more, no store leaves 16 bits: so it is in both books (last gaps 461 and 347)
+-- ---- a move keeps values within 32,768
 
-module _ (store : ℤ → ℤ) (k : Keeps16 store) (g : List ℤ) (r : Ruled g) where
-  first-fits : (n : ℕ) → length g ≡ suc n → 0 < n → fits16 (at g 0) ≡ true
-  first-fits n l h =
-      let c = cut g 0 n l h (r .good) in fits-nat (at g 0) (c .here0) (omega (arith, c .all, c .some, r .most))
+within-set : (lo hi : ℕ) (v : List ℤ) (i : ℕ) (z : ℤ) → Within lo hi v → (down z ≤ lo) × (up z ≤ hi) → Within lo hi (set v i z)
+unfolding Within
+within-set lo hi [] i z h b = tt
+within-set lo hi (x ∷ v) zero z h b = (b, h .1)
+within-set lo hi (x ∷ v) (suc i) z h b = (h .0, within-set lo hi v i z (h .1) b)
 
-  last-fits : (n : ℕ) → 1 ≤ up (at g n) → fits16 (top -ℤ at g n) ≡ true
-  last-fits n h =
-      let q = good-at g (r .good) n in
-      fits-nat (top -ℤ at g n) (omega (arith, down-diff top (at g n), q .0, q .1, r .most))
-      (omega (arith, up-diff top (at g n), q .0, q .1, r .most))
+module _ (g : List ℤ) (r : Ruled g) where
+  -- the first value's new place, and the last one's
+  pub first-near : (n : ℕ) → length g ≡ suc n → 0 < n → (down (at g 0) ≡ 0) × (up (at g 0) ≤ 32767)
+  first-near n l h =
+      let c = cut g 0 n l h (r .good) in (c .here0, omega (arith, c .all, c .some, r .most))
+
+  pub last-near : (n : ℕ) → length g ≡ suc n → (down (top -ℤ at g n) ≡ 0) × (up (top -ℤ at g n) ≤ 32767)
+  last-near n l =
+      let q = good-at g (r .good) n in (
+        omega (arith, down-diff top (at g n), q .0, q .1, r .most),
+        omega (arith, up-diff top (at g n), q .0, last-gap g n l (r .good)),
+      )
+
+  pub move-near : (v : List ℤ) (i : ℕ) → length g ≡ suc (length v) → 0 < length v → i ≤ length v → Within 32768 32768 v
+      → Within 32768 32768 (move g v i)
+  unfolding move
+  move-near v zero l h p w =
+      let f = first-near (length v) l h in within-set 32768 32768 v 0 (at g 0) w (omega (arith, f .0), omega (arith, f .1))
+  move-near v (suc j) l h p w =
+      chosen (Within 32768 32768) (eqb (suc j) (length v))
+      (λ e.
+      let q : suc j ≡ length v = eqb-true (suc j) (length v) e in
+      let f = last-near (suc j) (l ∙ ap suc (sym q)) in
+      within-set 32768 32768 v j (top -ℤ at g (suc j)) w (omega (arith, f .0), omega (arith, f .1)))
+      (λ e.
+      let q : suc j ≢ length v = eqb-false (suc j) (length v) e in
+      let c = cut g (suc j) (length v) l (omega (arith, p, q)) (r .good) in
+      let x = newLow g (suc j) (at v j) (at v (suc j)) in
+      let y = newHigh g (suc j) (at v j) (at v (suc j)) in
+      let s = stored g (suc j) (length v) (at v j) (at v (suc j)) (r .most) c in
+      within-set 32768 32768 (set v j x) (suc j) y (within-set 32768 32768 v j x w (omega (arith, s .low0), omega (arith, s .low)))
+      (omega (arith, s .high0), omega (arith, s .high, c .some)))
+
+  -- ---- where the last gap is 2 or more, no store of the crate leaves 16 bits: so it is in both books (last gaps 461 and 347)
 
   stores-fit : (v : List ℤ) (i : ℕ) → length g ≡ suc (length v) → 0 < length v → 2 ≤ up (at g (length v)) → i ≤ length v
-      → every fits16 (stores store g v i) ≡ true
-  unfolding stores newLow
-  stores-fit v zero l h t p = both-and (fits16 (at g 0)) true (first-fits (length v) l h) refl
+      → every fits16 (stores g v i) ≡ true
+  unfolding stores low16 newLow newHigh
+  stores-fit v zero l h t p =
+      let f = first-near (length v) l h in both-and (fits16 (at g 0)) true (fits-nat (at g 0) (f .0) (f .1)) refl
   stores-fit v (suc j) l h t p =
       chosen (λ (s : List ℤ). every fits16 s ≡ true) (eqb (suc j) (length v))
       (λ e.
       let q : suc j ≡ length v = eqb-true (suc j) (length v) e in
-      both-and (fits16 (top -ℤ at g (suc j))) true
-      (subst (λ (n : ℕ). fits16 (top -ℤ at g n) ≡ true) (sym q) (last-fits (length v) (omega (arith, t)))) refl)
+      let f = last-near (suc j) (l ∙ ap suc (sym q)) in
+      both-and (fits16 (top -ℤ at g (suc j))) true (fits-nat (top -ℤ at g (suc j)) (f .0) (f .1)) refl)
       (λ e.
       let q : suc j ≢ length v = eqb-false (suc j) (length v) e in
       let c = cut g (suc j) (length v) l (omega (arith, p, q)) (r .good) in
       let z = centre g (suc j) (at v j) (at v (suc j)) in
       let y = half (at g (suc j)) in
       let d = centred g (suc j) (length v) (at v j) (at v (suc j)) (r .most) c in
-      let f = half-nat (at g (suc j)) (c .here0) in
-      let s : store z ≡ z = k z (fits-nat z (d .nat) (omega (arith, d .most, c .some))) in
-      let w = high-within store k g (suc j) (length v) (at v j) (at v (suc j)) (r .most) c in
-      both-and (fits16 z) (fits16 (store z -ℤ y) && (fits16 (store (store z -ℤ y) +ℤ at g (suc j)) && true))
-      (fits-nat z (d .nat) (omega (arith, d .most, c .some)))
-      (both-and (fits16 (store z -ℤ y)) (fits16 (store (store z -ℤ y) +ℤ at g (suc j)) && true)
-      (subst (λ (x : ℤ). fits16 (x -ℤ y) ≡ true) (sym s)
-      (fits-nat (z -ℤ y) (omega (arith, down-diff z y, d .nat, f .0, d .least)) (omega (arith, up-diff z y, d .nat, f .0, d .most, c .some))))
-      (both-and (fits16 (store (store z -ℤ y) +ℤ at g (suc j))) true (fits-nat (store (store z -ℤ y) +ℤ at g (suc j)) (w .nat) (omega (arith, w .most, c .last, t))) refl)))
+      let s = stored g (suc j) (length v) (at v j) (at v (suc j)) (r .most) c in
+      let fz : fits16 z ≡ true = fits-nat z (d .nat) (omega (arith, d .most, c .some)) in
+      let x : wrap16 z -ℤ y ≡ z -ℤ y = ap (λ (k : ℤ). k -ℤ y) (fits-kept z fz) in
+      let fx : fits16 (z -ℤ y) ≡ true = fits-nat (z -ℤ y) (s .low0) (s .low) in
+      let k : wrap16 (wrap16 z -ℤ y) ≡ z -ℤ y = ap wrap16 x ∙ fits-kept (z -ℤ y) fx in
+      both-and (fits16 z) (fits16 (wrap16 z -ℤ y) && (fits16 (wrap16 (wrap16 z -ℤ y) +ℤ at g (suc j)) && true)) fz
+      (both-and (fits16 (wrap16 z -ℤ y)) (fits16 (wrap16 (wrap16 z -ℤ y) +ℤ at g (suc j)) && true) (ap fits16 x ∙ fx)
+      (both-and (fits16 (wrap16 (wrap16 z -ℤ y) +ℤ at g (suc j))) true
+      (ap (λ (u : ℤ). fits16 (u +ℤ at g (suc j))) k
+      ∙ fits-nat (z -ℤ y +ℤ at g (suc j)) (s .high0) (omega (arith, s .high, c .last, t))) refl)))
 
-  pub calm-two : (n : ℕ) (v : List ℤ) → length g ≡ suc (length v) → 0 < length v → 2 ≤ up (at g (length v)) → calm store n g v ≡ true
+  pub calm-two : (n : ℕ) (v : List ℤ) → length g ≡ suc (length v) → 0 < length v → 2 ≤ up (at g (length v)) → calm n g v ≡ true
   unfolding calm
   calm-two zero v l h t = refl
   calm-two (suc n) v l h t =
       chosen (λ (b : Bool). b ≡ true) (keeps g v) (λ e. refl)
       (λ e.
-      let m = length-move store g v (place g v) in
-      both-and (every fits16 (stores store g v (place g v))) (calm store n g (move store g v (place g v)))
+      let m = length-move16 g v (place g v) in
+      both-and (every fits16 (stores g v (place g v))) (calm n g (move16 g v (place g v)))
       (stores-fit v (place g v) l h t (place-most v g l))
-      (calm-two n (move store g v (place g v)) (l ∙ ap suc (sym m)) (omega (arith, m, h)) (subst (λ (i : ℕ). 2 ≤ up (at g i)) (sym m) t)))
+      (calm-two n (move16 g v (place g v)) (l ∙ ap suc (sym m)) (omega (arith, m, h)) (subst (λ (i : ℕ). 2 ≤ up (at g i)) (sym m) t)))
 
 pub same-two : SameTwo
-unfolding stabilise
-same-two g v r l h t = run-same kept16 kept16-keeps 20 g v (calm-two kept16 kept16-keeps g r 20 v l h t)
+same-two g v r l h t = same-stabiliser g v (calm-two g r 20 v l h t)

@@ -14,13 +14,15 @@ use Rattle.deciding.proofs.Choice.{chosen}
 use Rattle.spectrum.proofs.BookLaws.{book-usable, places-long, gaps-long}
 use Rattle.spectrum.proofs.CallLaws.{Lengths, lengths-are, stabilise-accepted, stabilise-answers, Accepted, decode-accepted, decode-answers}
 use Rattle.spectrum.proofs.MoveBounds.{same-two}
-use Rattle.spectrum.proofs.Results.{ruled, few-moves, still, moved-not, every-gap}
-use Rattle.spectrum.specs.Calls.{Called, called, answered, stabiliseRefusal, stabiliseCall, bookOf, placeIndices, decodeRefusal, decoded, decodeCall}
+use Rattle.spectrum.proofs.Results.{ruled, few-moves, still, moved-not, every-gap, result-within}
+use Rattle.spectrum.specs.Calls.{Called, called, answered, stabiliseRefusal, stabiliseCall}
+use Rattle.spectrum.specs.Calls.{bookOf, placeIndices, placesOf, decodeRefusal, decoded, decodeCall}
 use Rattle.spectrum.specs.Gaps.{goodGaps, EveryGap}
-use Rattle.spectrum.specs.Places.{places}
-use Rattle.spectrum.specs.Stabilising.{Stable, stabilise, kept16, whole}
-use Rattle.spectrum.specs.Statement.{Stabilises, StabiliseMoves, StabiliseGaps, StabiliseStays, StabiliseStayed, Decodes, DecodeMoves, DecodeGaps, DecodeWhole}
-use Rattle.spectrum.specs.Values.{at}
+use Rattle.spectrum.specs.Stabilising.{Stable, stabilise}
+use Rattle.spectrum.specs.Stores.{stabilise16}
+use Rattle.spectrum.specs.Statement.{Stabilises, StabiliseMoves, StabiliseGaps, StabiliseStays, StabiliseStayed, StabiliseFits}
+use Rattle.spectrum.specs.Statement.{Decodes, DecodeMoves, DecodeGaps, DecodeFits, DecodeWhole}
+use Rattle.spectrum.specs.Values.{at, Within}
 use Rattle.spectrum.specs.declared.Spectrum.{Spectrum}
 
 -- ---- moves, 0 to 20, refused or not
@@ -32,20 +34,20 @@ answered-moves n v s h =
 
 pub stabilise-moves : StabiliseMoves
 unfolding stabiliseCall
-stabilise-moves v g = answered-moves (stabiliseRefusal v g) v (stabilise kept16 g v) (few-moves kept16 g v)
+stabilise-moves v g = answered-moves (stabiliseRefusal v g) v (stabilise g v) (few-moves g v)
 
 pub decode-moves : DecodeMoves
 unfolding decodeCall decoded
 decode-moves v s khz =
     let b = bookOf khz in
-    let u = places b (up (at (s .index) 0)) (placeIndices (b .order) (s .index)) in
-    answered-moves (decodeRefusal v (s .index) khz) v (stabilise kept16 (map pos (b .gaps)) u) (few-moves kept16 (map pos (b .gaps)) u)
+    let u = placesOf b (s .index) in
+    answered-moves (decodeRefusal v (s .index) khz) v (stabilise (map pos (b .gaps)) u) (few-moves (map pos (b .gaps)) u)
 
 -- ---- an accepted stabiliser
 
 module _ (v g : List ℤ) (e : Stabilises v g) where
-  answers : stabiliseCall v g ≡ called (stabilise kept16 g v .vector) 0 (stabilise kept16 g v .moves)
-  answers = sym (stabilise-answers v g (stabilise kept16 g v .vector) (stabilise kept16 g v .moves) e refl)
+  answers : stabiliseCall v g ≡ called (stabilise g v .vector) 0 (stabilise g v .moves)
+  answers = sym (stabilise-answers v g (stabilise g v .vector) (stabilise g v .moves) e refl)
 
   sizes : Lengths v g
   sizes = lengths-are v g (stabilise-accepted v g e .0)
@@ -61,16 +63,20 @@ module _ (v g : List ℤ) (e : Stabilises v g) where
 
 pub stabilise-gaps : StabiliseGaps
 stabilise-gaps v g e =
-    subst⁻¹ (λ (c : Called). EveryGap g (c .vector)) (answers v g e) (every-gap kept16 g v (long v g e) (rule v g e) (some v g e))
+    subst⁻¹ (λ (c : Called). EveryGap g (c .vector)) (answers v g e) (every-gap g v (long v g e) (rule v g e) (some v g e))
 
 pub stabilise-stays : StabiliseStays
 stabilise-stays v g e k =
     answers v g e
-    ∙ ap (λ (s : Stable). called (s .vector) 0 (s .moves)) (still kept16 g v (long v g e) (rule v g e) (some v g e) k)
+    ∙ ap (λ (s : Stable). called (s .vector) 0 (s .moves)) (still g v (long v g e) (rule v g e) (some v g e) k)
 
 pub stabilise-stayed : StabiliseStayed
 stabilise-stayed v g e k =
-    moved-not kept16 g v (long v g e) (rule v g e) (some v g e) (sym (ap (λ (c : Called). c .answer .moves) (answers v g e)) ∙ k)
+    moved-not g v (long v g e) (rule v g e) (some v g e) (sym (ap (λ (c : Called). c .answer .moves) (answers v g e)) ∙ k)
+
+pub stabilise-fits : StabiliseFits
+stabilise-fits v g e =
+    subst⁻¹ (λ (c : Called). Within 0 32767 (c .vector)) (answers v g e) (result-within g v (long v g e) (rule v g e))
 
 -- ---- accepted decoding
 
@@ -81,7 +87,7 @@ indices-long n index l h =
 module _ (v : List ℤ) (s : Spectrum) (khz : ℕ) (w : length (s .index) ≡ 17) (e : Decodes v s khz) where
   -- what the stabiliser gets
   abbrev handed : List ℤ
-  handed = places (bookOf khz) (up (at (s .index) 0)) (placeIndices (bookOf khz .order) (s .index))
+  handed = placesOf (bookOf khz) (s .index)
 
   accepted : Accepted v (s .index) khz
   accepted = decode-accepted v (s .index) khz e
@@ -108,12 +114,19 @@ module _ (v : List ℤ) (s : Spectrum) (khz : ℕ) (w : length (s .index) ≡ 17
   book-gaps : EveryGap gaps (decodeCall v s khz .vector)
   unfolding decoded
   book-gaps =
-      let d = decoded kept16 (bookOf khz) (s .index) in
+      let d = decoded (bookOf khz) (s .index) in
       subst (λ (c : Called). EveryGap gaps (c .vector)) (decode-answers v s khz (d .vector) (d .moves) e refl)
-      (every-gap kept16 gaps handed gaps-many gaps-rule handed-some)
+      (every-gap gaps handed gaps-many gaps-rule handed-some)
+
+  book-fits : Within 0 32767 (decodeCall v s khz .vector)
+  unfolding decoded
+  book-fits =
+      let d = decoded (bookOf khz) (s .index) in
+      subst (λ (c : Called). Within 0 32767 (c .vector)) (decode-answers v s khz (d .vector) (d .moves) e refl)
+      (result-within gaps handed gaps-many gaps-rule)
 
   -- the last gap of either book is 2 or more
-  book-whole : decoded kept16 (bookOf khz) (s .index) ≡ decoded whole (bookOf khz) (s .index)
+  book-whole : decoded (bookOf khz) (s .index) ≡ stabilise16 gaps handed
   unfolding decoded
   book-whole =
       same-two gaps handed (ruled (length handed) gaps gaps-many gaps-rule) gaps-many handed-some
@@ -121,6 +134,9 @@ module _ (v : List ℤ) (s : Spectrum) (khz : ℕ) (w : length (s .index) ≡ 17
 
 pub decode-gaps : DecodeGaps
 decode-gaps = book-gaps
+
+pub decode-fits : DecodeFits
+decode-fits = book-fits
 
 pub decode-whole : DecodeWhole
 decode-whole = book-whole

@@ -20,7 +20,7 @@ use Rattle.spectrum.specs.Distances.{keeps}
 use Rattle.spectrum.specs.Fallback.{fallback}
 use Rattle.spectrum.specs.Gaps.{goodGaps, Good, Ruled, EveryGap}
 use Rattle.spectrum.specs.Stabilising.{stabilise}
-use Rattle.spectrum.specs.Statement.{StoresGaps, Twice, ResultWithin}
+use Rattle.spectrum.specs.Statement.{ResultGaps, Twice, ResultWithin}
 use Rattle.spectrum.specs.Values.{at, top, total, Within}
 use Rattle.spectrum.specs.Inner.{_≼_}
 
@@ -129,52 +129,52 @@ within-at lo hi (x ∷ v) h zero = h .0
 within-at lo hi (x ∷ v) h (suc i) = within-at lo hi v (h .1) i
 
 -- at most 20 moves, whatever the gaps
-pub few-moves : (store : ℤ → ℤ) (g v : List ℤ) → stabilise store g v .moves ≤ 20
+pub few-moves : (g v : List ℤ) → stabilise g v .moves ≤ 20
 unfolding stabilise
-few-moves store g v = moves-most store 20 g v
+few-moves g v = moves-most 20 g v
 
 -- ---- the laws, over the test of the gap set
 
-module _ (store : ℤ → ℤ) (g v : List ℤ) (l : length g ≡ suc (length v)) (e : goodGaps (length v) g ≡ true) where
-  kept : Kept (pos 0) (stabilise store g v .vector) g
+module _ (g v : List ℤ) (l : length g ≡ suc (length v)) (e : goodGaps (length v) g ≡ true) where
+  kept : Kept (pos 0) (stabilise g v .vector) g
   unfolding stabilise
-  kept = run-kept store 20 g v l (ruled (length v) g l e .good) (ruled (length v) g l e .most)
+  kept = run-kept 20 g v l (ruled (length v) g l e .good) (ruled (length v) g l e .most)
 
   -- a vector that keeps its gaps is returned unchanged, with 0 moves; no other is
-  pub unmoved : keeps g v ≡ true → stabilise store g v ≡ record { vector = v; moves = 0 }
+  pub unmoved : keeps g v ≡ true → stabilise g v ≡ record { vector = v; moves = 0 }
   unfolding stabilise
-  unmoved h = run-still store 19 g v h
+  unmoved h = run-still 19 g v h
 
-  pub moved : stabilise store g v .moves ≡ 0 → keeps g v ≡ true
+  pub moved : stabilise g v .moves ≡ 0 → keeps g v ≡ true
   unfolding stabilise
-  moved h = run-moved store 19 g v h
+  moved h = run-moved 19 g v h
 
   -- the same in every gap's words
-  pub still : 0 < length v → EveryGap g v → stabilise store g v ≡ record { vector = v; moves = 0 }
+  pub still : 0 < length v → EveryGap g v → stabilise g v ≡ record { vector = v; moves = 0 }
   still h k = unmoved (kept-keeps v g (every-kept v g l h k))
 
-  pub moved-not : 0 < length v → stabilise store g v .moves ≡ 0 → EveryGap g v
+  pub moved-not : 0 < length v → stabilise g v .moves ≡ 0 → EveryGap g v
   moved-not h k = kept-every v g h (keeps-kept v g l (moved k))
 
-  pub as-long : length (stabilise store g v .vector) ≡ length v
+  pub as-long : length (stabilise g v .vector) ≡ length v
   unfolding stabilise
-  as-long = length-run store 20 g v
+  as-long = length-run 20 g v
 
-  long : length g ≡ suc (length (stabilise store g v .vector))
+  long : length g ≡ suc (length (stabilise g v .vector))
   long = l ∙ ap suc (sym as-long)
 
 -- ---- the laws that are promised
 
-pub every-gap : StoresGaps
-every-gap store g v l e h =
-    kept-every (stabilise store g v .vector) g (omega (arith, as-long store g v l e)) (kept store g v l e)
+pub every-gap : ResultGaps
+every-gap g v l e h =
+    kept-every (stabilise g v .vector) g (omega (arith, as-long g v l e)) (kept g v l e)
 
 pub twice : Twice
 unfolding stabilise
-twice store g v l e again =
-    run-still again 19 g (stabilise store g v .vector) (kept-keeps (stabilise store g v .vector) g (kept store g v l e))
+twice g v l e =
+    run-still 19 g (stabilise g v .vector) (kept-keeps (stabilise g v .vector) g (kept g v l e))
 
 pub result-within : ResultWithin
-result-within store g v l e =
-    kept-within (pos 0) (stabilise store g v .vector) g (long store g v l e) (ruled (length v) g l e .good) (omega arith)
-    (kept store g v l e)
+result-within g v l e =
+    kept-within (pos 0) (stabilise g v .vector) g (long g v l e) (ruled (length v) g l e .good) (omega arith)
+    (kept g v l e)

@@ -21,11 +21,11 @@ use Rattle.spectrum.specs.Statement.{RunSettled}
 use Rattle.spectrum.specs.Values.{at, maxZ, minZ, held}
 use Rattle.spectrum.specs.Inner.{_≼_}
 
-max-own : (a b : ℤ) → b ≼ a → maxZ a b ≡ a
+pub max-own : (a b : ℤ) → b ≼ a → maxZ a b ≡ a
 unfolding maxZ
 max-own a b h = chosen-leZ (λ (z : ℤ). z ≡ a) a b (λ k. parts-same b a (omega arith)) (λ k. refl)
 
-min-own : (a b : ℤ) → a ≼ b → minZ a b ≡ a
+pub min-own : (a b : ℤ) → a ≼ b → minZ a b ≡ a
 unfolding minZ
 min-own a b h = ap (λ (t : Bool). cond t a b) (le-leZ a b h)
 
@@ -91,10 +91,10 @@ fallback-still (a ∷ g) v l r k =
     ∙ ap (lowered g) (raised-still (a ∷ g) v l r k)
     ∙ lowered-still (pos 0) a v g k
 
--- ---- the run, for any store
+-- ---- the run
 
 pub run-settled : RunSettled
 unfolding run
-run-settled store zero g v l r e =
+run-settled zero g v l r e =
     ap (λ (w : List ℤ). record { vector = w; moves = 0 }) (fallback-still g v l r (keeps-kept v g l e))
-run-settled store (suc n) g v l r e = run-still store n g v e
+run-settled (suc n) g v l r e = run-still n g v e

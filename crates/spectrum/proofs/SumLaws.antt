@@ -1,5 +1,5 @@
 -- A sum of gaps and a test of each, turn by turn. Assumes nothing.
-use Prim.Native.Nat.{ℕ, _+_, _*_, _≤_, _<_}
+use Prim.Native.Nat.{ℕ, suc, _+_, _*_, _≤_, _<_}
 use mathlib.Core.Path.{_≡_, refl, sym, ap, _∙_}
 use mathlib.Core.Bool.{Bool, true, false, _&&_}
 use mathlib.Core.List.{List, [], _∷_, _++_}
@@ -30,10 +30,10 @@ sum-snoc (y ∷ a) x = ap (λ (z : ℤ). y +ℤ z) (sum-snoc a x) ∙ sym (+ℤ-
 pub sum-more : (s : List ℤ) (i : ℕ) → i < length s → total (take (i + 1) s) ≡ total (take i s) +ℤ at s i
 sum-more s i h = rw (add-one) (ap total (take-suc s i (pos 0) h) ∙ sum-snoc (take i s) (at s i))
 
--- the first number alone
-pub near-one : (x : ℤ) → SFits w16 x → Near 1 x
-near-one x f = record { high = omega (arith, fits-up x f); low = omega (arith, fits-down x f) }
+pub sum-next : (s : List ℤ) (i : ℕ) → i < length s → total (take (suc i) s) ≡ total (take i s) +ℤ at s i
+sum-next s i h = let e : suc i ≡ i + 1 = omega arith in ap (λ (n : ℕ). total (take n s)) e ∙ sum-more s i h
 
+-- the first number alone
 pub sum-one : (s : List ℤ) → 0 < length s → total (take 1 s) ≡ at s 0
 unfolding total
 sum-one s h = sum-more s 0 h ∙ +ℤ-idl (at s 0)

@@ -12,7 +12,7 @@ use Rattle.ranges.specs.InRange.{inRange}
 use Rattle.sheet.specs.Books.{Book, narrowBook, wideBook}
 use Rattle.spectrum.specs.Gaps.{goodGaps}
 use Rattle.spectrum.specs.Places.{places}
-use Rattle.spectrum.specs.Stabilising.{Stable, stabilise, kept16}
+use Rattle.spectrum.specs.Stabilising.{Stable, stabilise}
 use Rattle.spectrum.specs.Values.{at}
 use Rattle.spectrum.specs.declared.Moves.{Moves}
 use Rattle.spectrum.specs.declared.Spectrum.{Spectrum}
@@ -40,7 +40,7 @@ unfoldable pub stabiliseRefusal : List ℤ → List ℤ → ℕ
 stabiliseRefusal v g = cond (lengthsOk v g) (cond (goodGaps (length v) g) 0 7) 6
 
 unfoldable pub stabiliseCall : List ℤ → List ℤ → Called
-stabiliseCall v g = answered (stabiliseRefusal v g) v (stabilise kept16 g v)
+stabiliseCall v g = answered (stabiliseRefusal v g) v (stabilise g v)
 
 -- ---- decoding of a line spectrum
 
@@ -62,9 +62,13 @@ numbersOk khz index =
 unfoldable pub decodeRefusal : List ℤ → List ℤ → ℕ → ℕ
 decodeRefusal v index khz = cond (numbersOk khz index) (cond (eqb (length v) (bookOf khz .order)) 0 6) 4
 
--- the spectrum of the indices under a book, stabilised by the book's gaps
-unfoldable pub decoded : (ℤ → ℤ) → Book → List ℤ → Stable
-decoded store b index = stabilise store (map pos (b .gaps)) (places b (up (at index 0)) (placeIndices (b .order) index))
+-- the spectrum of the indices under a book
+abbrev pub placesOf : Book → List ℤ → List ℤ
+placesOf b index = places b (up (at index 0)) (placeIndices (b .order) index)
+
+-- stabilised by the book's gaps
+unfoldable pub decoded : Book → List ℤ → Stable
+decoded b index = stabilise (map pos (b .gaps)) (placesOf b index)
 
 unfoldable pub decodeCall : List ℤ → Spectrum → ℕ → Called
-decodeCall v s khz = answered (decodeRefusal v (s .index) khz) v (decoded kept16 (bookOf khz) (s .index))
+decodeCall v s khz = answered (decodeRefusal v (s .index) khz) v (decoded (bookOf khz) (s .index))

@@ -35,7 +35,7 @@ keeps g v = leZ (pos 0) (least (diffs (pos 0) v g))
 unfoldable pub place : List ℤ → List ℤ → ℕ
 place g v = firstLeast (diffs (pos 0) v g)
 
--- ---- a move at place i; `store` is what is kept of a number that is stored
+-- ---- a move at place i, in whole numbers
 
 -- the limits of the centre: what the gaps before and behind leave
 unfoldable pub lower : List ℤ → ℕ → ℤ
@@ -48,15 +48,15 @@ upper g i = (top -ℤ total (drop (suc i) g)) -ℤ half (at g i)
 unfoldable pub centre : List ℤ → ℕ → ℤ → ℤ → ℤ
 centre g i a b = held (lower g i) (upper g i) (half (a +ℤ b +ℤ pos 1))
 
-unfoldable pub newLow : (ℤ → ℤ) → List ℤ → ℕ → ℤ → ℤ → ℤ
-newLow store g i a b = store (store (centre g i a b) -ℤ half (at g i))
+unfoldable pub newLow : List ℤ → ℕ → ℤ → ℤ → ℤ
+newLow g i a b = centre g i a b -ℤ half (at g i)
 
-unfoldable pub newHigh : (ℤ → ℤ) → List ℤ → ℕ → ℤ → ℤ → ℤ
-newHigh store g i a b = store (newLow store g i a b +ℤ at g i)
+unfoldable pub newHigh : List ℤ → ℕ → ℤ → ℤ → ℤ
+newHigh g i a b = newLow g i a b +ℤ at g i
 
 -- the first value to the first gap, the last to 32,768 less the last gap, or both values of a pair about their centre
-unfoldable pub move : (ℤ → ℤ) → List ℤ → List ℤ → ℕ → List ℤ
-move store g v zero = set v 0 (store (at g 0))
-move store g v (suc j) =
-    cond (eqb (suc j) (length v)) (set v j (store (top -ℤ at g (suc j))))
-    (set (set v j (newLow store g (suc j) (at v j) (at v (suc j)))) (suc j) (newHigh store g (suc j) (at v j) (at v (suc j))))
+unfoldable pub move : List ℤ → List ℤ → ℕ → List ℤ
+move g v zero = set v 0 (at g 0)
+move g v (suc j) =
+    cond (eqb (suc j) (length v)) (set v j (top -ℤ at g (suc j)))
+    (set (set v j (newLow g (suc j) (at v j) (at v (suc j)))) (suc j) (newHigh g (suc j) (at v j) (at v (suc j))))

@@ -1,6 +1,6 @@
 -- What document 01 and RFC 6716, section 4.2.7.5, say of the two calls on a vector besides their definitions: how
--- many moves are made, which gaps are kept, when a vector stays, where the values lie, and that moves in whole
--- numbers would give the same. `store` is what is kept of a number that a move stores. Assumes nothing.
+-- many moves are made, which gaps are kept, when a vector stays, where the values lie, and where the crate, whose
+-- moves keep 16 bits, gives the same. Assumes nothing.
 use Prim.Native.Nat.{ℕ, suc, _≤_, _<_}
 use mathlib.Core.Path.{_≡_}
 use mathlib.Core.Bool.{true}
@@ -10,13 +10,13 @@ use lib.Signed.{quotZ}
 use lib.ListN.{length}
 use Rattle.ints.specs.Parts.{up}
 use Rattle.sheet.specs.Books.{Book}
-use Rattle.spectrum.specs.Calls.{called, stabiliseRefusal, stabiliseCall, bookOf, decodeRefusal, decoded, decodeCall}
+use Rattle.spectrum.specs.Calls.{called, stabiliseRefusal, stabiliseCall, bookOf, decodeRefusal, placesOf, decoded, decodeCall}
 use Rattle.spectrum.specs.Distances.{keeps}
 use Rattle.spectrum.specs.Gaps.{goodGaps, Good, Ruled, EveryGap}
 use Rattle.spectrum.specs.Places.{places}
 use Rattle.spectrum.specs.Residuals.{residuals}
-use Rattle.spectrum.specs.Stabilising.{run, stabilise, kept16, whole}
-use Rattle.spectrum.specs.Stores.{calm}
+use Rattle.spectrum.specs.Stabilising.{run, stabilise}
+use Rattle.spectrum.specs.Stores.{stabilise16, calm}
 use Rattle.spectrum.specs.Values.{at, Mag, Within}
 use Rattle.spectrum.specs.declared.Spectrum.{Spectrum}
 
@@ -45,10 +45,11 @@ DecodeGaps =
     (v : List ℤ) (s : Spectrum) (khz : ℕ) → length (s .index) ≡ 17 → Decodes v s khz
     → EveryGap (map pos (bookOf khz .gaps)) (decodeCall v s khz .vector)
 
-abbrev pub StoresGaps : Type 0
-StoresGaps =
-    (store : ℤ → ℤ) (g v : List ℤ) → length g ≡ suc (length v) → goodGaps (length v) g ≡ true → 0 < length v
-    → EveryGap g (stabilise store g v .vector)
+-- of vectors of any length
+abbrev pub ResultGaps : Type 0
+ResultGaps =
+    (g v : List ℤ) → length g ≡ suc (length v) → goodGaps (length v) g ≡ true → 0 < length v
+    → EveryGap g (stabilise g v .vector)
 
 -- ---- a vector that keeps every gap stays, with 0 moves; 0 moves are made of no other
 
@@ -58,17 +59,17 @@ StabiliseStays = (v g : List ℤ) → Stabilises v g → EveryGap g v → stabil
 abbrev pub StabiliseStayed : Type 0
 StabiliseStayed = (v g : List ℤ) → Stabilises v g → stabiliseCall v g .answer .moves ≡ 0 → EveryGap g v
 
--- stabilising twice is stabilising once, whatever the second store
+-- stabilising twice is stabilising once
 abbrev pub Twice : Type 0
 Twice =
-    (store : ℤ → ℤ) (g v : List ℤ) → length g ≡ suc (length v) → goodGaps (length v) g ≡ true → (again : ℤ → ℤ)
-    → stabilise again g (stabilise store g v .vector) ≡ record { vector = stabilise store g v .vector; moves = 0 }
+    (g v : List ℤ) → length g ≡ suc (length v) → goodGaps (length v) g ≡ true
+    → stabilise g (stabilise g v .vector) ≡ record { vector = stabilise g v .vector; moves = 0 }
 
 -- a run that comes to a vector that keeps every gap ends with it, whatever moves n are left
 abbrev pub RunSettled : Type 0
 RunSettled =
-    (store : ℤ → ℤ) (n : ℕ) (g v : List ℤ) → length g ≡ suc (length v) → Good g → keeps g v ≡ true
-    → run store n g v ≡ record { vector = v; moves = 0 }
+    (n : ℕ) (g v : List ℤ) → length g ≡ suc (length v) → Good g → keeps g v ≡ true
+    → run n g v ≡ record { vector = v; moves = 0 }
 
 -- ---- where values lie: what decoding hands to the stabiliser, and what the stabiliser leaves
 
@@ -77,8 +78,16 @@ PlacesWithin = (b : Book) (v : ℕ) (xs : List ℤ) → Within 0 32767 (places b
 
 abbrev pub ResultWithin : Type 0
 ResultWithin =
-    (store : ℤ → ℤ) (g v : List ℤ) → length g ≡ suc (length v) → goodGaps (length v) g ≡ true
-    → Within 0 32767 (stabilise store g v .vector)
+    (g v : List ℤ) → length g ≡ suc (length v) → goodGaps (length v) g ≡ true → Within 0 32767 (stabilise g v .vector)
+
+-- so 16 bits hold what a call leaves, whatever numbers its moves went through
+abbrev pub StabiliseFits : Type 0
+StabiliseFits = (v g : List ℤ) → Stabilises v g → Within 0 32767 (stabiliseCall v g .vector)
+
+abbrev pub DecodeFits : Type 0
+DecodeFits =
+    (v : List ℤ) (s : Spectrum) (khz : ℕ) → length (s .index) ≡ 17 → Decodes v s khz
+    → Within 0 32767 (decodeCall v s khz .vector)
 
 -- the residuals of at most 16 places, and what placing makes of one: no product leaves 32 bits
 abbrev pub ResidualsWithin : Type 0
@@ -90,19 +99,20 @@ abbrev pub MovedFits : Type 0
 MovedFits =
     (w : ℕ) (r : ℤ) → Mag 29200 r → Mag 478412800 (r *ℤ pos 16384) × Mag 478412800 (quotZ (r *ℤ pos 16384) (pos w))
 
--- ---- 16 bits kept, and moves in whole numbers: the same vector and count
+-- ---- the crate, whose moves keep 16 bits: the same vector and count
 
--- wherever no store leaves 16 bits
+-- wherever no store of it leaves 16 bits
 abbrev pub SameStabiliser : Type 0
-SameStabiliser = (g v : List ℤ) → calm kept16 20 g v ≡ true → stabilise kept16 g v ≡ stabilise whole g v
+SameStabiliser = (g v : List ℤ) → calm 20 g v ≡ true → stabilise g v ≡ stabilise16 g v
 
 -- so wherever the last gap is 2 or more, as that of either book is
 abbrev pub SameTwo : Type 0
 SameTwo =
     (g v : List ℤ) → Ruled g → length g ≡ suc (length v) → 0 < length v → 2 ≤ up (at g (length v))
-    → stabilise kept16 g v ≡ stabilise whole g v
+    → stabilise g v ≡ stabilise16 g v
 
+-- decoding never meets the difference
 abbrev pub DecodeWhole : Type 0
 DecodeWhole =
     (v : List ℤ) (s : Spectrum) (khz : ℕ) → length (s .index) ≡ 17 → Decodes v s khz
-    → decoded kept16 (bookOf khz) (s .index) ≡ decoded whole (bookOf khz) (s .index)
+    → decoded (bookOf khz) (s .index) ≡ stabilise16 (map pos (bookOf khz .gaps)) (placesOf (bookOf khz) (s .index))

@@ -20,9 +20,10 @@ use Rattle.entcode.specs.Writing.{written, encSym, finished, encDone, encTell, 
 use Rattle.spectrum.specs.Calls as spectra
 use Rattle.spectrum.specs.Calls.{lengthsOk, stabiliseRefusal, stabiliseCall}
 use Rattle.spectrum.specs.Distances.{diffs, least, firstLeast, keeps, place, lower, upper, centre, newLow, newHigh, move}
+use Rattle.spectrum.specs.Fallback.{insert, sorted, climb, raised, lowered, fallback}
 use Rattle.spectrum.specs.Gaps.{goodGaps}
 use Rattle.spectrum.specs.Stabilising.{run, stabilise}
-use Rattle.spectrum.specs.Values.{minZ, held, total}
+use Rattle.spectrum.specs.Values.{maxZ, minZ, held, total}
 use Rattle.tree.specs.Asks as tree
 use Rattle.tree.specs.Asks.{then, of, symbols}
 use Rattle.tree.specs.Telling.{allSaid}
@@ -44,7 +45,8 @@ writers-hold = (refl, (refl, (refl, (refl, tt))))
 
 spectra-hold : AllHold spectrumCases
 unfolding spectrumCases stabiliseCall spectra.answered stabiliseRefusal lengthsOk goodGaps stabilise run move
-    newHigh newLow centre upper lower place keeps firstLeast least diffs total held minZ wrap16
+    newHigh newLow centre upper lower place keeps firstLeast least diffs total held minZ fallback lowered raised climb sorted
+    insert maxZ
 spectra-hold = (refl, (refl, (refl, (refl, (refl, tt)))))
 
 lag-hold : AllHold lagCases

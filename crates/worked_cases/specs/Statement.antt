@@ -13,7 +13,6 @@ use Rattle.entcode.specs.Reading.{decSym, decTell, decOpen}
 use Rattle.entcode.specs.Writing.{Sent, encSym, encDone, encTell, encOpen}
 use Rattle.spectrum.specs.Calls.{Called, called, stabiliseCall}
 use Rattle.spectrum.specs.Distances.{place, move}
-use Rattle.spectrum.specs.Stabilising.{kept16}
 use Rattle.silk.specs.declared.Indices.{Indices}
 use Rattle.silk.specs.declared.Setting.{Setting}
 use Rattle.silk.specs.Record.{made}
@@ -109,7 +108,7 @@ computed (holdsBack b ss) =
     let o = writeIn (after (encOpen b)) ss in holds (o .state .rem) (encSym o (bitOf 0 1) .answer .refusal)
 computed (tells b ss) = tell (encTell (writeIn (after (encOpen b)) ss) .answer .value)
 computed (stabilises g v) = vector (stabiliseCall v g)
-computed (moves g v) = moved (move kept16 g v (place g v))
+computed (moves g v) = moved (move g v (place g v))
 
 -- ---- the list
 
@@ -161,9 +160,10 @@ spectrumCases =
     gives (stabilises gaps (pos 10 ∷ pos 15 ∷ [])) (vector (called (pos 10 ∷ pos 15 ∷ []) 0 0)) ∷
     gives (stabilises gaps (pos 100 ∷ pos 50 ∷ [])) (vector (called (pos 73 ∷ pos 78 ∷ []) 0 1)) ∷
     gives (stabilises gaps (pos 0 ∷ pos 0 ∷ [])) (vector (called (pos 10 ∷ pos 15 ∷ []) 0 2)) ∷
-    -- P12: gaps 0 3 1: the first move stores 32,765 and -32,768, two moves give (0, 3)
-    gives (moves smallGaps (pos 32767 ∷ pos 32767 ∷ [])) (moved (pos 32765 ∷ negsuc 32767 ∷ [])) ∷
-    gives (stabilises smallGaps (pos 32767 ∷ pos 32767 ∷ [])) (vector (called (pos 0 ∷ pos 3 ∷ []) 0 2)) ∷
+    -- P12 as document 02, item 6, has it: gaps 0 3 1: the first move makes 32,765 and 32,768, 20 moves and the fallback
+    -- give (32764, 32767); document 01's own numbers, of the crate's stores, stand in `spectrum/proofs/Cases`
+    gives (moves smallGaps (pos 32767 ∷ pos 32767 ∷ [])) (moved (pos 32765 ∷ pos 32768 ∷ [])) ∷
+    gives (stabilises smallGaps (pos 32767 ∷ pos 32767 ∷ [])) (vector (called (pos 32764 ∷ pos 32767 ∷ []) 0 20)) ∷
     []
 
 -- 8 kHz, 2 subframes, active, conditional, behind a voiced frame of the lag 32,767

@@ -1,5 +1,6 @@
 //! The two programs, frame_lister and nlsf_stabiliser: what each prints for an input, in document 01's
-//! words over the crate's answers, and the list of inputs that crates/programs_cases replays.
+//! words over the crate's answers (in whole numbers where a store of its stabiliser leaves 16 bits), and
+//! the list of inputs that crates/programs_cases replays.
 
 mod lister;
 mod sections;

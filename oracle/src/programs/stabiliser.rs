@@ -8,7 +8,7 @@ use crate::hold::Outcome;
 use crate::record::calls;
 use crate::report;
 use crate::rng::Rng;
-use crate::spectra::{gaps, vector, Ask, Spectra, Vector};
+use crate::spectra::{gaps, leaves, vector, Ask, Spectra, Vector};
 use std::iter::once;
 use std::ops::RangeInclusive;
 
@@ -18,12 +18,14 @@ const ORDERS: RangeInclusive<usize> = 2..=16;
 /// The most moves before the fallback.
 const MOST_MOVES: u32 = 20;
 
-/// Of each order how many vectors kept their gaps and how many were moved; and how many took the most moves.
+/// Of each order how many vectors kept their gaps and how many were moved; how many took the most moves;
+/// and of how many a store of the crate left 16 bits.
 #[derive(Default)]
 pub struct Stabiliser {
     kept: [u64; 17],
     moved: [u64; 17],
     most_moves: u64,
+    left: u64,
 }
 
 impl Program for Stabiliser {
@@ -36,6 +38,7 @@ impl Program for Stabiliser {
         longest(list)?;
         lengths(list)?;
         gap_rule(list)?;
+        at_the_top(list)?;
         stabilised(list, rng)
     }
 
@@ -43,7 +46,8 @@ impl Program for Stabiliser {
         let (values, gaps) = both(input).ok_or(9_u32)?;
         let ask = Ask::Stabilise(&gaps);
         accepted(spectra_refusal(values.len(), ask))?;
-        let answer = Spectra::unopus(&mut [], Vector::of(&values), ask);
+        let before = Vector::of(&values);
+        let answer = Spectra::unopus(&mut [], before, ask);
         let moves = answer.value;
         let counts = if moves == 0 {
             &mut self.kept
@@ -52,6 +56,7 @@ impl Program for Stabiliser {
         };
         counts[values.len()] += 1;
         self.most_moves += u64::from(moves == MOST_MOVES);
+        self.left += u64::from(leaves(&before, ask));
         Ok(line("rounds", &[moves as u8]) + &counted("vector", answer.state.values()))
     }
 
@@ -61,8 +66,9 @@ impl Program for Stabiliser {
             orders.map(move |n| format!("{n} values {what}"))
         };
         let most = (self.most_moves == 0).then(|| format!("{MOST_MOVES} moves"));
+        let left = (self.left == 0).then(|| "a store of the crate that leaves 16 bits".to_string());
         let orders = missing(self.kept, "kept").chain(missing(self.moved, "moved"));
-        report::complete(orders.chain(most))
+        report::complete(orders.chain(most).chain(left))
     }
 }
 
@@ -171,6 +177,14 @@ fn gap_rule(list: &mut List<Stabiliser>) -> Outcome {
             list.refused(7, "a total of 32,769", &input(&values, &gaps))?;
         }
         list.refused(7, "a large total", &input(&values, &vec![i16::MAX; n + 1]))?;
+    }
+    Ok(())
+}
+
+/// Pairs at the top of the band, P12 of documents 01 and 02 among them, and one just below it.
+fn at_the_top(list: &mut List<Stabiliser>) -> Outcome {
+    for (last, odd) in [(32767, 1), (32767, 3), (32766, 1)] {
+        list.accepted(&input(&[last; 2], &[0, odd, 1]))?;
     }
     Ok(())
 }

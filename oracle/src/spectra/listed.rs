@@ -10,6 +10,7 @@ use crate::state::{Words, FIELDS};
 impl Recorded for Spectra {
     fn list(sink: &mut dyn Sink<Spectra>, rng: &mut Rng) -> Outcome {
         plans::stabilised(sink, rng, 320)?;
+        plans::at_the_top(sink, rng, 40)?;
         plans::lengths(sink, rng, [1, 2, 16, 17])?;
         plans::gap_rule(sink, rng, [2, 5])?;
         plans::decoded(sink, rng, 2)?;

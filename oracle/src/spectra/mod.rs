@@ -1,4 +1,5 @@
-//! The calls on line spectra: ours beside the crate's and libopus's.
+//! The calls on line spectra: ours beside the crate's and libopus's, and in whole numbers where a store of
+//! theirs leaves 16 bits.
 
 #[cfg(libopus)]
 mod libopus;
@@ -7,11 +8,13 @@ mod plans;
 mod sides;
 mod text;
 mod vectors;
+mod watched;
 
 use crate::compare::{Answer, Kind};
 use crate::models::Model;
 use std::fmt;
-use text::{Way, WAYS};
+use text::{Course, Way, WAYS};
+use watched::Watched;
 
 pub use vectors::{gaps, vector};
 
@@ -78,6 +81,7 @@ impl Kind for Spectra {
     const ACCOUNT: usize = usize::MAX;
     const SYMBOLS: &'static [&'static str] = &[];
     const BRANCHES: &'static [&'static str] = WAYS;
+    const OFTEN: &'static [usize] = &[Way::Theirs as usize, Way::Whole as usize];
 
     fn call(ask: Ask) -> usize {
         match ask {
@@ -95,7 +99,7 @@ impl Kind for Spectra {
         _: &Answer<Vector>,
         mut mark: impl FnMut(usize, bool),
     ) {
-        text::call(before.values(), ask, &mut |way: Way, taken| {
+        courses(before, ask, &mut |way: Way, taken| {
             mark(way as usize, taken)
         });
     }
@@ -103,4 +107,40 @@ impl Kind for Spectra {
     fn places(_: &Vector) -> [usize; 2] {
         [0, 0]
     }
+}
+
+/// What a call that document 01 accepts comes to, by the crate's arithmetic and in whole numbers.
+fn courses(before: &Vector, ask: Ask, mark: &mut impl FnMut(Way, bool)) -> (Watched, Course) {
+    let (values, gaps) = match ask {
+        Ask::Decode(indices, khz) => (
+            text::places(indices, khz, mark),
+            text::book(khz).deltaMin_Q15,
+        ),
+        Ask::Stabilise(gaps) => (before.values().to_vec(), gaps),
+    };
+    let watched = watched::stabilise(&values, gaps);
+    let whole = text::stabilise(&values, gaps, mark);
+    match ask {
+        Ask::Decode(..) => {
+            mark(Way::DecodedGood, whole.moves == 0);
+            mark(Way::DecodedMoved, whole.moves > 0);
+        }
+        Ask::Stabilise(_) => {
+            let alike = watched.course == whole;
+            mark(Way::Theirs, !watched.left);
+            mark(Way::Whole, watched.left);
+            mark(Way::Alike, watched.left && alike);
+            mark(Way::Part, watched.left && !alike);
+        }
+    }
+    (watched, whole)
+}
+
+/// Whether a store of the crate leaves 16 bits in a call that document 01 accepts.
+pub fn leaves(before: &Vector, ask: Ask) -> bool {
+    courses(before, ask, &mut |_, _| {}).0.left
+}
+
+fn wide(numbers: &[i16]) -> Vec<i64> {
+    numbers.iter().map(|&number| number.into()).collect()
 }

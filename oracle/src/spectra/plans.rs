@@ -1,6 +1,6 @@
 //! Which calls are compared. A plan puts its calls to a sink, which compares or records them.
 
-use super::vectors::{gaps, indices, parts, vector};
+use super::vectors::{gaps, gaps_to_the_top, indices, parts, vector, vector_at_the_top};
 use super::{Ask, Spectra, Vector, ROOM};
 use crate::compare::Sink;
 use crate::domain::order;
@@ -13,7 +13,11 @@ impl Plans for Spectra {
     const PLANS: &'static [Plan<Spectra>] = &[
         (
             "of the stabiliser on vectors and gap sets of all kinds",
-            |sink, rng, extent| stabilised(sink, rng, extent.cases),
+            |sink, rng, extent| stabilised(sink, rng, extent.cases - extent.cases / 8),
+        ),
+        (
+            "of the stabiliser at the top of the band",
+            |sink, rng, extent| at_the_top(sink, rng, extent.cases / 8),
         ),
         (
             "of the stabiliser at the limits of lengths and gap sets",
@@ -60,6 +64,16 @@ pub fn stabilised(sink: &mut dyn Sink<Spectra>, rng: &mut Rng, calls: u64) -> Ou
             set = gaps(rng, n);
         }
         stabilise(sink, vector(rng, &set), &set)?;
+    }
+    Ok(())
+}
+
+/// Accepted calls of the stabiliser in which, most often, a store of the crate leaves 16 bits.
+pub fn at_the_top(sink: &mut dyn Sink<Spectra>, rng: &mut Rng, calls: u64) -> Outcome {
+    for _ in 0..calls {
+        let n = rng.or_end(2, 16) as usize;
+        let set = gaps_to_the_top(rng, n);
+        stabilise(sink, vector_at_the_top(rng, n), &set)?;
     }
     Ok(())
 }

@@ -1,7 +1,8 @@
-//! The calls on line spectra: ours, the crate's and libopus's. Theirs answer no number of moves; the
-//! text's count stands in, where the text's vector is theirs.
+//! The calls on line spectra: ours, the crate's and libopus's. Theirs answer no number of moves: the count
+//! is that of the crate's arithmetic, watched, whose vector is theirs. Where a store leaves 16 bits, they
+//! are made to answer in whole numbers; elsewhere whole numbers end as they do.
 
-use super::{text, Ask, Spectra, Vector};
+use super::{courses, text, Ask, Spectra, Vector};
 use crate::compare::{Answer, Sides};
 use crate::domain::{self, order};
 use crate::ours;
@@ -42,8 +43,19 @@ fn guarded(vector: Vector, ask: Ask, call: impl FnOnce(&mut [i16])) -> Answer<Ve
     domain::guarded(Spectra::refusal(&[], &vector, ask), vector, || {
         let mut after = vector;
         call(after.values_mut());
-        let text = text::call(vector.values(), ask, &mut |_, _| {});
-        assert_eq!(text.vector, after.values(), "the text's vector is another");
-        (text.moves, after)
+        let (watched, whole) = courses(&vector, ask, &mut |_, _| {});
+        assert_eq!(
+            watched.course.vector,
+            after.values(),
+            "the watched vector is another"
+        );
+        if !watched.left {
+            assert_eq!(watched.course, whole, "whole numbers end otherwise");
+            return (watched.course.moves, after);
+        }
+        let stabilised = matches!(ask, Ask::Stabilise(_));
+        assert!(stabilised, "a store leaves 16 bits in decoding");
+        after.values_mut().copy_from_slice(&whole.vector);
+        (whole.moves, after)
     })
 }

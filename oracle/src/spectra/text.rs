@@ -1,7 +1,7 @@
-//! Line spectra after RFC 6716, section 4.2.7.5, in plain numbers: the count of moves, which the crate
-//! and libopus keep to themselves, and the ways that a call takes.
+//! Line spectra after RFC 6716, section 4.2.7.5, and RFC 8251, section 7, in whole numbers, of which the
+//! result alone is stored in 16 bits; and the ways that a call takes.
 
-use super::Ask;
+use super::wide;
 use crate::domain::order;
 use crate::silk::structs::silk_NLSF_CB_struct;
 use crate::silk::tables_NLSF_CB_NB_MB::silk_NLSF_CB_NB_MB;
@@ -15,6 +15,7 @@ ways! { Way, WAYS:
     Enough "20 moves that are enough",
     Fallback "20 moves and the fallback's work",
     Unsorted "fallback on an unsorted vector",
+    PastTop "fallback on a value of 32,768",
     Saturated "upward sum saturated",
     First "first place moved",
     Middle "middle place moved",
@@ -23,15 +24,19 @@ ways! { Way, WAYS:
     Below "centre limited below",
     Above "centre limited above",
     Between "centre not limited",
-    Wrapped "16-bit store wrapped",
     AtZero "place clamped at 0",
     AtTop "place clamped at 32,767",
     Inside "place not clamped",
     DecodedGood "decoded without a move",
     DecodedMoved "decoded with moves",
+    Theirs "stabilised and held to theirs",
+    Whole "stabilised and held to whole numbers since a store of the crate leaves 16 bits",
+    Alike "a store of the crate leaves 16 bits and both end alike",
+    Part "a store of the crate leaves 16 bits and they part",
 }
 
 /// What a call leaves, and how many moves it took.
+#[derive(Debug, PartialEq)]
 pub struct Course {
     pub vector: Vec<i16>,
     pub moves: u32,
@@ -45,22 +50,10 @@ pub fn book(khz: u32) -> &'static silk_NLSF_CB_struct {
     }
 }
 
-/// A call that document 01 accepts.
-pub fn call(before: &[i16], ask: Ask, mark: &mut impl FnMut(Way, bool)) -> Course {
-    match ask {
-        Ask::Decode(indices, khz) => {
-            let course = stabilise(places(indices, khz, mark), book(khz).deltaMin_Q15, mark);
-            mark(Way::DecodedGood, course.moves == 0);
-            mark(Way::DecodedMoved, course.moves > 0);
-            course
-        }
-        Ask::Stabilise(gaps) => stabilise(before.to_vec(), gaps, mark),
-    }
-}
-
 // ---- section 4.2.7.5.3
 
-fn places(indices: [i8; 17], khz: u32, mark: &mut impl FnMut(Way, bool)) -> Vec<i16> {
+/// Where a decoding that document 01 accepts has its values before they are stabilised.
+pub fn places(indices: [i8; 17], khz: u32, mark: &mut impl FnMut(Way, bool)) -> Vec<i16> {
     let (book, order, first) = (book(khz), order(khz), indices[0] as usize);
     let mut residual = 0;
     let mut values = vec![0; order];
@@ -88,39 +81,45 @@ fn places(indices: [i8; 17], khz: u32, mark: &mut impl FnMut(Way, bool)) -> Vec<
 
 // ---- section 4.2.7.5.4
 
-fn stabilise(mut v: Vec<i16>, gaps: &[i16], mark: &mut impl FnMut(Way, bool)) -> Course {
+/// A stabilising that document 01 accepts.
+pub fn stabilise(values: &[i16], gaps: &[i16], mark: &mut impl FnMut(Way, bool)) -> Course {
+    let (mut v, gaps) = (wide(values), wide(gaps));
     let mut moves = 0;
     while moves < 20 {
-        let (place, least) = smallest(&v, gaps, mark);
+        let (place, least) = smallest(&v, &gaps, mark);
         if least >= 0 {
             break;
         }
-        step(&mut v, gaps, place, mark);
+        step(&mut v, &gaps, place, mark);
         moves += 1;
     }
     mark(Way::NoMove, moves == 0);
     mark(Way::OneMove, moves == 1);
     mark(Way::SomeMoves, (2..20).contains(&moves));
     if moves == 20 {
-        let good = differences(&v, gaps).all(|difference| difference >= 0);
+        let good = differences(&v, &gaps).all(|difference| difference >= 0);
         mark(Way::Enough, good);
         mark(Way::Fallback, !good);
-        fall_back(&mut v, gaps, mark);
+        fall_back(&mut v, &gaps, mark);
     }
-    Course { vector: v, moves }
+    let stored = v.into_iter().map(|value| i16::try_from(value).unwrap());
+    Course {
+        vector: stored.collect(),
+        moves,
+    }
 }
 
 /// Of each place, how far it lies from the one before beyond its gap; 0 stands before the first value
 /// and 32,768 behind the last.
-fn differences<'a>(v: &'a [i16], gaps: &'a [i16]) -> impl Iterator<Item = i32> + 'a {
-    let before = [0].into_iter().chain(v.iter().map(|&value| value.into()));
-    let values = v.iter().map(|&value| value.into()).chain([32768]);
+fn differences<'a>(v: &'a [i64], gaps: &'a [i64]) -> impl Iterator<Item = i64> + 'a {
+    let before = [0].into_iter().chain(v.iter().copied());
+    let values = v.iter().copied().chain([32768]);
     let pairs = before.zip(values).zip(gaps);
-    pairs.map(|((before, value), &gap): ((i32, i32), _)| value - before - i32::from(gap))
+    pairs.map(|((before, value), gap)| value - before - gap)
 }
 
-fn smallest(v: &[i16], gaps: &[i16], mark: &mut impl FnMut(Way, bool)) -> (usize, i32) {
-    let (mut place, mut least, mut tied) = (0, i32::MAX, false);
+fn smallest(v: &[i64], gaps: &[i64], mark: &mut impl FnMut(Way, bool)) -> (usize, i64) {
+    let (mut place, mut least, mut tied) = (0, i64::MAX, false);
     for (i, difference) in differences(v, gaps).enumerate() {
         tied = difference == least || tied && difference > least;
         if difference < least {
@@ -131,7 +130,7 @@ fn smallest(v: &[i16], gaps: &[i16], mark: &mut impl FnMut(Way, bool)) -> (usize
     (place, least)
 }
 
-fn step(v: &mut [i16], gaps: &[i16], i: usize, mark: &mut impl FnMut(Way, bool)) {
+fn step(v: &mut [i64], gaps: &[i64], i: usize, mark: &mut impl FnMut(Way, bool)) {
     let n = v.len();
     mark(Way::First, i == 0);
     mark(Way::Middle, 0 < i && i < n);
@@ -141,36 +140,34 @@ fn step(v: &mut [i16], gaps: &[i16], i: usize, mark: &mut impl FnMut(Way, bool))
         return;
     }
     if i == n {
-        v[n - 1] = (32768 - i32::from(gaps[n])) as i16;
+        v[n - 1] = 32768 - gaps[n];
         return;
     }
-    let total = |gaps: &[i16]| gaps.iter().map(|&gap| i32::from(gap)).sum::<i32>();
-    let (gap, half) = (i32::from(gaps[i]), i32::from(gaps[i]) >> 1);
-    let lower = half + total(&gaps[..i]);
-    let upper = 32768 - half - total(&gaps[i + 1..]);
-    let centre = (i32::from(v[i - 1]) + i32::from(v[i]) + 1) >> 1;
+    let half = gaps[i] >> 1;
+    let lower = half + gaps[..i].iter().sum::<i64>();
+    let upper = 32768 - half - gaps[i + 1..].iter().sum::<i64>();
+    let centre = (v[i - 1] + v[i] + 1) >> 1;
     mark(Way::Below, centre < lower);
     mark(Way::Above, centre > upper);
     mark(Way::Between, (lower..=upper).contains(&centre));
-    let low = centre.clamp(lower, upper) - half;
-    mark(Way::Wrapped, low + gap > 32767);
-    v[i - 1] = low as i16;
-    v[i] = (low + gap) as i16;
+    v[i - 1] = centre.clamp(lower, upper) - half;
+    v[i] = v[i - 1] + gaps[i];
 }
 
 /// RFC 8251, section 7, has the sum saturate.
-fn fall_back(v: &mut [i16], gaps: &[i16], mark: &mut impl FnMut(Way, bool)) {
+fn fall_back(v: &mut [i64], gaps: &[i64], mark: &mut impl FnMut(Way, bool)) {
     mark(Way::Unsorted, v.windows(2).any(|pair| pair[0] > pair[1]));
+    mark(Way::PastTop, v.contains(&32768));
     v.sort_unstable();
-    let mut before = 0_i16;
-    for (value, &gap) in v.iter_mut().zip(gaps) {
-        mark(Way::Saturated, before.checked_add(gap).is_none());
-        *value = (*value).max(before.saturating_add(gap));
+    let mut before = 0;
+    for (value, gap) in v.iter_mut().zip(gaps) {
+        mark(Way::Saturated, before + gap > 32767);
+        *value = (*value).max((before + gap).min(32767));
         before = *value;
     }
     let mut behind = 32768;
-    for (value, &gap) in v.iter_mut().zip(&gaps[1..]).rev() {
-        *value = i32::from(*value).min(behind - i32::from(gap)) as i16;
-        behind = i32::from(*value);
+    for (value, gap) in v.iter_mut().zip(&gaps[1..]).rev() {
+        *value = (*value).min(behind - gap);
+        behind = *value;
     }
 }

@@ -19,7 +19,7 @@ pub fn gaps(rng: &mut Rng, n: usize) -> Vec<i16> {
         books.iter().find(|book| book.len() == n + 1),
     ) {
         (0 | 1, Some(book)) => book.to_vec(),
-        (2, _) => at_the_top(rng, n),
+        (2, _) => gaps_to_the_top(rng, n),
         (3, _) => {
             let total = rng.between(1, 40);
             parts(rng, n, total)
@@ -46,11 +46,19 @@ pub fn parts(rng: &mut Rng, n: usize, total: u32) -> Vec<i16> {
     gaps.map(|gap| gap as i16).collect()
 }
 
-/// One odd gap, none behind it but a last gap of 1: there a store can leave 16 bits.
-fn at_the_top(rng: &mut Rng, n: usize) -> Vec<i16> {
+/// Any gaps, then an odd one, and none behind it but a last gap of 1: there a store of the crate can leave
+/// 16 bits.
+pub fn gaps_to_the_top(rng: &mut Rng, n: usize) -> Vec<i16> {
     let mut gaps = vec![0; n + 1];
     gaps[n] = 1;
-    gaps[rng.between(1, n as u32 - 1) as usize] = rng.pick(&[1, 3, 301, 32767]);
+    let place = rng.between(1, n as u32 - 1) as usize;
+    let any = 2 * rng.between(0, 16383) as i16 + 1;
+    gaps[place] = rng.pick(&[1, 3, 301, any, 32767]);
+    let room = 32767 - gaps[place] as u32;
+    if room > 0 && rng.one_in(2) {
+        let total = rng.or_end(1, room);
+        gaps[..place].copy_from_slice(&parts(rng, place - 1, total));
+    }
     gaps
 }
 
@@ -78,6 +86,17 @@ pub fn vector(rng: &mut Rng, gaps: &[i16]) -> Vector {
         }
         _ => {}
     }
+    vector
+}
+
+/// Values near the top, and a few of any kind.
+pub fn vector_at_the_top(rng: &mut Rng, n: usize) -> Vector {
+    let mut vector = Vector::new(n);
+    let width = rng.pick(&[1, 3, 40, 32767]);
+    vector.values_mut().fill_with(|| match rng.one_in(8) {
+        true => any(rng),
+        false => 32767 - rng.or_end(0, width) as i16,
+    });
     vector
 }
 

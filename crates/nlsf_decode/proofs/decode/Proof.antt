@@ -14,7 +14,7 @@ use Rattle.ints.specs.Parts.{up, down}
 use Rattle.sheet.specs.Books.{Book}
 use Rattle.spectrum.proofs.CallLaws.{Accepted, decode-accepted}
 use Rattle.spectrum.specs.Calls.{bookOf, decoded}
-use Rattle.spectrum.specs.Stabilising.{Stable, kept16}
+use Rattle.spectrum.specs.Stabilising.{Stable}
 use Rattle.spectrum.specs.Values.{at}
 use Rattle.nlsf_decode.specs.Inner.{Indexed, spectrumOf}
 use Rattle.nlsf_decode.proofs.RowLaws.{Under, wide-under, narrow-under, indexed, decoded-as}
@@ -48,7 +48,7 @@ asks b u =
 
 answers : (b : tie.After-v) {k : Book} {n : ℕ} {s : Stable} → let a = b .before .args in Under (a .khz) k n
     → s ≡ spectrumOf k (natAbs (toZ w8 (ofZ w8 (at (a .t2) 0)))) (take n (drop 1 (a .t2)))
-    → s ≡ decoded kept16 (bookOf (a .khz)) (a .t2)
+    → s ≡ decoded (bookOf (a .khz)) (a .t2)
 answers b u e = (rw (toZ-ofZ (first-fits b)) at e) ∙ decoded-as u (b .before .args .t2) (taken b .first0)
 
 pub decode-spec : {M : Type 1} → statement M

@@ -12,7 +12,7 @@ use mir.Facts.{toZ-ofZ}
 use Rattle.spectrum.proofs.CallLaws.{lengths-are, stabilise-answers}
 use Rattle.spectrum.specs.Calls.{lengthsOk}
 use Rattle.spectrum.specs.Gaps.{goodGaps}
-use Rattle.nlsf_stabilize.proofs.CallLaws.{ruled-sum, ruled-total, refused-lengths, refused-gaps, accepted, move-ok, stays-answers}
+use Rattle.nlsf_stabilize.proofs.CallLaws.{ruled-sum, ruled-total, refused-lengths, refused-gaps, accepted, ready, stays-answers}
 use Rattle.nlsf_stabilize.proofs.silk_NLSF_stabilize.Statement.{statement}
 use Rattle.nlsf_stabilize.proofs.silk_NLSF_stabilize.Tie as tie
 
@@ -61,7 +61,7 @@ stabilise-run-requires c κs =
     let a = start (measured r) .args in
     let t = rule-is r true (c .before .if3 .taken) in (
       (
-        move-ok (a .vector .now) (a .gaps .now) (accepted (a .vector .now) (a .gaps .now) (lengths-right (measured r)) t),
+        ready (a .vector .now) (a .gaps .now) (accepted (a .vector .now) (a .gaps .now) (lengths-right (measured r)) t),
         ruled-total (length (a .vector .now)) (a .gaps .now) _
             (toZ-ofZ {w = w32} (sfits-of (r .ruled-sum-run .ok)) ∙ r .ruled-sum-run .ensures) t,
       ),

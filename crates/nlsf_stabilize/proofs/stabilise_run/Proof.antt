@@ -1,136 +1,183 @@
 -- `stabilise_run` meets its contract. The invariant: what is still to be run from here, with the moves made, is the whole answer, and
--- the vector does not stay. Assumes nothing.
-use Prim.Native.Nat.{_+_, _-_, _≤_}
-use mathlib.Core.Path.{_≡_, refl, sym, ap, _∙_}
-use mathlib.Core.Bool.{false}
+-- the vector does not keep its gaps. Assumes nothing.
+use Prim.Native.Nat.{ℕ, suc, _+_, _-_, _≤_}
+use mathlib.Core.Path.{_≡_, refl, sym, ap, subst, _∙_}
 use mathlib.Core.List.{List}
 use native.Mathlib.Omega.{arith}
 use borrow.Author.Needs.{needs}
-use lib.IntN.{ℤ}
-use lib.ListN.{length}
+use lib.IntN.{ℤ, pos, _-ℤ_}
+use lib.ListN.{length, replicate}
 use mir.Syntax.{w32}
 use mir.Val.{SFits, toZ, ofZ}
 use mir.Facts.{toZ-ofZ}
+use Rattle.ints.proofs.Sums.{up-diff, down-diff}
+use Rattle.ints.proofs.Widths.{parts-fit}
 use Rattle.spectrum.proofs.FirstSmallest.{after}
-use Rattle.spectrum.proofs.Kept.{length-move}
+use Rattle.spectrum.proofs.Kept.{good-total, length-move}
 use Rattle.spectrum.proofs.MoveBounds.{place-most}
-use Rattle.spectrum.specs.Distances.{place}
-use Rattle.spectrum.specs.Stabilising.{run, stabilise, kept16}
-use Rattle.nlsf_stabilize_stays.specs.Inner.{stays}
-use Rattle.nlsf_stabilize_search.proofs.DiffLaws.{placed}
-use Rattle.nlsf_stabilize_search.specs.Inner.{smallestKey}
-use Rattle.nlsf_stabilize_move.specs.Inner.{MoveOk}
-use Rattle.nlsf_stabilize.proofs.RunLaws.{keep-ok, run-start, run-stop, run-on, run-out, stays-keeps}
+use Rattle.spectrum.specs.Distances.{place, move}
+use Rattle.spectrum.specs.Stabilising.{run, stabilise}
+use Rattle.spectrum.specs.Values.{top, total}
+use Rattle.nlsf_stabilize_search.specs.Inner.{Searched, UpTo, Falls}
+use Rattle.nlsf_stabilize_slack.proofs.HeldLaws.{slack-near, as-long}
+use Rattle.nlsf_stabilize_slack.specs.Inner.{Held}
+use Rattle.nlsf_stabilize.proofs.RunLaws.{Turn, run-start, run-stop, run-on, run-out, stays-keeps}
+use Rattle.nlsf_stabilize.proofs.StepLaws.{rises-keeps, falls-not, place-found, kept-stored, stored-fallback}
 use Rattle.nlsf_stabilize.proofs.stabilise_run.Statement.{statement}
 use Rattle.nlsf_stabilize.proofs.stabilise_run.Tie as tie
 
 abbrev Inv-loop : tie.InvT-loop
-Inv-loop v₀ g sum m₀ v m =
-    (m ≤ 20) × ((length v ≡ length v₀) × ((after m (run kept16 (20 - m) g v) ≡ stabilise kept16 g v₀) × (stays g v ≡ false)))
+Inv-loop v₀ g sum w₀ s m₀ v w m = (m ≤ 20) × ((length v ≡ length v₀) × Turn g v₀ v w s m)
 
 abbrev μ-loop : tie.MeasureT-loop
-μ-loop v₀ g sum m₀ v m = 20 - m
+μ-loop v₀ g sum w₀ s m₀ v w m = 20 - m
+
+-- ---- the start
+
+-- what the gaps leave of 32,768
+room-is : (c : tie.Start Inv-loop μ-loop) → pos 32768 -ℤ toZ w32 (ofZ w32 (c .args .sum)) ≡ top -ℤ total (c .args .g .now)
+room-is c = rw (toZ-ofZ (c .fits .sum)) (ap (λ (z : ℤ). top -ℤ z) (c .pre .0 .1))
+
+room-fits : (c : tie.Start Inv-loop μ-loop) → SFits w32 (top -ℤ total (c .args .g .now))
+room-fits c =
+    let g = c .args .g .now in
+    let r = c .pre .0 .0 .rule in
+    let t = good-total g (r .good) in
+    parts-fit (top -ℤ total g) (omega (arith, up-diff top (total g))) (omega (arith, down-diff top (total g), t .0, r .most))
+
+sub-w : tie.Need-sub-w Inv-loop μ-loop
+sub-w c = rw (room-is c) (room-fits c)
+
+slacks-run-requires : tie.Need-slacks-run-requires Inv-loop μ-loop
+slacks-run-requires c κs =
+    let s = c .before .before .before in
+    let r = s .pre .0 .0 in
+    let e = ap (λ (z : ℤ). toZ w32 (ofZ w32 z)) (room-is s) ∙ toZ-ofZ (room-fits s) in
+    ((ap (replicate 18) e, refl), ((r .rule, r .long), (r .some, r .few)))
 
 loop-holds : tie.Need-loop-holds Inv-loop μ-loop
-loop-holds c = (omega arith, (refl, (run-start (c .args .g .now) (c .args .v .now), c .pre .1)))
-
--- the gaps, and the vector handed in, from the loop
-abbrev gaps : tie.At-loop Inv-loop μ-loop → List ℤ
-gaps b = b .before .args .g .now
-
-abbrev given : tie.At-loop Inv-loop μ-loop → List ℤ
-given b = b .before .args .v .now
-
--- a turn's start behind the search, the search behind the place, the place behind the move
-abbrev turn : tie.After-smallest-run Inv-loop μ-loop → tie.At-loop Inv-loop μ-loop
-turn c = c .before .before .before
-
-abbrev searched : tie.After-place-of-run Inv-loop μ-loop → tie.After-smallest-run Inv-loop μ-loop
-searched c = c .before .before .before
-
-abbrev picked : tie.After-move-at-run Inv-loop μ-loop → tie.After-place-of-run Inv-loop μ-loop
-picked c = c .before .before
-
--- the loop's vector is what a move asks
-asked : (b : tie.At-loop Inv-loop μ-loop) → MoveOk (gaps b) (b .loop .v) 0
-asked b = keep-ok (gaps b) (given b) (b .loop .v) 0 0 (b .before .pre .0 .0) (b .loop .inv .1 .0) (omega arith)
-
--- its smallest key, and the place of that, one of 0 to the order
-key-is : (c : tie.After-smallest-run Inv-loop μ-loop) → let b = turn c in
-    toZ w32 (ofZ w32 (c .smallest-run .result .key)) ≡ smallestKey (gaps b) (b .loop .v)
-key-is c = let f : SFits w32 (c .smallest-run .result .key) = search needs in toZ-ofZ {w = w32} f ∙ c .smallest-run .ensures .0
-
-inside : (b : tie.At-loop Inv-loop μ-loop) → place (gaps b) (b .loop .v) ≤ length (b .loop .v)
-inside b = place-most (b .loop .v) (gaps b) (asked b .long)
-
-place-is : (c : tie.After-place-of-run Inv-loop μ-loop) → let b = turn (searched c) in c .place-of-run .result ≡ place (gaps b) (b .loop .v)
-place-is c =
-    let t = searched c in
-    let b = turn t in
-    placed (gaps b) (b .loop .v) (toZ w32 (ofZ w32 (t .smallest-run .result .key))) (key-is t) (omega (arith, inside b, asked b .few))
-    (c .place-of-run .result) (c .place-of-run .ensures)
-
-smallest-run-requires : tie.Need-smallest-run-requires Inv-loop μ-loop
-smallest-run-requires c κs = let o = asked (c .before .before) in (o .some, (o .long, o .few))
-
-move-at-run-requires : tie.Need-move-at-run-requires Inv-loop μ-loop
-move-at-run-requires c κs =
-    let t = searched (c .before) in
-    let b = turn t in
-    let f : SFits w32 (t .smallest-run .result .before) = search needs in
-    rw (toZ-ofZ (b .before .fits .sum), toZ-ofZ f, place-is (c .before)) (
-      keep-ok (gaps b) (b .loop .v) (b .loop .v) 0 (place (gaps b) (b .loop .v)) (asked b) refl (inside b),
-      (b .before .pre .0 .1, t .smallest-run .ensures .1),
-    )
-
--- behind the move: the vector is again what a move asks, as long as before, and the rest of the run with one more move is the whole answer
-moved : (c : tie.After-move-at-run Inv-loop μ-loop) → let b = turn (searched (picked c)) in
-    let w = c .move-at-run .last .0 in
-    let m = b .loop .m + 1 in
-    MoveOk (gaps b) w 0 × ((length w ≡ length (given b)) × (after m (run kept16 (20 - m) (gaps b) w) ≡ stabilise kept16 (gaps b) (given b)))
-moved c =
-    let q = picked c in
-    let t = searched q .before .before in
-    let b = t .before in
-    let g = gaps b in
-    let v = b .loop .v in
-    let w = c .move-at-run .last .0 in
-    let i = q .place-of-run .result in
-    let l = ap length (c .move-at-run .ensures) ∙ length-move kept16 g v i in (
-      keep-ok g v w 0 0 (asked b) l (omega arith),
+loop-holds c =
+    let s = c .before .before .before .before in
+    let g = s .args .g .now in
+    let v = s .args .v .now in (
+      omega arith,
       (
-        l ∙ b .loop .inv .1 .0,
-        run-on g v w i (b .loop .m) (stabilise kept16 g (given b)) (t .loop-test .taken)
-            (sym (stays-keeps g v (asked b)) ∙ b .loop .inv .1 .1 .1) (place-is q) (c .move-at-run .ensures) (b .loop .inv .1 .1 .0),
+        refl,
+        record {
+          values = v;
+          held = c .slacks-run .ensures;
+          rest = run-start g v;
+          broken = sym (stays-keeps g v (s .pre .0 .0)) ∙ s .pre .1;
+        },
       ),
     )
 
+-- ---- the loop: the gaps, the vector handed in, the sums of the gaps, and what holds before a turn
+
+abbrev gaps : tie.At-loop Inv-loop μ-loop → List ℤ
+gaps b = b .before .before .before .before .before .args .g .now
+
+abbrev given : tie.At-loop Inv-loop μ-loop → List ℤ
+given b = b .before .before .before .before .before .args .v .now
+
+abbrev sums : tie.At-loop Inv-loop μ-loop → List ℤ
+sums b = b .before .slacks-run .last .1 .0
+
+turn : (b : tie.At-loop Inv-loop μ-loop) → Turn (gaps b) (given b) (b .loop .v) (b .loop .w) (sums b) (b .loop .m)
+turn b = b .loop .inv .1 .1
+
+many : (b : tie.At-loop Inv-loop μ-loop) → length (b .loop .v) ≡ length (turn b .values)
+many b = as-long _ _ _ _ _ (turn b .held)
+
+place-run-requires : tie.Need-place-run-requires Inv-loop μ-loop
+place-run-requires c κs =
+    let b = c .before .before in
+    let h = turn b .held in ((h .slacks, omega (arith, many b, h .few)), slack-near _ _ _ _ _ h)
+
+-- the search, from the loop, and the place that it finds
+abbrev searched : tie.After-place-run Inv-loop μ-loop → tie.At-loop Inv-loop μ-loop
+searched c = c .before .before .before
+
+place-is : (c : tie.After-place-run Inv-loop μ-loop) → let b = searched c in c .place-run .result ≡ place (gaps b) (turn b .values)
+place-is c =
+    let b = searched c in
+    let i = c .place-run .result in
+    place-found _ _ _ _ _ (turn b .held) i (turn b .broken)
+    (subst (λ (n : ℕ). Searched (b .loop .w) n i) (many b) (c .place-run .ensures))
+
+move-at-run-requires : tie.Need-move-at-run-requires Inv-loop μ-loop
+move-at-run-requires c κs =
+    let d = c .before .before .before in
+    let b = searched d in
+    let t = turn b in
+    (record { values = t .values; held = t .held }, omega (arith, place-is d, many b, place-most (t .values) (gaps b) (t .held .long)))
+
+-- ---- behind the move
+
+abbrev found : tie.After-move-at-run Inv-loop μ-loop → tie.After-place-run Inv-loop μ-loop
+found c = c .before .before .before .before
+
+-- the values then
+abbrev new : tie.After-move-at-run Inv-loop μ-loop → List ℤ
+new c = let b = searched (found c) in move (gaps b) (turn b .values) (found c .place-run .result)
+
+moved : (c : tie.After-move-at-run Inv-loop μ-loop) → let b = searched (found c) in
+    Held (gaps b) (new c) (c .move-at-run .last .0) (c .move-at-run .last .1 .0) (sums b)
+moved c = let t = turn (searched (found c)) in c .move-at-run .ensures (t .values) (t .held)
+
+-- with one more move, the rest of the run is the whole answer
+on : (c : tie.After-move-at-run Inv-loop μ-loop) → let b = searched (found c) in let m = b .loop .m + 1 in
+    after m (run (20 - m) (gaps b) (new c)) ≡ stabilise (gaps b) (given b)
+on c =
+    let b = searched (found c) in
+    let t = turn b in
+    run-on (gaps b) (t .values) (found c .place-run .result) (b .loop .m) (stabilise (gaps b) (given b))
+    (found c .before .before .loop-test .taken) (t .broken) (place-is (found c)) (t .rest)
+
+as-given : (c : tie.After-move-at-run Inv-loop μ-loop) → length (c .move-at-run .last .0) ≡ length (given (searched (found c)))
+as-given c =
+    let b = searched (found c) in
+    let t = turn b in
+    as-long _ _ _ _ _ (moved c) ∙ length-move (gaps b) (t .values) (found c .place-run .result) ∙ sym (many b) ∙ b .loop .inv .1 .0
+
+rises-run-requires : tie.Need-rises-run-requires Inv-loop μ-loop
+rises-run-requires c κs =
+    let d = c .before .before in
+    let h = moved d in (h .slacks, omega (arith, as-long _ _ _ _ _ h, h .few))
+
 -- the move, behind the test that follows it
-abbrev mended : tie.After-stays-run Inv-loop μ-loop → tie.After-move-at-run Inv-loop μ-loop
+abbrev mended : tie.After-rises-run Inv-loop μ-loop → tie.After-move-at-run Inv-loop μ-loop
 mended c = c .before .before .before
 
 same-length : tie.Need-same-length Inv-loop μ-loop
-same-length c = moved (mended (c .before)) .1 .0
+same-length c = as-given (mended (c .before))
 
 returns : tie.Need-returns Inv-loop μ-loop
 returns c =
     let d = mended (c .before) in
-    let b = turn (searched (picked d)) in
-    let w = d .move-at-run .last .0 in
-    let o = moved d in
-    run-stop (gaps b) w (b .loop .m + 1) (stabilise kept16 (gaps b) (given b)) (o .0)
-    (sym (stays-keeps (gaps b) w (o .0)) ∙ sym (c .before .stays-run .ensures) ∙ c .if1 .taken)
-    (o .1 .1)
+    let b = searched (found d) in
+    let h = moved d in
+    let n = as-long _ _ _ _ _ h in
+    let up = subst (λ (j : ℕ). UpTo (suc j) (d .move-at-run .last .1 .0)) n (c .before .rises-run .ensures .0 (c .if1 .taken)) in
+    let k = rises-keeps _ _ _ _ _ h up in
+    ap (λ (l : List ℤ). record { vector = l; moves = b .loop .m + 1 }) (kept-stored _ _ _ _ _ h k)
+    ∙ run-stop (gaps b) (new d) (b .loop .m + 1) (stabilise (gaps b) (given b)) (h .long) (h .rule .good) k (on d)
 
 loop-again : tie.Need-loop-again Inv-loop μ-loop
 loop-again c =
-    let o = moved (mended (c .before)) in
-    (omega arith, (o .1 .0, (o .1 .1, sym (c .before .stays-run .ensures) ∙ c .if1 .left)))
+    let d = mended (c .before) in
+    let h = moved d in
+    let n = as-long _ _ _ _ _ h in
+    let down = subst (λ (j : ℕ). Falls (suc j) (d .move-at-run .last .1 .0)) n (c .before .rises-run .ensures .1 (c .if1 .left)) in
+    (omega arith, (as-given d, record { values = new d; held = h; rest = on d; broken = falls-not _ _ _ _ _ h down }))
+
+-- ---- behind the loop
 
 fall-back-run-requires : tie.Need-fall-back-run-requires Inv-loop μ-loop
-fall-back-run-requires c κs = let o = asked (c .before .before) in (o .some, (o .long, o .rule))
+fall-back-run-requires c κs =
+    let b = c .before .before in
+    let h = turn b .held in (omega (arith, many b, h .some), (h .long ∙ ap suc (sym (many b)), h .rule))
 
--- the loop, behind the fallback
 abbrev left : tie.After-fall-back-run Inv-loop μ-loop → tie.At-loop Inv-loop μ-loop
 left c = c .before .before .before
 
@@ -140,8 +187,9 @@ same-length-2 c = c .before .fall-back-run .kept .0 ∙ left (c .before) .loop .
 returns-2 : tie.Need-returns-2 Inv-loop μ-loop
 returns-2 c =
     let b = left (c .before) in
-    run-out (gaps b) (b .loop .v) (c .before .fall-back-run .last .0) (b .loop .m) (stabilise kept16 (gaps b) (given b)) (omega arith)
-    (c .before .fall-back-run .ensures) (b .loop .inv .1 .1 .0)
+    let t = turn b in
+    run-out (gaps b) (t .values) (c .before .fall-back-run .last .0) (b .loop .m) (stabilise (gaps b) (given b)) (omega arith)
+    (c .before .fall-back-run .ensures ∙ stored-fallback _ _ _ _ _ (t .held)) (t .rest)
 
 pub stabilise-run-spec : {M : Type 1} → statement M
 stabilise-run-spec =
@@ -149,12 +197,13 @@ stabilise-run-spec =
     (tie.spec
     Inv-loop
     μ-loop
+    sub-w
+    slacks-run-requires
     loop-holds
-    smallest-run-requires
-    (λ c κs. search needs)
+    place-run-requires
     move-at-run-requires
     (λ c. search needs)
-    (λ c κs. moved (c .before .before) .0 .long)
+    rises-run-requires
     same-length
     returns
     (λ c. omega arith)
