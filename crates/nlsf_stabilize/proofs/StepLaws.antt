@@ -2,12 +2,11 @@
 use Prim.Native.Nat.{ℕ, suc, _+_, _≤_, _<_, suc-le-suc}
 use mathlib.Core.Path.{_≡_, refl, sym, ap, _∙_}
 use mathlib.Core.Bool.{Bool, true, false}
-use mathlib.Core.List.{List, _∷_}
+use mathlib.Core.List.{List}
 use native.Mathlib.Omega.{arith}
 use lib.IntN.{ℤ, pos, _+ℤ_, _-ℤ_}
 use lib.Signed.{leZ}
-use lib.ListN.{length, take, List·getD-eq-default}
-use lib.Seq.{take-all}
+use lib.ListN.{length, take}
 use Rattle.deciding.proofs.Choice.{by-lt}
 use Rattle.ints.proofs.Order.{parts-same, leZ-true, leZ-false}
 use Rattle.ints.proofs.Sums.{sum-parts, diff-parts}
@@ -21,8 +20,9 @@ use Rattle.spectrum.proofs.SumLaws.{sum-next}
 use Rattle.spectrum.specs.Distances.{diffs, least, keeps, place}
 use Rattle.spectrum.specs.Fallback.{fallback}
 use Rattle.spectrum.specs.Inner.{_≼_, step}
-use Rattle.spectrum.specs.Values.{at, top, total}
+use Rattle.spectrum.specs.Values.{at, total}
 use Rattle.nlsf_stabilize_search.specs.Inner.{Searched, UpTo, Falls}
+use Rattle.nlsf_stabilize_slack.proofs.HeldLaws.{room-is}
 use Rattle.nlsf_stabilize_slack.specs.Inner.{bounded, Held}
 
 module _ (g u v w s : List ℤ) (h : Held g u v w s) where
@@ -59,18 +59,12 @@ module _ (g u v w s : List ℤ) (h : Held g u v w s) where
       ))
       ∙ sym (diff-at (pos 0) u g i (h .long) p)
 
-  at-end : (j : ℕ) → length u < j → j < 18 → at w j +ℤ total g ≡ top
-  at-end j p l =
-      ap (λ (k : List ℤ). at w j +ℤ total k) (sym (take-all j g (omega (arith, h .long))))
-      ∙ h .above j l
-      ∙ List·getD-eq-default (pos 0 ∷ u) top {n = j} (omega arith)
-
   flat : (i : ℕ) → length u < i → i < 17 → pos 0 ≼ step w i
   flat i p l =
       let x = at w i in
       let y = at w (suc i) in
-      let e = at-end i p (omega arith) in
-      let f = at-end (suc i) (omega arith) (omega arith) in
+      let e = room-is g u v w s h i p (omega arith) in
+      let f = room-is g u v w s h (suc i) (omega arith) (omega arith) in
       omega (arith, diff-parts y x, sum-parts x (total g), sum-parts y (total g), ap up e, ap down e, ap up f, ap down f)
 
   -- the smallest difference

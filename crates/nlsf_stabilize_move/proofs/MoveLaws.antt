@@ -74,6 +74,10 @@ module _ (g u v w s : List ℤ) (h : Held g u v w s) where
 
   -- ---- the last
 
+  -- what stands in the last place of all
+  room : at w 17 +ℤ total g ≡ top
+  room = room-is g u v w s h 17 (omega (arith, h .few)) (omega arith)
+
   last-sum : (i : ℕ) → i ≡ length u → at w 17 +ℤ total (take i g) ≡ top -ℤ at g i
   unfolding total
   last-sum i e =
@@ -83,7 +87,7 @@ module _ (g u v w s : List ℤ) (h : Held g u v w s) where
       let none : drop (suc i) g ≡ [] = drop-of-length-le g {i = suc i} (omega (arith, h .long)) in
       let all : total g ≡ t +ℤ x +ℤ pos 0 =
       sum-split g i (omega (arith, h .long)) ∙ ap (λ (l : List ℤ). t +ℤ x +ℤ total l) none in
-      let q : r +ℤ (t +ℤ x +ℤ pos 0) ≡ top = ap (λ (z : ℤ). r +ℤ z) (sym all) ∙ room-is g u v w s h in
+      let q : r +ℤ (t +ℤ x +ℤ pos 0) ≡ top = ap (λ (z : ℤ). r +ℤ z) (sym all) ∙ room in
       parts-same (r +ℤ t) (top -ℤ x) (omega (
         arith,
         sum-parts r t,
@@ -127,12 +131,12 @@ module _ (g u v w s : List ℤ) (h : Held g u v w s) where
     low-sum : m +ℤ total (take (suc j) g) ≡ low
     low-sum =
         low-is g (suc j) (at u j) (at u (suc j)) (at w (suc j)) (at w (suc (suc j))) (at w 17) (omega (arith, h .long))
-        (room-is g u v w s h) (value-is g u v w s h j (omega arith)) (value-is g u v w s h (suc j) p)
+        room (value-is g u v w s h j (omega arith)) (value-is g u v w s h (suc j) p)
 
     high-sum : m +ℤ total (take (suc (suc j)) g) ≡ high
     high-sum =
         high-is g (suc j) (at u j) (at u (suc j)) (at w (suc j)) (at w (suc (suc j))) (at w 17) (omega (arith, h .long))
-        (room-is g u v w s h) (value-is g u v w s h j (omega arith)) (value-is g u v w s h (suc j) p)
+        room (value-is g u v w s h j (omega arith)) (value-is g u v w s h (suc j) p)
 
     pair-bounds : Stored g (suc j) (at u j) (at u (suc j))
     pair-bounds =

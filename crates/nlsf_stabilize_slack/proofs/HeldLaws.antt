@@ -4,6 +4,7 @@ use mathlib.Core.Path.{_≡_, refl, sym, ap, subst, _∙_}
 use mathlib.Core.List.{List, [], _∷_, map}
 use mathlib.Core.Logic.{_≢_}
 use native.Mathlib.Omega.{arith}
+use native.Mathlib.Nat.{not-suc-le-zero, le-of-suc-le-suc}
 use lib.IntN.{ℤ, pos, _+ℤ_}
 use lib.ListN.{length, getD, take, set, length-map, List·getD-eq-default}
 use lib.Seq.{take-all, take-nil, getD-set-same, getD-set-other}
@@ -30,6 +31,13 @@ taken (a ∷ (b ∷ g)) r (suc j) =
     let x = total (take j (b ∷ g)) in
     let y = total (b ∷ g) in
     (omega (arith, down-sum a x, t .0, r .0), omega (arith, up-sum a x, up-sum a y, t, s .0, r .0))
+
+-- ---- places
+
+pub inside : (u : List ℤ) (i : ℕ) → i < length u → bounded u (suc i) ≡ at u i
+inside [] i h = absurd (not-suc-le-zero h)
+inside (x ∷ u) zero h = refl
+inside (x ∷ u) (suc i) h = inside u i (le-of-suc-le-suc h)
 
 -- ---- where the numbers lie
 
@@ -61,20 +69,15 @@ module _ (g u v w s : List ℤ) (h : Held g u v w s) where
           let e : at w j ≡ pos 0 = List·getD-eq-default w (pos 0) {n = j} (omega (arith, h .slacks)) in
           subst (Mag 65536) (sym e) (omega arith, omega arith)
 
-  -- the room behind the last value
-  pub room-is : at w 17 +ℤ total g ≡ top
-  room-is =
-      ap (λ (l : List ℤ). at w 17 +ℤ total l) (sym (take-all 17 g (omega (arith, h .long, h .few))))
-      ∙ h .above 17 (omega arith)
-      ∙ List·getD-eq-default (pos 0 ∷ u) top {n = 17} (omega (arith, h .few))
+  -- what the gaps leave stands in every place behind the last value
+  pub room-is : (j : ℕ) → length u < j → j < 18 → at w j +ℤ total g ≡ top
+  room-is j p l =
+      ap (λ (k : List ℤ). at w j +ℤ total k) (sym (take-all j g (omega (arith, h .long))))
+      ∙ h .above j l
+      ∙ List·getD-eq-default (pos 0 ∷ u) top {n = j} (omega arith)
 
   pub value-is : (i : ℕ) → i < length u → at w (suc i) +ℤ total (take (suc i) g) ≡ at u i
-  value-is i l = h .above (suc i) (omega (arith, h .few)) ∙ same u i l
-    where
-      same : (l : List ℤ) (i : ℕ) → i < length l → getD l i top ≡ at l i
-      same [] i k = absurd (omega arith)
-      same (x ∷ l) zero k = refl
-      same (x ∷ l) (suc i) k = same l i (omega arith)
+  value-is i l = h .above (suc i) (omega (arith, h .few)) ∙ inside u i l
 
   pub as-long : length v ≡ length u
   as-long = ap length (h .stored) ∙ length-map u capped

@@ -2,10 +2,10 @@
 -- Assumes nothing.
 use Prim.Native.Nat.{ℕ, zero, suc, _+_, _≤_, _<_}
 use mathlib.Core.Path.{_≡_, refl, sym, ap, ap₂, subst, _∙_}
-use mathlib.Core.List.{List, [], _∷_}
+use mathlib.Core.List.{List, _∷_}
 use mathlib.Core.Logic.{_≢_, ⊎-elim}
 use native.Mathlib.Omega.{arith}
-use native.Mathlib.Nat.{not-suc-le-zero, eq-or-lt-of-le, le-of-suc-le-suc}
+use native.Mathlib.Nat.{not-suc-le-zero, eq-or-lt-of-le}
 use native.Mathlib.Numerals.{add-one}
 use lib.IntN.{ℤ, pos, _+ℤ_, _-ℤ_, -ℤ-+ℤ-cancel}
 use lib.ListN.{length, take, set, replicate, length-set, getD-replicate, List·getD-eq-default}
@@ -21,6 +21,7 @@ use Rattle.spectrum.proofs.MoveBounds.{cut}
 use Rattle.spectrum.proofs.SumLaws.{sum-more}
 use Rattle.spectrum.specs.Gaps.{Ruled}
 use Rattle.spectrum.specs.Values.{at, top, total, Within}
+use Rattle.nlsf_stabilize_slack.proofs.HeldLaws.{inside}
 use Rattle.nlsf_stabilize_slack.specs.Inner.{bounded, Held}
 
 -- i values passed: up to place i the slacks and the sums stand, behind it w is still what the gaps leave
@@ -57,11 +58,6 @@ slack-fits x z f n =
     parts-fit (x -ℤ z) (omega (arith, up-diff x z, n .none, fits-up x f)) (omega (arith, down-diff x z, n .most, fits-down x f))
 
 -- ---- places
-
-inside : (v : List ℤ) (i : ℕ) → i < length v → bounded v (suc i) ≡ at v i
-inside [] i h = absurd (not-suc-le-zero h)
-inside (x ∷ v) zero h = refl
-inside (x ∷ v) (suc i) h = inside v i (le-of-suc-le-suc h)
 
 pub filled-start : (g v w s : List ℤ) → w ≡ replicate 18 (top -ℤ total g) → s ≡ replicate 18 (pos 0) → Filled g v (set w 0 (pos 0)) s 0
 unfolding total
