@@ -73,6 +73,10 @@ moveCases =
     stabilises (pos 0 ∷ pos 1 ∷ pos 1 ∷ []) (pos 32767 ∷ pos 32767 ∷ []) (pos 32766 ∷ pos 32767 ∷ []) 20 ∷
     crateStabilises (pos 0 ∷ pos 1 ∷ pos 1 ∷ []) (pos 32767 ∷ pos 32767 ∷ []) (pos 0 ∷ pos 1 ∷ []) 2 ∷
     crateStabilises (pos 0 ∷ pos 3 ∷ pos 1 ∷ []) (pos 32767 ∷ pos 32767 ∷ []) (pos 0 ∷ pos 3 ∷ []) 2 ∷
+    -- the crate's stores and its fallback
+    crateStabilises (pos 0 ∷ pos 1 ∷ pos 32765 ∷ pos 1 ∷ []) (pos 2 ∷ pos 1 ∷ pos 32766 ∷ []) (pos 0 ∷ pos 2 ∷ pos 32767 ∷ []) 20 ∷
+    crateStabilises (pos 0 ∷ pos 1 ∷ pos 1 ∷ pos 1 ∷ []) (pos 32766 ∷ pos 32765 ∷ pos 32765 ∷ [])
+    (pos 10930 ∷ pos 10931 ∷ pos 10932 ∷ []) 20 ∷
     -- a store that saturates would count 2
     stabilises (pos 0 ∷ pos 0 ∷ pos 3 ∷ pos 1 ∷ []) (pos 32767 ∷ pos 32767 ∷ pos 32767 ∷ [])
     (pos 32764 ∷ pos 32764 ∷ pos 32767 ∷ []) 3 ∷
@@ -117,6 +121,6 @@ unfolding AllHold moveCases gapCases decodeCases stabiliseCall decodeCall answer
     nudged stabilise run fallback lowered raised climb sorted insert move newHigh newLow centre upper lower place keeps
     firstLeast least diffs total held minZ maxZ stabilise16 run16 move16 high16 low16 wrap16
 cases-hold = (
-  (refl, (refl, (refl, (refl, (refl, (refl, (refl, (refl, (refl, (refl, (refl, tt))))))))))),
+  (refl, (refl, (refl, (refl, (refl, (refl, (refl, (refl, (refl, (refl, (refl, (refl, (refl, tt))))))))))))),
   ((refl, (refl, (refl, (refl, tt)))), (refl, (refl, (refl, (refl, tt))))),
 )
