@@ -162,12 +162,14 @@ typedef struct {
 } tg_moves;
 
 /* The line spectrum of the indices, stabilised: n is 10 at 8 and 12 kHz, 16 at 16 kHz; whatever the
- * vector held does not matter. moves is 0 to 20. Refusals 4 (a rate, a first index outside 0 to 31,
- * another outside -10 to 10) and 6 (n); a refusal leaves the vector as it is. */
+ * vector held does not matter. moves is 0 to 20. The values rise and never touch: docs/HERTZ.md has
+ * their least distances. Refusals 4 (a rate, a first index outside 0 to 31, another outside -10 to 10)
+ * and 6 (n); a refusal leaves the vector as it is. */
 tg_moves tg_nlsf_decode(int16_t *vector, size_t n, tg_spectrum indices, uint32_t khz);
 
 /* A vector of n values, 2 to 16, made to keep its m = n + 1 least gaps in 0 to 32,768: at most 20
  * moves, in whole numbers, then the fallback of RFC 6716, section 4.2.7.5.4 (RFC 8251, section 7).
+ * Every gap is then kept; moves is 0 exactly for a vector that kept them, and leaves it as it is.
  * Refusals 6 (lengths) and 7 (a gap below 0, a last gap of 0, more than 32,768 together); a refusal
  * leaves the vector as it is. */
 tg_moves tg_nlsf_stabilise(int16_t *vector, size_t n, const int16_t *gaps, size_t m);

@@ -151,13 +151,15 @@ class Project:
         return ''
 
     def ordered_files(self):
-        """The files of specs/, rooms and files in the order in which crates.txt and each Lib.antt list them."""
-        rooms = re.findall(r'^(\w+):', (self.top / 'crates.txt').read_text(), re.M)
-        for room in rooms:
-            lib = self.top / f'crates/{room}/specs/Lib.antt'
-            names = re.findall(r'^pub mod (\w+)', lib.read_text(), re.M) if lib.exists() else []
-            for name in names:
-                yield room, f'crates/{room}/specs/{name}.antt'
+        """The files of specs/: rooms in the order of crates.txt, files as Lib.antt lists them, and behind a file those that it lists."""
+        def listed(file, folder):
+            for name in re.findall(r'^pub mod (\w+)', file.read_text('utf-8'), re.M) if file.exists() else []:
+                inner = folder / f'{name}.antt'
+                yield str(inner.relative_to(self.top))
+                yield from listed(inner, folder / name)
+        for room in re.findall(r'^(\w+):', (self.top / 'crates.txt').read_text(), re.M):
+            specs = self.top / f'crates/{room}/specs'
+            yield from ((room, file) for file in listed(specs / 'Lib.antt', specs))
 
     def document(self):
         roots = self.roots()

@@ -6,7 +6,7 @@ the edit, the kind of the error and what differs.
   value     two terms differ in a number, a field or an argument
   bound     an inequality or a sum of numbers does not follow
   equation  the two ends of what is left to prove are not equal
-  search    a search that ends without a proof of what the function ensures
+  search    a search that ends without a proof of what the function ensures, or of what a call in it requires
 
 Fails on any other kind (a name, a type, another relation, a place that a rewriting no longer finds), on an edit without a log, on an
 edit that docs/PROMISES.md does not name, on a name there that is no edit, room or function, and where docs/EDITS.md is stale in its
@@ -22,6 +22,7 @@ GOOD = 'value', 'bound', 'equation', 'search'
 # What another relation, test or type in a term's place is called.
 SHAPES = {'_≡_', '_≤_', '_<_', 'Path', 'isEq', 'isLe', 'isLt', 'eqb', 'leb', 'ltb', 'eqZ', 'leZ', 'ltZ', 'ℕ', 'ℤ', 'Bool', 'List'}
 BROKEN = re.compile(r'no occurrence of|has no field|that can be named from here|not in scope|is applied to an argument|a dimension')
+ASKED = re.compile(r'`search`: no proof of `\S+\.Reads\.Asked ')
 OPEN = re.compile(r'it is not proved that (.*?)(?: \(|$)', re.M)
 SIDES = r'where one has `(?P<{0}>[^`]*)`\s*\((?:expected|left)\).*?the other has `(?P<{1}>[^`]*)`\s*\((?:found|right)\)'
 COMPUTED = re.compile(r'computed as far as they go, the two (?:types|sides) (?:(?:differ only|first differ) ' + SIDES.format('a', 'b') +
@@ -105,7 +106,7 @@ def kind(error):
     if left and 'ensures' not in left[1]:
         return 'bound', left[1]
     if left or '`search`: no proof of' in error:
-        return 'search', 'what the function ensures'
+        return 'search', 'what a call requires' if ASKED.search(error) else 'what the function ensures'
     if 'must be a path whose two ends are equal' in error or '`cc` met a bound' in error:
         return 'equation', 'what is left of the contract'
     found = sides(error)

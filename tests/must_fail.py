@@ -2,9 +2,9 @@
 """Tries every must-fail edit (crates/ROOM/must-fail/EDIT.edit) on a copy of its room; the prover must refuse each.
 
 The same edits, copies and logs (target/must-fail/ROOM/EDIT) as `rt must-fail`, which proves a room anew for each edit. Here an edit's
-check begins with what the room's own proof has left in its library: what the edit does not reach is loaded, the rest is checked. The
-rooms have to be proved before (`rt prove`, `rt check`). A module that is loaded could only hide an error, and an edit that is not refused
-fails; so nothing passes here that `rt must-fail` would let survive.
+check begins with what the room's own proof has left in its library: what the edit does not reach is loaded, the rest is checked. (A
+program has no library and is checked from nothing.) The rooms have to be proved before (`rt prove`, `rt check`). A module that is loaded
+could only hide an error, and an edit that is not refused fails; so nothing passes here that `rt must-fail` would let survive.
 
 Prints a line for each edit that says where it is refused, and last how many were. Fails on an edit that is not refused, does not apply
 or does not reach the prover. With --until the rooms are still being proved: an edit waits for its room, but no longer than until FILE is
@@ -120,9 +120,13 @@ def tried(edit):
         return False, f'{name}: BAD EDIT: {why}'
     if not proved(room):
         return False, f'{name}: NOT TRIED: the room is not proved'
+    program = where / 'src/main.rt'
     with tempfile.TemporaryDirectory() as kept:
-        shutil.copytree(TARGET / 'rlib' / f'{room}.rlib/toolchain/checked', pathlib.Path(kept) / build_folder())
-        status, said = check(room, where / 'src/lib.rt', kept)
+        if program.exists():
+            status, said = check(room, program, kept)
+        else:
+            shutil.copytree(TARGET / 'rlib' / f'{room}.rlib/toolchain/checked', pathlib.Path(kept) / build_folder())
+            status, said = check(room, where / 'src/lib.rt', kept)
     (where / '.log').write_text(said, 'utf-8')
     took = f'{time.monotonic() - began:.0f} s'
     if status == 1 and re.search(r'^logic=not-proved', said, re.M):

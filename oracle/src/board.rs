@@ -10,6 +10,8 @@ pub const REFUSALS: usize = 12;
 pub const CRATE: &str = "crate";
 pub const LIBOPUS: &str = "libopus";
 pub const REWRITE: &str = "rewrite";
+/// With what is promised of a call, by a plain test.
+pub const PROMISE: &str = "promise";
 
 /// How the cases of one call came out.
 #[derive(Clone, Default)]

@@ -258,7 +258,7 @@ fn indices_kept(indices: &[i8; 17], khz: u32) -> bool {
 }
 
 /// "Gaps not negative, last at least 1, total at most 32,768."
-fn gaps_kept(gaps: &[i16]) -> bool {
+pub fn gaps_kept(gaps: &[i16]) -> bool {
     gaps.iter().all(|&gap| gap >= 0)
         && gaps.last().is_some_and(|&last| last >= 1)
         && gaps.iter().map(|&gap| i32::from(gap)).sum::<i32>() <= 32768

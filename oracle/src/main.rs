@@ -1,13 +1,15 @@
 //! Holds our calls and tables to the crate's and to libopus's, stabilising to whole numbers where a store
-//! of theirs leaves 16 bits, the calls on whole packets to a plain rewrite and to libopus's, and what our
-//! writer writes to reading back: what the cases were, then a table with a row for each exported call and
-//! for the crate, the rewrite and libopus, below it the first difference of each row, then the recorded
-//! answers. A difference is counted and stops nothing; status 1 where there is one, or where a way was
-//! never compared, or not as often as it must be.
+//! of theirs leaves 16 bits, what it and decoding leave to the promise that every gap is kept, the calls on
+//! whole packets to a plain rewrite and to libopus's, and what our writer writes to reading back: what the
+//! cases were, then a table with a row for each exported call and for the crate, the promise, the rewrite
+//! and libopus, below it the first difference of each row, then the recorded answers. A difference is
+//! counted and stops nothing; status 1 where there is one, or where a way was never compared, or not as
+//! often as it must be.
 //!
-//! CASES is how many cases at random each exported call has with the crate or the rewrite, ten times as
-//! many where a whole packet is read; with libopus it has as many less those that document 01 refuses.
-//! Cases at limits, along packets of every length and on broken states come besides, whatever it is.
+//! CASES is how many cases at random each exported call has with the crate or the rewrite, five times as
+//! many where a vector's gaps are tested, ten times where a whole packet is read; with libopus it has as
+//! many less those that document 01 refuses. Cases at limits, along packets of every length, on a grid of
+//! small vectors and on broken states come besides, whatever it is.
 //! SEED picks the cases. ORACLE_CASES and ORACLE_SEED stand in for them. `record` writes the recorded
 //! answers anew; `overflow`, built for debugging, holds that no accepted call overflows in the crate.
 
@@ -15,7 +17,7 @@ use oracle::board::Board;
 use oracle::hold::{Extent, Plans};
 use oracle::reader::Reading;
 use oracle::record::{self, Files};
-use oracle::spectra::Spectra;
+use oracle::spectra::{self, Spectra};
 use oracle::writer::Writing;
 use oracle::{frames, hold, packets, programs, roundtrip, tables, types};
 use std::path::{Path, PathBuf};
@@ -62,6 +64,7 @@ fn compare(cases: Option<&str>, seed: Option<&str>) -> Result<(), String> {
     to_both::<Reading>(&extent, &mut board);
     to_both::<Writing>(&extent, &mut board);
     to_both::<Spectra>(&extent, &mut board);
+    spectra::always::hold(&extent, &mut board);
     types::hold(&extent, &mut board);
     frames::hold(&extent, &mut board);
     roundtrip::hold(&extent, &mut board);

@@ -3,7 +3,6 @@ use Prim.Native.Nat.{ℕ, suc, _*_, _/_, _%_, _≤_, _<_}
 use mathlib.Core.Path.{_≡_, refl, sym, ap, ap₂, subst⁻¹, _∙_}
 use mathlib.Core.List.{List, [], map}
 use native.Mathlib.Omega.{arith}
-use borrow.Author.Tests.{eq-eqb, ne-eqb}
 use lib.Dec.{eqb}
 use lib.IntN.{ℤ, pos, negsuc, natAbs}
 use lib.ListN.{length, getD, take, drop, length-drop}
@@ -17,7 +16,7 @@ use Rattle.sheet.proofs.BooksLaws.{narrow-shaped, wide-shaped}
 use Rattle.sheet.proofs.WeightsLaws.{rises-at}
 use Rattle.tables.specs.Inner.{predictorRow}
 use Rattle.tables.proofs.PredictorRow.{predictor-row-length, predictor-row-at}
-use Rattle.spectrum.proofs.BookLaws.{Usable, gaps-long}
+use Rattle.spectrum.proofs.BookLaws.{Usable, gaps-long, narrow-of, wide-of}
 use Rattle.spectrum.proofs.CallLaws.{Accepted}
 use Rattle.spectrum.proofs.PlaceLaws.{residuals-alike}
 use Rattle.spectrum.proofs.Results.{ruled}
@@ -120,12 +119,10 @@ pub record Under (khz : ℕ) (b : Book) (n : ℕ) : Type 0 where
   pub few : n ≤ 16
 
 pub wide-under : (khz : ℕ) → khz ≡ 16 → Under khz wideBook 16
-unfolding bookOf
-wide-under khz e = record { book = rw (eq-eqb khz 16 e); order = wide-shaped .order; few = omega arith }
+wide-under khz e = record { book = wide-of khz e; order = wide-shaped .order; few = omega arith }
 
 pub narrow-under : (khz : ℕ) → (khz ≡ 16 → ⊥) → Under khz narrowBook 10
-unfolding bookOf
-narrow-under khz e = record { book = rw (ne-eqb khz 16 e); order = narrow-shaped .order; few = omega arith }
+narrow-under khz e = record { book = narrow-of khz e; order = narrow-shaped .order; few = omega arith }
 
 pub order-is : {khz n : ℕ} {b : Book} → Under khz b n → n ≡ bookOf khz .order
 order-is u = sym (ap (λ (c : Book). c .order) (u .book) ∙ u .order)

@@ -4,10 +4,12 @@ use mathlib.Core.Path.{_≡_, refl, sym, subst⁻¹, _∙_}
 use mathlib.Core.Bool.{Bool, true, _&&_}
 use mathlib.Core.List.{List, [], map}
 use native.Mathlib.Omega.{arith}
-use borrow.Author.Tests.{leb-true}
+use borrow.Author.Tests.{leb-true, eq-eqb, ne-eqb}
 use lib.Dec.{eqb, leb}
 use lib.IntN.{ℤ, pos}
 use lib.ListN.{length, getD, length-map}
+use lib.Signed.{leZ}
+use Rattle.ints.proofs.Order.{leZ-true}
 use Rattle.ints.specs.Parts.{up}
 use Rattle.deciding.proofs.Both.{and-both}
 use Rattle.deciding.proofs.Choice.{chosen}
@@ -20,6 +22,7 @@ use Rattle.spectrum.specs.Calls.{bookOf}
 use Rattle.spectrum.specs.Gaps.{goodGaps}
 use Rattle.spectrum.specs.Places.{places}
 use Rattle.spectrum.specs.Residuals.{residuals, predictorIn}
+use Rattle.spectrum.specs.Inner.{_≼_}
 use Rattle.spectrum.specs.Values.{at, total}
 
 -- a step of at most 11,796, weights above 0, and the rule of gap sets, the last gap 2 or more
@@ -99,3 +102,42 @@ places-long b u v xs h l =
 
 pub gaps-long : (b : Book) → Usable b → length (map pos (b .gaps)) ≡ suc (b .order)
 gaps-long b u = length-map (b .gaps) pos ∙ u .shaped .gaps ∙ (let e : b .order + 1 ≡ suc (b .order) = omega arith in e)
+
+-- ---- distances
+
+-- the first gap is a or more, each gap b or more, the last d or more
+pub record Spaced (a b d : ℕ) (k : Book) : Type 0 where
+  pub first : pos a ≼ at (map pos (k .gaps)) 0
+  pub each : (i : ℕ) → i < length (map pos (k .gaps)) → pos b ≼ at (map pos (k .gaps)) i
+  pub last : pos d ≼ at (map pos (k .gaps)) (k .order)
+
+abbrev spaces : ℕ → ℕ → ℕ → Book → Bool
+spaces a b d k =
+    let g = map pos (k .gaps) in leZ (pos a) (at g 0) && (leZ (pos d) (at g (k .order)) && every (leZ (pos b)) g)
+
+spaced : (a b d : ℕ) (k : Book) → spaces a b d k ≡ true → Spaced a b d k
+spaced a b d k e =
+    let g = map pos (k .gaps) in
+    let p = and-both (leZ (pos a) (at g 0)) (leZ (pos d) (at g (k .order)) && every (leZ (pos b)) g) e in
+    let q = and-both (leZ (pos d) (at g (k .order))) (every (leZ (pos b)) g) (p .1) in
+    record {
+      first = leZ-true (pos a) (at g 0) (p .0);
+      each = λ i h. leZ-true (pos b) (at g i) (every-at (leZ (pos b)) g (pos 0) (q .1) i h);
+      last = leZ-true (pos d) (at g (k .order)) (q .0);
+    }
+
+pub narrow-spaced : Spaced 250 3 461 narrowBook
+unfolding narrowBook
+narrow-spaced = spaced 250 3 461 narrowBook refl
+
+pub wide-spaced : Spaced 100 3 347 wideBook
+unfolding wideBook
+wide-spaced = spaced 100 3 347 wideBook refl
+
+pub narrow-of : (khz : ℕ) → (khz ≡ 16 → ⊥) → bookOf khz ≡ narrowBook
+unfolding bookOf
+narrow-of khz h = rw (ne-eqb khz 16 h) refl
+
+pub wide-of : (khz : ℕ) → khz ≡ 16 → bookOf khz ≡ wideBook
+unfolding bookOf
+wide-of khz h = rw (eq-eqb khz 16 h) refl

@@ -1,6 +1,6 @@
 -- What the calls' refusals say, and what a call answers by its refusal. Assumes nothing.
 use Prim.Native.Nat.{ℕ, _+_, _≤_}
-use mathlib.Core.Path.{_≡_, sym, ap, _∙_}
+use mathlib.Core.Path.{_≡_, refl, sym, ap, _∙_}
 use mathlib.Core.Bool.{true, _&&_, _||_}
 use mathlib.Core.List.{List, [], _∷_}
 use native.Mathlib.Omega.{arith}
@@ -11,7 +11,7 @@ use lib.Signed.{leZ}
 use lib.ListN.{length}
 use Rattle.ints.proofs.Order.{parts-alone, leZ-true}
 use Rattle.ints.specs.Parts.{up, down}
-use Rattle.deciding.proofs.Both.{and-both, in-range}
+use Rattle.deciding.proofs.Both.{and-both, both-and, in-range, range-in}
 use Rattle.deciding.proofs.Choice.{chosen}
 use Rattle.lists.specs.Every.{every}
 use Rattle.ranges.specs.InRange.{inRange}
@@ -44,6 +44,11 @@ lengths-are v g e =
     let r = in-range 2 16 (length v) (p .0) in
     record { least = r .0; most = r .1; one-more = eqb-true _ _ (p .1) }
 
+pub lengths-ok : (v g : List ℤ) → 2 ≤ length v → length v ≤ 16 → length g ≡ length v + 1 → lengthsOk v g ≡ true
+unfolding lengthsOk
+lengths-ok v g p q r =
+    both-and (leb 2 (length v) && leb (length v) 16) (eqb (length g) (length v + 1)) (range-in 2 16 (length v) p q) (eq-eqb _ _ r)
+
 -- accepted: the lengths and the gap set are as document 01 asks
 pub stabilise-accepted : (v g : List ℤ) → stabiliseRefusal v g ≡ 0 → (lengthsOk v g ≡ true) × (goodGaps (length v) g ≡ true)
 unfolding stabiliseRefusal
@@ -51,6 +56,10 @@ stabilise-accepted v g =
     chosen (λ (n : ℕ). n ≡ 0 → (lengthsOk v g ≡ true) × (goodGaps (length v) g ≡ true)) (lengthsOk v g)
     (λ a. chosen (λ (n : ℕ). n ≡ 0 → (lengthsOk v g ≡ true) × (goodGaps (length v) g ≡ true)) (goodGaps (length v) g) (λ b e. (a, b)) (λ b e. absurd (omega arith)))
     (λ a e. absurd (omega arith))
+
+pub stabilise-accepts : (v g : List ℤ) → lengthsOk v g ≡ true → goodGaps (length v) g ≡ true → stabiliseRefusal v g ≡ 0
+unfolding stabiliseRefusal
+stabilise-accepts v g a b = rw a (rw b refl)
 
 -- the vector that is left and the moves made are the definition's: so is the whole answer
 pub stabilise-answers : (v g w : List ℤ) (m : ℕ) → stabiliseRefusal v g ≡ 0 → record { vector = w; moves = m } ≡ stabilise g v

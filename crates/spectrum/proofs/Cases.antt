@@ -108,6 +108,15 @@ decodeCases =
     pos 10 ∷ minus 10 ∷ minus 10 ∷ pos 10 ∷ pos 10 ∷ pos 10 ∷ minus 10 ∷ [])
     (pos 100 ∷ pos 125 ∷ pos 8266 ∷ pos 8269 ∷ pos 11230 ∷ pos 12269 ∷ pos 12283 ∷ pos 13331 ∷ pos 14527 ∷ pos 15711 ∷
     pos 15722 ∷ pos 21158 ∷ pos 28669 ∷ pos 29483 ∷ pos 29490 ∷ pos 30297 ∷ []) 20 ∷
+    -- every distance that is promised of either book is met (`DecodeApart`)
+    decodes 12 (pos 23 ∷ minus 10 ∷ minus 4 ∷ pos 0 ∷ pos 0 ∷ minus 7 ∷ pos 10 ∷ minus 10 ∷ pos 10 ∷ minus 10 ∷ pos 10 ∷
+    pos 0 ∷ pos 0 ∷ pos 0 ∷ pos 0 ∷ pos 0 ∷ pos 0 ∷ [])
+    (pos 250 ∷ pos 393 ∷ pos 6589 ∷ pos 11393 ∷ pos 12590 ∷ pos 19958 ∷ pos 19962 ∷ pos 25356 ∷ pos 25359 ∷
+    pos 32307 ∷ []) 4 ∷
+    decodes 16 (pos 27 ∷ minus 10 ∷ minus 10 ∷ pos 10 ∷ pos 0 ∷ minus 10 ∷ pos 6 ∷ minus 10 ∷ pos 10 ∷ minus 2 ∷ pos 0 ∷
+    pos 10 ∷ minus 10 ∷ pos 10 ∷ pos 10 ∷ minus 10 ∷ pos 10 ∷ [])
+    (pos 100 ∷ pos 103 ∷ pos 5417 ∷ pos 5469 ∷ pos 5472 ∷ pos 11354 ∷ pos 11359 ∷ pos 18354 ∷ pos 18368 ∷
+    pos 21144 ∷ pos 23865 ∷ pos 23868 ∷ pos 29212 ∷ pos 29221 ∷ pos 29285 ∷ pos 32421 ∷ []) 20 ∷
     []
 
 -- one by one, so that a false one is refused with its own numbers
@@ -122,5 +131,5 @@ unfolding AllHold moveCases gapCases decodeCases stabiliseCall decodeCall answer
     firstLeast least diffs total held minZ maxZ stabilise16 run16 move16 high16 low16 wrap16
 cases-hold = (
   (refl, (refl, (refl, (refl, (refl, (refl, (refl, (refl, (refl, (refl, (refl, (refl, (refl, tt))))))))))))),
-  ((refl, (refl, (refl, (refl, tt)))), (refl, (refl, (refl, (refl, tt))))),
+  ((refl, (refl, (refl, (refl, tt)))), (refl, (refl, (refl, (refl, (refl, (refl, tt))))))),
 )

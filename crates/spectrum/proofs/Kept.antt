@@ -18,7 +18,7 @@ use Rattle.spectrum.specs.Distances.{diffs, least, keeps, place, newLow,
 use Rattle.spectrum.specs.Fallback.{insert, sorted, sat16, climb, raised, front, lowered, fallback}
 use Rattle.spectrum.specs.Gaps.{Good}
 use Rattle.spectrum.specs.Stabilising.{Stable, oneMore, run}
-use Rattle.spectrum.specs.Values.{at, top, maxZ, minZ, total}
+use Rattle.spectrum.specs.Values.{at, top, maxZ, total}
 use Rattle.spectrum.specs.Inner.{_≼_}
 
 unfoldable pub Kept : ℤ → List ℤ → List ℤ → Type 0
@@ -97,10 +97,10 @@ lowered-keeps : (s : ℕ) (g : ℤ) (gs : List ℤ) (v : ℤ) (vs : List ℤ) �
 unfolding lowered Above Rest Kept Good total
 lowered-keeps s g [] v [] l r a b =
     let d : down g ≡ 0 = r .0 in
-    let k : pos s ≼ v = a .0 in (
-      min-least v (top -ℤ g) (pos s) k (omega (arith, diff-parts top g, up-sum g (pos 0), down-sum g (pos 0))),
-      omega (arith, sum-parts (minZ v (top -ℤ g)) g, diff-parts top g, min-right v (top -ℤ g)),
-    )
+    let k : pos s ≼ v = a .0 in
+    let y = front [] in
+    let m = min-least v (y -ℤ g) (pos s) k (omega (arith, diff-parts y g, up-sum g (pos 0), down-sum g (pos 0))) in
+    (omega (arith, m), omega (arith, sum-parts (front (lowered (g ∷ []) (v ∷ []))) g, diff-parts y g, min-right v (y -ℤ g)))
 lowered-keeps s g [] v (w ∷ ws) l r a b = absurd (omega arith)
 lowered-keeps s g (h ∷ gs) v [] l r a b = absurd (omega arith)
 lowered-keeps s g (h ∷ gs) v (w ∷ ws) l r a b =
@@ -109,9 +109,10 @@ lowered-keeps s g (h ∷ gs) v (w ∷ ws) l r a b =
     let t = good-total (h ∷ gs) (r .1) in
     let i = lowered-keeps (s + up g) h gs w ws (suc-inj l) (r .1) (a .1) (omega (arith, up-sum g (total (h ∷ gs)), t .0, d)) in
     let y = front (lowered (h ∷ gs) (w ∷ ws)) in
-    let f : pos (s + up g) ≼ y = i .0 in (
-      min-least v (y -ℤ g) (pos s) k (omega (arith, diff-parts y g)),
-      (omega (arith, sum-parts (minZ v (y -ℤ g)) g, diff-parts y g, min-right v (y -ℤ g)), i .1),
+    let f : pos (s + up g) ≼ y = i .0 in
+    let m = min-least v (y -ℤ g) (pos s) k (omega (arith, diff-parts y g)) in (
+      omega (arith, m),
+      (omega (arith, sum-parts (front (lowered (g ∷ h ∷ gs) (v ∷ w ∷ ws))) g, diff-parts y g, min-right v (y -ℤ g)), i .1),
     )
 
 -- ---- the upward pass: each value reaches the sum of the gaps up to it, below which the saturation does not bite

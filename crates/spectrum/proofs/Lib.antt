@@ -16,3 +16,4 @@ pub mod PlaceLaws
 pub mod Passes
 pub mod BookLaws
 pub mod Promises
+pub mod Always

@@ -18,9 +18,10 @@ use Rattle.spectrum.proofs.Extremes.{le-parts}
 use Rattle.spectrum.proofs.Kept.{Kept, good-total, kept-keeps, keeps-kept, fallback-kept, length-fallback, length-run, run-kept, moves-most, run-still, run-moved}
 use Rattle.spectrum.specs.Distances.{keeps}
 use Rattle.spectrum.specs.Fallback.{fallback}
-use Rattle.spectrum.specs.Gaps.{goodGaps, Good, Ruled, EveryGap}
+use Rattle.spectrum.specs.Gaps.{goodGaps, Good, Ruled}
 use Rattle.spectrum.specs.Stabilising.{stabilise}
 use Rattle.spectrum.specs.Statement.{ResultGaps, Twice, ResultWithin}
+use Rattle.spectrum.specs.Statement.Always.{EveryGap}
 use Rattle.spectrum.specs.Values.{at, top, total, Within}
 use Rattle.spectrum.specs.Inner.{_≼_}
 

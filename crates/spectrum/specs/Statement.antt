@@ -1,6 +1,7 @@
 -- What document 01 and RFC 6716, section 4.2.7.5, say of the two calls on a vector besides their definitions: how
--- many moves are made, which gaps are kept, when a vector stays, where the values lie, and where the crate, whose
--- moves keep 16 bits, gives the same. Assumes nothing.
+-- many moves are made, where the values lie, and where the crate, whose moves keep 16 bits, gives the same. What they
+-- say of gaps stands in Statement/Always. Assumes nothing.
+pub mod Always
 use Prim.Native.Nat.{ℕ, suc, _≤_, _<_}
 use mathlib.Core.Path.{_≡_}
 use mathlib.Core.Bool.{true}
@@ -10,12 +11,13 @@ use lib.Signed.{quotZ}
 use lib.ListN.{length}
 use Rattle.ints.specs.Parts.{up}
 use Rattle.sheet.specs.Books.{Book}
-use Rattle.spectrum.specs.Calls.{called, stabiliseRefusal, stabiliseCall, bookOf, decodeRefusal, placesOf, decoded, decodeCall}
+use Rattle.spectrum.specs.Calls.{stabiliseRefusal, stabiliseCall, bookOf, decodeRefusal, placesOf, decoded, decodeCall}
 use Rattle.spectrum.specs.Distances.{keeps}
-use Rattle.spectrum.specs.Gaps.{goodGaps, Good, Ruled, EveryGap}
+use Rattle.spectrum.specs.Gaps.{goodGaps, Good, Ruled}
 use Rattle.spectrum.specs.Places.{places}
 use Rattle.spectrum.specs.Residuals.{residuals}
 use Rattle.spectrum.specs.Stabilising.{run, stabilise}
+use Rattle.spectrum.specs.Statement.Always.{EveryGap}
 use Rattle.spectrum.specs.Stores.{stabilise16, calm}
 use Rattle.spectrum.specs.Values.{at, Mag, Within}
 use Rattle.spectrum.specs.declared.Spectrum.{Spectrum}
@@ -35,29 +37,13 @@ StabiliseMoves = (v g : List ℤ) → stabiliseCall v g .answer .moves ≤ 20
 abbrev pub DecodeMoves : Type 0
 DecodeMoves = (v : List ℤ) (s : Spectrum) (khz : ℕ) → decodeCall v s khz .answer .moves ≤ 20
 
--- ---- gaps: every one is kept
+-- ---- gaps, of vectors of any length (of the two calls: Statement/Always)
 
-abbrev pub StabiliseGaps : Type 0
-StabiliseGaps = (v g : List ℤ) → Stabilises v g → EveryGap g (stabiliseCall v g .vector)
-
-abbrev pub DecodeGaps : Type 0
-DecodeGaps =
-    (v : List ℤ) (s : Spectrum) (khz : ℕ) → length (s .index) ≡ 17 → Decodes v s khz
-    → EveryGap (map pos (bookOf khz .gaps)) (decodeCall v s khz .vector)
-
--- of vectors of any length
+-- every one is kept
 abbrev pub ResultGaps : Type 0
 ResultGaps =
     (g v : List ℤ) → length g ≡ suc (length v) → goodGaps (length v) g ≡ true → 0 < length v
     → EveryGap g (stabilise g v .vector)
-
--- ---- a vector that keeps every gap stays, with 0 moves; 0 moves are made of no other
-
-abbrev pub StabiliseStays : Type 0
-StabiliseStays = (v g : List ℤ) → Stabilises v g → EveryGap g v → stabiliseCall v g ≡ called v 0 0
-
-abbrev pub StabiliseStayed : Type 0
-StabiliseStayed = (v g : List ℤ) → Stabilises v g → stabiliseCall v g .answer .moves ≡ 0 → EveryGap g v
 
 -- stabilising twice is stabilising once
 abbrev pub Twice : Type 0

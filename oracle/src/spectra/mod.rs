@@ -1,6 +1,7 @@
 //! The calls on line spectra: ours beside the crate's and libopus's, and in whole numbers where a store of
 //! theirs leaves 16 bits.
 
+pub mod always;
 #[cfg(libopus)]
 mod libopus;
 mod listed;

@@ -1,4 +1,5 @@
 -- `ends` meets its contract. Assumes nothing.
+use mathlib.Core.Path.{refl}
 use mir.Facts.{toZ-ofZ}
 use Rattle.spectrum.proofs.Widened.{wide, read16, more-fits}
 use Rattle.nlsf_stabilize_stays.proofs.ends.Statement.{statement}
@@ -13,7 +14,7 @@ add-result c = let f = c .fits in rw (toZ-ofZ (f .p), read16 (f .gap)) (more-fit
 returns : tie.Need-returns
 returns c =
     let f = c .fits in
-    rw (toZ-ofZ (f .p), read16 (f .gap), toZ-ofZ (f .gap), toZ-ofZ (more-fits (c .args .p) (c .args .gap) (c .pre) (f .gap)))
+    rw (toZ-ofZ (f .p), read16 (f .gap), toZ-ofZ (f .gap), toZ-ofZ (more-fits (c .args .p) (c .args .gap) (c .pre) (f .gap))) refl
 
 pub ends-spec : {M : Type 1} → statement M
 ends-spec = tie.close (tie.spec cast-result add-result returns)
