@@ -1,5 +1,7 @@
 // The bit length of a u32, by its leading zeros: what the account and the bounded numbers of the range coder count
 // with.
+#![tactic(auto)]
+
 ghost use Rattle.std.specs.Prelude.{◌≡◌};
 ghost use Rattle.bitlen.specs.Length.{bit_length};
 

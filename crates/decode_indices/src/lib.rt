@@ -1,5 +1,7 @@
 // The call that reads a frame's side indices (document 01; RFC 6716, section 4.2.7), as the crate's
 // decode_indices.rs: it tests packet, state and numbers once, and hands the record in and out by value.
+#![tactic(auto)]
+
 ghost use Rattle.std.specs.Prelude.{◌≡◌, ◌^◌, ◌<◌};
 ghost use Rattle.tree.specs.Asks.{got};
 ghost use Rattle.tree.specs.Inner.Growth.{of_symbols};

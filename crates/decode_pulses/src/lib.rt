@@ -1,5 +1,7 @@
 // The call that reads a frame's pulses (document 01): packet, state, numbers and the slice's length are tested once,
 // in the order of refusals; a refusal touches no pulse. Name as in the crate's decode_pulses.rs.
+#![tactic(auto)]
+
 ghost use Rattle.std.specs.Prelude.{◌≡◌};
 ghost use Rattle.silk.specs.FrameCalls.{pulsed, decode_pulses};
 

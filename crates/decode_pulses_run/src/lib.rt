@@ -1,5 +1,7 @@
 // The excitation of a frame (RFC 6716, section 4.2.7.8), read into one slice of blocks of 16 places: rate level,
 // counts, splits, low bits, signs. The loops over blocks of the crate's decode_pulses.rs and code_signs.rs.
+#![tactic(auto)]
+
 ghost use Rattle.std.specs.Prelude.{◌≡◌, ◌*◌, ◌^◌, ◌<◌, ◌≤◌, length};
 ghost use Rattle.lists.specs.AtMost.{AtMost};
 ghost use Rattle.entcode.specs.Inner.Reading.{Core};

@@ -1,5 +1,7 @@
 // The call that writes a frame's side indices (document 01, "Side indices"; RFC 6716, section 4.2.7): it tests
 // buffer, state, numbers and fields once, and writes each field by the row that its reader reads.
+#![tactic(auto)]
+
 ghost use Rattle.std.specs.Prelude.{◌≡◌, ◌^◌, ◌<◌, nat_abs};
 ghost use Rattle.entcode.specs.Flat.{out};
 ghost use Rattle.tree.specs.Inner.Growth.{of_symbols};

@@ -1,6 +1,8 @@
 // The call that writes a frame's pulses (document 01): buffer, state, numbers and the slice's length are tested once,
 // then whether each block has a shift, in the order of refusals; a refusal touches no byte. Name as in the crate's
 // encode_pulses.rs.
+#![tactic(auto)]
+
 ghost use Rattle.std.specs.Prelude.{◌≡◌};
 ghost use Rattle.entcode.specs.Flat.{out};
 ghost use Rattle.entcode.specs.Writing.{sent};

@@ -1,5 +1,7 @@
 // The excitation of a frame (RFC 6716, section 4.2.7.8), written from one slice of blocks of 16 places by a plan of
 // counts and shifts: rate level, counts, splits, low bits, signs.
+#![tactic(auto)]
+
 ghost use Rattle.std.specs.Prelude.{◌≡◌, ◌*◌, ◌^◌, ◌<◌, ◌≤◌, length, take};
 ghost use Rattle.lists.specs.AtMost.{AtMost};
 ghost use Rattle.entcode.specs.Flat.{out};

@@ -2,6 +2,8 @@
 // share: `specs/` says what each step makes of a state. Field by field a state is the crate's `ec_ctx` without its
 // buffer: `endoffs` is its end_offs, `window` its end_window, `wbits` its nend_bits, `total` its nbits_total; the
 // others have its names.
+#![tactic(auto)]
+
 ghost use Rattle.std.specs.Prelude.{◌≡◌, ◌<◌};
 ghost use Rattle.entcode.specs.Cuts.{upper};
 ghost use Rattle.entcode.specs.Reading.{nought as noughtR};
@@ -13,7 +15,7 @@ pub const LONGEST: usize = 1275;
 
 // A reader beside its packet.
 #[repr(C)]
-#[derive(Drop)]
+#[derive(Clone, Copy)]
 pub struct Dec {
     pub storage: u32,
     pub endoffs: u32,
@@ -30,7 +32,7 @@ pub struct Dec {
 
 // A writer beside its buffer: held byte -1 for none, error 0 or -1.
 #[repr(C)]
-#[derive(Drop)]
+#[derive(Clone, Copy)]
 pub struct Enc {
     pub storage: u32,
     pub endoffs: u32,
@@ -47,7 +49,7 @@ pub struct Enc {
 
 // What a call on a reader answers: the refusal's number or 0, the value, the state.
 #[repr(C)]
-#[derive(Drop)]
+#[derive(Clone, Copy)]
 pub struct Decoded {
     pub refusal: u32,
     pub value: u32,
@@ -56,7 +58,7 @@ pub struct Decoded {
 
 // What a call on a writer answers.
 #[repr(C)]
-#[derive(Drop)]
+#[derive(Clone, Copy)]
 pub struct Encoded {
     pub refusal: u32,
     pub value: u32,

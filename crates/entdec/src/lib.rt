@@ -1,5 +1,7 @@
 // The calls on a reader (document 01): each tests packet, state and its own numbers once, and answers the first
 // refusal or what the room `entdec_run` reads. Names as in the crate's entdec.rs.
+#![tactic(auto)]
+
 ghost use Rattle.std.specs.Prelude.{◌≡◌};
 ghost use Rattle.entcode.specs.Models.{bit, raw, num, tab};
 ghost use Rattle.entcode.specs.Reading.{refuses, dec_sym, dec_tell, dec_open};

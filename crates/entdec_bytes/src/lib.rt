@@ -1,6 +1,8 @@
 // What a reader takes from its packet (RFC 6716, sections 4.1.1, 4.1.2.1 and 4.1.4): bytes from the front as its
 // range shrinks, and bytes from the end through a window. The packet is read in `ec_read_byte` and
 // `ec_read_byte_from_end` alone. Names as in the crate's entdec.rs.
+#![tactic(auto)]
+
 ghost use Rattle.std.specs.Prelude.{◌≡◌, ◌+◌, ◌-◌, ◌/◌, ◌%◌, ◌^◌, ◌<◌, ◌≤◌, length};
 ghost use Rattle.entcode.specs.Reader.{byte_at, last_of, after, shift_r, settled, opened, cut_down};
 ghost use Rattle.entcode.specs.Reader.{fetch, fetches, fill, raw_val, drop_bits, raw_next};

@@ -1,4 +1,6 @@
 // What every call on a reader checks first: the packet's length, the state's soundness, its total (document 01, refusals 1 to 3).
+#![tactic(auto)]
+
 ghost use Rattle.std.specs.Prelude.{◌≡◌};
 ghost use Rattle.entcode.specs.Sound.{sound_r, gate_r};
 

@@ -1,4 +1,6 @@
 // What the numbers of a call on a reader are refused for: 4 for one outside its range, 0 for none (document 01).
+#![tactic(auto)]
+
 ghost use Rattle.std.specs.Prelude.{◌≡◌};
 ghost use Rattle.entcode.specs.Models.{bit, raw, num};
 ghost use Rattle.entcode.specs.Rules.{ask_rule};

@@ -2,6 +2,8 @@
 // the crate's entdec.rs. These functions carry what they ask in `requires` and test nothing again; the calls that
 // test are in the room `entdec`, what is taken from the packet is in `entdec_bytes`, and the search of a table in
 // `entdec_search`.
+#![tactic(auto)]
+
 ghost use Rattle.std.specs.Prelude.{◌≡◌, cond, suc, ◌^◌, ◌<◌, ◌≤◌, min, leb};
 ghost use Rattle.icdf.specs.Rule.{Icdf};
 ghost use Rattle.entcode.specs.Models.{bit, raw, num, tab, raw_bits};

@@ -1,10 +1,12 @@
 // Which symbol of an inverse table a value stands for (RFC 6716, section 4.1.3.3), with the two ends of its part of the range.
+#![tactic(auto)]
+
 ghost use Rattle.std.specs.Prelude.{◌≡◌, cond, ◌*◌, ◌^◌, ◌≤◌, length};
 ghost use Rattle.icdf.specs.Rule.{Icdf};
 ghost use Rattle.entdec_search.specs.Inner.{part_of};
 
 // A symbol of a table, with the two ends of its part.
-#[derive(Drop)]
+#[derive(Clone, Copy)]
 pub struct Part {
     pub symbol: usize,
     pub low: u32,

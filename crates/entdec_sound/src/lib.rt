@@ -1,4 +1,6 @@
 // The rules of a sound reader, all but the window's (document 01): `specs/Sound` of `entcode` has the list.
+#![tactic(auto)]
+
 ghost use Rattle.std.specs.Prelude.{◌≡◌};
 ghost use Rattle.entcode.specs.Sound.{total_ok, range_ok_r, places_ok_r, small_ok_r};
 

@@ -1,6 +1,8 @@
 // The public calls on a writer (document 01): each checks the state, then its own numbers, and runs only if nothing
 // is refused. A refused call answers its number and value 0, hands the state back as it was, and touches no byte of
 // the buffer. Names as in the crate's entenc.rs.
+#![tactic(auto)]
+
 ghost use Rattle.std.specs.Prelude.{◌≡◌};
 ghost use Rattle.entcode.specs.Models.{bit, raw, num, tab};
 ghost use Rattle.entcode.specs.Flat.{out};

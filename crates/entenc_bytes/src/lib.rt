@@ -1,6 +1,8 @@
 // Where the writer's bytes go (RFC 6716, sections 5.1.1.1 and 5.1.3): coded bytes, with what a carry may still change
 // held back, to the buffer's front, raw bytes to its back. A byte that finds no room is dropped, and the error stays.
 // The crate's ec_write_byte is `put_byte`, its ec_write_byte_at_end `put_back`, its ec_enc_carry_out `carry_out_run`.
+#![tactic(auto)]
+
 ghost use Rattle.std.specs.Prelude.{◌≡◌, [], ◌∷◌, ◌-◌, ◌^◌, ◌<◌, ◌≤◌, replicate};
 ghost use Rattle.entcode.specs.Front.{stored};
 ghost use Rattle.entcode.specs.Flat.{out, held_of};

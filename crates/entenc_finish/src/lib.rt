@@ -1,4 +1,6 @@
 // Finishing (RFC 6716, section 5.1.5): the end value's bits, what is held back, the window's bytes, and the bits left over.
+#![tactic(auto)]
+
 ghost use Rattle.std.specs.Prelude.{◌≡◌};
 ghost use Rattle.entcode.specs.Flat.{out};
 ghost use Rattle.entcode.specs.Inner.Writing.{Core};

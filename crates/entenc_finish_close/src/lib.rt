@@ -1,4 +1,6 @@
 // The packet closed (RFC 6716, section 5.1.5): its unused middle cleared, the bits left over stowed.
+#![tactic(auto)]
+
 ghost use Rattle.std.specs.Prelude.{◌≡◌, ◌++◌, ◌-◌, ◌≤◌, length, take, drop, replicate};
 ghost use Rattle.entcode.specs.Flat.{out};
 ghost use Rattle.entcode.specs.Inner.Writing.{Windowed, closed};

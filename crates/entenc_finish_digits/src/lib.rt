@@ -1,4 +1,6 @@
 // The end value (RFC 6716, section 5.1.5): its bits, its digits, and what is held back before them.
+#![tactic(auto)]
+
 ghost use Rattle.std.specs.Prelude.{◌≡◌, ◌+◌, ◌-◌, ◌^◌, ◌<◌, ◌≤◌};
 ghost use Rattle.entcode.specs.Finish.{round_up, bits_of};
 ghost use Rattle.entcode.specs.Flat.{out, held_of};

@@ -1,4 +1,6 @@
 // The bits left over in the window, stowed below the back (RFC 6716, section 5.1.5).
+#![tactic(auto)]
+
 ghost use Rattle.std.specs.Prelude.{◌≡◌, ◌≤◌};
 ghost use Rattle.entcode.specs.Flat.{out};
 ghost use Rattle.entcode.specs.Inner.Writing.{Windowed, stowed};

@@ -1,5 +1,7 @@
 // What the numbers of a call on a writer are refused for: 4 for one outside its range, 8 for a value that cannot be written, 0
 // for none (document 01).
+#![tactic(auto)]
+
 ghost use Rattle.std.specs.Prelude.{◌≡◌};
 ghost use Rattle.entcode.specs.Models.{bit, raw, num};
 ghost use Rattle.entcode.specs.Rules.{say_rule};

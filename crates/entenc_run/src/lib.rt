@@ -2,6 +2,8 @@
 // here ask for a state that a write may begin with and test nothing again; each hands on what the next one asks. The
 // calls that test are in the room `entenc`; bytes go out in `entenc_bytes`, and finishing is in `entenc_finish`.
 // Names as in the crate's entenc.rs; its ec_enc_normalize is `normalize`.
+#![tactic(auto)]
+
 ghost use Rattle.std.specs.Prelude.{◌≡◌, ℕ, suc, ◌*◌, ◌^◌, ◌<◌, ◌≤◌, length, slice_index};
 ghost use Rattle.icdf.specs.Rule.{Icdf, Writable};
 ghost use Rattle.entcode.specs.Models.{bit, raw, num, tab};

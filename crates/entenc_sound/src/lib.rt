@@ -1,4 +1,6 @@
 // The rules of a sound writer, all but the window's (document 01): `specs/Sound` of `entcode` has the list.
+#![tactic(auto)]
+
 ghost use Rattle.std.specs.Prelude.{◌≡◌, ◌&&◌};
 ghost use Rattle.entcode.specs.Sound.{range_ok_w, places_ok_w, signs_ok_w, run_ok_w, total_ok};
 

@@ -2,6 +2,8 @@
 // make one that never dies away, and the filter is unstable. So the builder asks for lines that do not touch (`Apart`).
 // Its callers need no test for that: decoding leaves such lines, and so does stabilising by gaps of 1, whatever they are
 // given (`decode_apart`, `stabilise_always`: crates/spectrum/specs/Statement/Always.antt).
+#![tactic(auto)]
+
 ghost use Rattle.std.specs.Prelude.{pos, ◌+ℤ◌, ◌≤ℤ◌};
 ghost use Rattle.spectrum.specs.Statement.Always.{Apart};
 

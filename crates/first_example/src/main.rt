@@ -1,5 +1,7 @@
 // A packet of 4 bytes written and read back: a type by its table, a number below 1,000, three raw bits; and a symbol that the
 // table does not have.
+#![tactic(auto)]
+
 use entcode::{Dec, Enc};
 use libc::STDOUT_FILENO;
 

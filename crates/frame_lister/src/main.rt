@@ -1,6 +1,8 @@
 // Lists a frame: standard input has two sections, count 7 (one byte) and kHz, subframes, active, mode, previous type,
 // previous lag (two bytes, high first), then the packet's count (two bytes, high first) and its bytes. Prints the
 // frame's fields and pulses, or the refusal.
+#![tactic(auto)]
+
 use libc::{STDIN_FILENO, STDOUT_FILENO};
 
 fn main() {

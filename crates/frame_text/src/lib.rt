@@ -1,5 +1,7 @@
 // What the frame lister prints of a frame (document 01): the definitions, and lines of numbers of 8 bits put into a
 // lent buffer at a place. Each function that puts answers the place behind what it put.
+#![tactic(auto)]
+
 ghost use Rattle.std.specs.Prelude.{◌+◌, ◌*◌, ◌≤◌, ◌≡◌, [], ◌∷◌, length};
 ghost use Rattle.numerals.specs.Inner.{Put};
 ghost use Rattle.listing.specs.Lines.{spaced, line, counted};

@@ -1,5 +1,7 @@
 // The lines that list a frame's side indices (document 01), put into a lent buffer at a place. Each function answers
 // the place behind what it put.
+#![tactic(auto)]
+
 ghost use Rattle.std.specs.Prelude.{◌+◌, ◌≤◌, ◌≡◌, nat_abs, length};
 ghost use Rattle.numerals.specs.Inner.{Put};
 ghost use Rattle.silk.specs.IndexSyntax.{book_of};

@@ -1,5 +1,7 @@
 // The first two lines that list a frame (document 01): rate and subframes, then the two types, put into a lent buffer
 // at a place.
+#![tactic(auto)]
+
 ghost use Rattle.std.specs.Prelude.{◌+◌, ◌≤◌, length};
 ghost use Rattle.numerals.specs.Inner.{Put};
 ghost use Rattle.frame_text.specs.FrameText.{kind_text};

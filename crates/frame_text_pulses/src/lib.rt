@@ -1,5 +1,7 @@
 // The lines that list a frame's pulses (document 01), put into a lent buffer at a place. Each function answers the
 // place behind what it put.
+#![tactic(auto)]
+
 ghost use Rattle.std.specs.Prelude.{◌+◌, ◌*◌, ◌≤◌, ◌≡◌, length};
 ghost use Rattle.numerals.specs.Inner.{Put};
 ghost use Rattle.listing.specs.Lines.{numbers};

@@ -1,5 +1,7 @@
 // The types of a packet's first frame (RFC 6716, section 4.2.7.3), for a host that wants to know them before it
 // decodes: read through a packet view that is opened here and not kept.
+#![tactic(auto)]
+
 ghost use Rattle.std.specs.Prelude.{◌≡◌, cond, leb};
 ghost use Rattle.entcode.specs.Reading.{dec_open};
 ghost use Rattle.frame_type.specs.Kind.{type_rule, frame_type};
@@ -8,7 +10,7 @@ use tables::rows::index_rows;
 
 // Refusal, or signal type 0 to 2 and offset type 0 or 1.
 #[repr(C)]
-#[derive(Drop)]
+#[derive(Clone, Copy)]
 pub struct FrameType {
     pub refusal: u32,
     pub signal: u32,

@@ -1,6 +1,8 @@
 // Replays recorded calls on frames: each record of standard input has a call and the crate's answer (docs/RECORDED.md
 // has the layout). Prints how many calls of each kind agreed, and then that all did, or the number of the first that
 // did not.
+#![tactic(auto)]
+
 ghost use Rattle.records.specs.Inner.{Placed, Parted};
 
 use libc::STDIN_FILENO;

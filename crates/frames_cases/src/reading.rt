@@ -10,7 +10,7 @@ use records::{ANSWER_BYTES, Parts};
 use silk::{Indices, IndicesRead};
 
 // What is asked, and what it should answer.
-#[derive(Drop)]
+#[derive(Clone, Copy)]
 pub struct Reading {
     pub call: u8,
     pub numbers: Numbers,

@@ -1,5 +1,7 @@
 // Whole Opus packets (RFC 6716 section 3, RFC 8251 section 4): the answers of the calls that read and write them,
 // laid out for C. No function stands here: `specs/` has what a packet's bytes mean and how they are laid.
+#![tactic(auto)]
+
 
 // The longest packet that is taken (document 02, item 1).
 pub const LONGEST_PACKET: usize = 16384;
@@ -7,7 +9,7 @@ pub const LONGEST_PACKET: usize = 16384;
 // How the frames of a packet are arranged: how many; whether the lengths of all but the last are written; the bytes
 // in front (the first one, and the count byte of arrangement 3), the length bytes of the padding, and its bytes at
 // the packet's end.
-#[derive(Drop)]
+#[derive(Clone, Copy)]
 pub struct Form {
     pub count: usize,
     pub varied: bool,
@@ -18,7 +20,7 @@ pub struct Form {
 
 // What reading a packet answers. Places past `count` are 0.
 #[repr(C)]
-#[derive(Drop)]
+#[derive(Clone, Copy)]
 pub struct Packet {
     pub refusal: u32,
     pub config: u32,
@@ -31,7 +33,7 @@ pub struct Packet {
 
 // What writing a packet answers.
 #[repr(C)]
-#[derive(Drop)]
+#[derive(Clone, Copy)]
 pub struct PacketWritten {
     pub refusal: u32,
     pub length: u32,

@@ -1,5 +1,7 @@
 // The tests of an inverse table that a caller lends, and of a symbol to be written with it (document 01, refusals 4,
 // 5 and 8).
+#![tactic(auto)]
+
 ghost use Rattle.std.specs.Prelude.{◌≡◌, ◌≤◌, length};
 ghost use Rattle.icdf.specs.Test.{falls_ok, scale_ok, icdf_ok, symbol_ok, icdf_rule, symbol_rule};
 

@@ -1,5 +1,7 @@
 // Whether the fields of a record lie in their ranges, so that a frame may be written (document 01, "Side indices",
 // refusal 8). The pitch of an unvoiced frame is not looked at.
+#![tactic(auto)]
+
 ghost use Rattle.std.specs.Prelude.{◌≡◌, ◌<◌, pos};
 ghost use Rattle.deciding.specs.Inner.{Decides};
 ghost use Rattle.silk.specs.Inner.Indices.{Rate, Subframes, WritesPitch, Writes};

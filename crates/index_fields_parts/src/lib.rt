@@ -1,5 +1,7 @@
 // Whether type, gains, line spectrum and interpolation of a record lie in their ranges, so that a frame may be
 // written (document 01, "Side indices", refusal 8). A field that this frame does not code is not looked at.
+#![tactic(auto)]
+
 ghost use Rattle.std.specs.Prelude.{◌≡◌, ℕ, ◌≤◌, ◌<◌, pos, nat_abs, get_or};
 ghost use Rattle.deciding.specs.Inner.{Decides};
 ghost use Rattle.silk.specs.Inner.Indices.{Subframes, Upto, first_most, WritesGains, WritesSpectrum, WritesKind};

@@ -1,5 +1,7 @@
 // Whether the pitch of a voiced frame lies in its ranges, so that it may be written (document 01, "Side indices",
 // refusal 8; RFC 6716, section 4.2.7.6).
+#![tactic(auto)]
+
 ghost use Rattle.std.specs.Prelude.{◌≡◌, ℕ, ◌-◌, ◌*◌, ◌^◌, ◌<◌, pos, nat_abs, get_or};
 ghost use Rattle.deciding.specs.Inner.{Decides};
 ghost use Rattle.silk.specs.Inner.Indices.{Rate, Subframes, contour_size, Upto, WritesPitch};

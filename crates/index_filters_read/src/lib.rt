@@ -1,5 +1,7 @@
 // Filters of a voiced frame and their scale read (RFC 6716, sections 4.2.7.6.2 and 4.2.7.6.3), as in the crate's
 // decode_indices.rs. The rows are lent by the caller; the record goes in and out by value.
+#![tactic(auto)]
+
 ghost use Rattle.std.specs.Prelude.{◌^◌, ◌<◌};
 ghost use Rattle.tree.specs.Inner.Growth.{of_symbols};
 ghost use Rattle.tree.specs.Inner.Ran.{Ran};

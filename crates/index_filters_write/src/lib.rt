@@ -1,5 +1,7 @@
 // Filters of a voiced frame and their scale written (RFC 6716, sections 4.2.7.6.2 and 4.2.7.6.3): what a record whose
 // fields lie in their ranges says of them, each by the row that its reader reads. The rows are lent by the caller.
+#![tactic(auto)]
+
 ghost use Rattle.std.specs.Prelude.{ℕ, ◌-◌, ◌*◌, ◌^◌, ◌<◌, pos, nat_abs, get_or};
 ghost use Rattle.entcode.specs.Flat.{out};
 ghost use Rattle.tree.specs.Inner.Growth.{of_symbols};

@@ -1,5 +1,7 @@
 // Which of the lent rows each field of a frame's side indices is coded by, and the number of its spectrum's places,
 // for reader and writer alike (RFC 6716, sections 4.2.7.3 to 4.2.7.7).
+#![tactic(auto)]
+
 ghost use Rattle.std.specs.Prelude.{◌≡◌};
 ghost use Rattle.silk.specs.Inner.Indices.{lag_low_start, contour_start, contour_size};
 ghost use Rattle.silk.specs.IndexSyntax.{book_of};

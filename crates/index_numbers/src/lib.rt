@@ -1,5 +1,7 @@
 // The numbers of a call on a frame's side indices, for reader and writer alike (document 01): refusal 4, and what the
 // next frame is told.
+#![tactic(auto)]
+
 ghost use Rattle.std.specs.Prelude.{◌≡◌, cond, nat_abs};
 ghost use Rattle.silk.specs.Inner.Indices.{Upto};
 ghost use Rattle.silk.specs.FrameCalls.{setting_ok, next_lag};

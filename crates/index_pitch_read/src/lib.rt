@@ -1,5 +1,7 @@
 // Lag, contour, filters and scale of a voiced frame read (RFC 6716, section 4.2.7.6), as in the crate's
 // decode_indices.rs. The rows are lent by the caller; the record goes in and out by value.
+#![tactic(auto)]
+
 ghost use Rattle.std.specs.Prelude.{◌^◌};
 ghost use Rattle.tree.specs.Inner.Growth.{of_symbols};
 ghost use Rattle.tree.specs.Inner.Ran.{Ran};

@@ -1,5 +1,7 @@
 // Lag, contour, filters and scale of a voiced frame written (RFC 6716, section 4.2.7.6): what a record whose fields
 // lie in their ranges says of them, each by the row that its reader reads. The rows are lent by the caller.
+#![tactic(auto)]
+
 ghost use Rattle.std.specs.Prelude.{◌^◌};
 ghost use Rattle.entcode.specs.Flat.{out};
 ghost use Rattle.tree.specs.Inner.Growth.{of_symbols};

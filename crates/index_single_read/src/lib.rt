@@ -1,5 +1,7 @@
 // Type, interpolation and seed of a frame read, a symbol each (RFC 6716, sections 4.2.7.3, 4.2.7.5.5 and 4.2.7.7), as
 // in the crate's decode_indices.rs. The rows are lent by the caller; the record goes in and out by value.
+#![tactic(auto)]
+
 ghost use Rattle.std.specs.Prelude.{◌^◌, ◌<◌};
 ghost use Rattle.tree.specs.Inner.Growth.{of_symbols};
 ghost use Rattle.tree.specs.Inner.Ran.{Ran};

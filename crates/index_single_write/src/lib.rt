@@ -1,6 +1,8 @@
 // Type, interpolation and seed of a frame written, a symbol each (RFC 6716, sections 4.2.7.3, 4.2.7.5.5 and 4.2.7.7):
 // what a record whose fields lie in their ranges says of them, each by the row that its reader reads. The rows are
 // lent by the caller.
+#![tactic(auto)]
+
 ghost use Rattle.std.specs.Prelude.{◌^◌, ◌<◌};
 ghost use Rattle.entcode.specs.Flat.{out};
 ghost use Rattle.tree.specs.Inner.Growth.{of_symbols};

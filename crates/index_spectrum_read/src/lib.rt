@@ -1,5 +1,7 @@
 // First index and residuals of a frame's line spectrum read (RFC 6716, section 4.2.7.5), as in the crate's
 // decode_indices.rs. The rows are lent by the caller; the record goes in and out by value.
+#![tactic(auto)]
+
 ghost use Rattle.std.specs.Prelude.{◌≡◌, ◌+◌, ◌*◌, ◌^◌, ◌≤◌, ◌<◌, pos, negsuc, ◌-ℤ◌, length};
 ghost use Rattle.sheet.specs.Directory.{row_of};
 ghost use Rattle.tree.specs.Inner.Growth.{of_symbols};
@@ -16,7 +18,7 @@ use silk::{Indices, IndicesPart};
 // ---- one residual
 
 // A residual, and the reader behind it, which stands first: behind a byte it would be copied byte by byte.
-#[derive(Drop)]
+#[derive(Clone, Copy)]
 pub struct ResidualRead {
     pub state: Dec,
     pub value: i8,

@@ -1,5 +1,7 @@
 // First index and residuals of a frame's line spectrum written (RFC 6716, section 4.2.7.5): what a record whose
 // fields lie in their ranges says of them, each by the row that its reader reads. The rows are lent by the caller.
+#![tactic(auto)]
+
 ghost use Rattle.std.specs.Prelude.{◌≡◌, false, ℕ, ◌+◌, ◌*◌, ◌^◌, ◌≤◌, ◌<◌, pos, negsuc, nat_abs, ◌+ℤ◌, length, get_or};
 ghost use Rattle.std.specs.Int.Signed.{le_z};
 ghost use Rattle.sheet.specs.Directory.{row_of};

@@ -1,4 +1,6 @@
 // Whether the frame lister's input is whole, and what is printed of one that is not.
+#![tactic(auto)]
+
 ghost use Rattle.std.specs.Prelude.{◌≤◌, ◌≡◌, length};
 ghost use Rattle.numerals.specs.Inner.{Put};
 ghost use Rattle.listing.specs.Lines.{refused_text};

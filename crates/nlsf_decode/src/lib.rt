@@ -1,5 +1,7 @@
 // Decoding of a line spectrum (RFC 6716, section 4.2.7.5): a book's vector moved by residuals, then stabilised. Names
 // as in the crate's NLSF_decode.rs.
+#![tactic(auto)]
+
 ghost use Rattle.std.specs.Prelude.{◌≡◌, pos, negsuc};
 ghost use Rattle.lists.specs.Every.{every};
 ghost use Rattle.ranges.specs.InRange.{in_range};

@@ -1,5 +1,7 @@
 // Stabilises a vector: standard input has a vector and a gap section, each after a one-byte count, of values of two
 // bytes, high first. Prints the number of moves and the vector, or the refusal.
+#![tactic(auto)]
+
 use libc::{STDIN_FILENO, STDOUT_FILENO};
 
 fn main() {

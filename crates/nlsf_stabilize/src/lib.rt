@@ -1,5 +1,7 @@
 // The stabiliser of line spectra (RFC 6716, section 4.2.7.5.4): at most 20 moves, then the fallback. Names as in the crate's
 // NLSF_stabilize.rs.
+#![tactic(auto)]
+
 ghost use Rattle.std.specs.Prelude.{◌≡◌, false};
 ghost use Rattle.spectrum.specs.Values.{total};
 ghost use Rattle.spectrum.specs.Stabilising.{stabilise};

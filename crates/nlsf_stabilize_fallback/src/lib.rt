@@ -1,5 +1,7 @@
 // The stabiliser's fallback (RFC 6716, section 4.2.7.5.4): sorted, upward with a sum that saturates (RFC 8251,
 // section 7), downward.
+#![tactic(auto)]
+
 ghost use Rattle.std.specs.Prelude.{◌≡◌, suc, ◌<◌, ◌≤◌, ◌+ℤ◌, ◌-ℤ◌, length, drop};
 ghost use Rattle.ints.specs.Parts.{up, down};
 ghost use Rattle.spectrum.specs.Values.{min_z, max_z, Within};

@@ -1,5 +1,7 @@
 // The stabiliser's move: the first value, the last, or a pair about its centre (RFC 6716, section 4.2.7.5.4). A move leaves no slack
 // from the gap that it mends: both values of a pair come to lie equally far above the gaps before them.
+#![tactic(auto)]
+
 ghost use Rattle.std.specs.Prelude.{◌≡◌, List, ℕ, ◌+◌, ◌≤◌, ◌<◌, ℤ, length};
 ghost use Rattle.ints.specs.Parts.{down};
 ghost use Rattle.spectrum.specs.Distances.{move};

@@ -1,5 +1,7 @@
 // The stabiliser's search: the first smallest difference of a vector to its least gaps (RFC 6716, section 4.2.7.5.4), which is the
 // first smallest step of its slacks; and whether none is below 0.
+#![tactic(auto)]
+
 ghost use Rattle.std.specs.Prelude.{◌≡◌, true, false, ℕ, suc, ◌≤◌, length};
 ghost use Rattle.spectrum.specs.Inner.{First, step};
 ghost use Rattle.spectrum.specs.Values.{Mag, at};

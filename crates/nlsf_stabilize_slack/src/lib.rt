@@ -1,6 +1,8 @@
 // The stabiliser's numbers (RFC 6716, section 4.2.7.5.4): how far each value lies above the sum of the gaps up to it. They stand
 // between 0 and what the gaps leave of 32,768, and rise just where the vector keeps its gaps. Moves are whole numbers, one of which
 // can be 32,768: 32 bits hold them.
+#![tactic(auto)]
+
 ghost use Rattle.std.specs.Prelude.{◌≡◌, suc, ◌≤◌, ◌<◌, pos, ◌-ℤ◌, length, replicate};
 ghost use Rattle.spectrum.specs.Gaps.{Ruled};
 ghost use Rattle.spectrum.specs.Values.{top, total};

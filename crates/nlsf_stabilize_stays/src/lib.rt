@@ -1,5 +1,7 @@
 // The stabiliser's test whether a vector stays (RFC 6716, section 4.2.7.5.4): one that keeps every gap does, so neither the gaps'
 // sum nor the smallest difference is asked for.
+#![tactic(auto)]
+
 ghost use Rattle.std.specs.Prelude.{◌≡◌, ◌&&◌, ◌||◌, suc, pos, ◌+ℤ◌, length};
 ghost use Rattle.std.specs.Int.Signed.{lt_z, le_z};
 ghost use Rattle.spectrum.specs.Values.{Mag, top};

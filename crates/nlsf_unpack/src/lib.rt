@@ -1,5 +1,7 @@
 // Which residual row each place of a spectrum reads, by the selectors of its first index (RFC 6716, section
 // 4.2.7.5.2), as in the crate's NLSF_unpack.rs: a byte of selectors serves two places.
+#![tactic(auto)]
+
 ghost use Rattle.std.specs.Prelude.{◌≡◌, ℕ, ◌/◌, ◌<◌, length};
 ghost use Rattle.silk.specs.IndexSyntax.{book_of, selectors_of, residual_pick};
 

@@ -1,5 +1,7 @@
 // The weights of a spectrum vector by their rule (RFC 6716, section 4.2.7.5.3): of each value, by its distances from the
 // values around it. Vectors are gone through from the last value down, as places are, and a distance serves both values.
+#![tactic(auto)]
+
 ghost use Rattle.std.specs.Prelude.{◌≡◌, true, ◌-◌, ◌*◌, ◌/◌, ◌^◌, ◌≤◌, ◌<◌, length, get_or};
 ghost use Rattle.bitlen.specs.Length.{bit_length};
 ghost use Rattle.sheet.specs.Weights.{root_at, weights_of, rises};
@@ -129,7 +131,7 @@ pub fn last_share_run(shares: &[u16], values: &[u8]) -> u32
 }
 
 // A weight, and the share before its value.
-#[derive(Drop)]
+#[derive(Clone, Copy)]
 pub struct Weighed {
     pub weight: u16,
     pub share: u32,

@@ -1,4 +1,6 @@
 // Numbers as decimal text, put into a lent buffer at a place. Each function answers the place behind what it put.
+#![tactic(auto)]
+
 ghost use Rattle.std.specs.Prelude.{◌+◌, ◌≤◌, ◌<◌, ◌≡◌, [], ◌∷◌, nat_abs, length};
 ghost use Rattle.numerals.specs.Decimal.{natural, decimal};
 ghost use Rattle.numerals.specs.Inner.{Put};

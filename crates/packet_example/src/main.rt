@@ -1,5 +1,7 @@
 // Two frames of one symbol each, written and put into one packet; the packet read, and the second frame's symbol read
 // from the part of the packet that the frame is.
+#![tactic(auto)]
+
 use entcode::{Dec, Enc};
 use framing::Packet;
 use libc::STDOUT_FILENO;

@@ -1,4 +1,6 @@
 // The numbers that stand in a packet before its frames (RFC 6716 section 3.2): lengths, padding, and the form.
+#![tactic(auto)]
+
 ghost use Rattle.std.specs.Prelude.{◌+◌, ◌≤◌, ◌≡◌, length, drop};
 ghost use Rattle.framing.specs.Lengths.{length_of, width_of, lengths, widths, total};
 ghost use Rattle.framing.specs.Padding.{pad_lengths, pad_bytes};
@@ -11,7 +13,7 @@ use sections::byte_at;
 // ---- lengths
 
 // A length and the bytes that it takes; or lengths together.
-#[derive(Drop)]
+#[derive(Clone, Copy)]
 pub struct Coded {
     pub value: usize,
     pub width: usize,

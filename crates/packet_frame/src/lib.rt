@@ -1,4 +1,6 @@
 // A frame, as the part of the packet that it is.
+#![tactic(auto)]
+
 ghost use Rattle.std.specs.Prelude.{◌≡◌};
 ghost use Rattle.packet_frame.specs.Frames.{part_of, frame_at};
 

@@ -1,5 +1,7 @@
 // Lists a packet: standard input has the bytes of one whole packet. Prints its configuration, its arrangement, and
 // each frame's start and size, or the refusal.
+#![tactic(auto)]
+
 use libc::{STDIN_FILENO, STDOUT_FILENO};
 
 fn main() {

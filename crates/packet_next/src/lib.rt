@@ -1,4 +1,6 @@
 // The size of one frame after the other (RFC 6716 section 3.2): a length that is written, or what the last frame has.
+#![tactic(auto)]
+
 ghost use Rattle.std.specs.Prelude.{◌+◌, ◌≤◌, ◌≡◌, length, drop};
 ghost use Rattle.framing.specs.Lengths.{length_of, width_of};
 ghost use Rattle.packet_next.specs.Inner.{Next, Sized};

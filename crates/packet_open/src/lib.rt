@@ -1,4 +1,6 @@
 // Document 01's reader, opened on a frame of a packet: the part of it that the frame is.
+#![tactic(auto)]
+
 ghost use Rattle.std.specs.Prelude.{◌≡◌};
 ghost use Rattle.entcode.specs.Reading.{dec_open};
 ghost use Rattle.framing.specs.Reading.{packet_read};

@@ -1,4 +1,6 @@
 // The padding of a packet that is written (RFC 6716 section 3.2.5): its length bytes, and how many bytes they count.
+#![tactic(auto)]
+
 ghost use Rattle.std.specs.Prelude.{◌+◌, ◌≤◌, ◌≡◌, length, replicate};
 ghost use Rattle.numerals.specs.Inner.{Put};
 ghost use Rattle.framing.specs.Padding.{pad_code, pad_tail};

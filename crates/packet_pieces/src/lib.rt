@@ -1,4 +1,6 @@
 // The pieces of a packet that is written (RFC 6716 section 3), put into a lent buffer one behind the other.
+#![tactic(auto)]
+
 ghost use Rattle.std.specs.Prelude.{◌+◌, ◌≤◌, ◌<◌, ◌≡◌, length};
 ghost use Rattle.lists.specs.AtMost.{AtMost};
 ghost use Rattle.framing.specs.Lengths.{length_code};

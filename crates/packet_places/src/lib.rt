@@ -1,4 +1,6 @@
 // Start and size of each frame of a packet that keeps the rules (RFC 6716 section 3.2).
+#![tactic(auto)]
+
 ghost use Rattle.std.specs.Prelude.{◌+◌, ◌≤◌, ◌≡◌, [], ◌∷◌, ◌++◌, length, drop};
 ghost use Rattle.framing.specs.Lengths.{lengths, widths};
 ghost use Rattle.framing.specs.Form.{sizes};
@@ -8,7 +10,7 @@ use framing::Form;
 use packet_next::next_run;
 
 // Start and size of each frame. Places past the last are 0.
-#[derive(Drop)]
+#[derive(Clone, Copy)]
 pub struct Places {
     pub start: [u16; 12],
     pub size: [u16; 12],

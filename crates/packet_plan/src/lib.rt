@@ -1,5 +1,7 @@
 // Which packet is written of some sizes, at which length, or why none is (RFC 6716 section 3): before a byte of it is
 // put.
+#![tactic(auto)]
+
 ghost use Rattle.std.specs.Prelude.{◌≤◌, ◌≡◌, cond, eqb};
 ghost use Rattle.framing.specs.Lengths.{total};
 ghost use Rattle.packet_plan.specs.Inner.{Planned};
@@ -10,7 +12,7 @@ use packet_sizes::{adds_up, alike_run, frames_rule};
 
 // The refusal, or 0; then the packet's length, whether all sizes are one, the code of the shortest arrangement, and
 // the bytes behind the first one or two of a packet without padding.
-#[derive(Drop)]
+#[derive(Clone, Copy)]
 pub struct Plan {
     pub refusal: u32,
     pub length: usize,

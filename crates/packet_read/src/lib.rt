@@ -1,5 +1,7 @@
 // The call that reads a whole packet (RFC 6716 section 3, RFC 8251 section 4): what the packet holds, or why it is
 // refused.
+#![tactic(auto)]
+
 ghost use Rattle.std.specs.Prelude.{◌≤◌, ◌<◌, ◌≡◌, get_or};
 ghost use Rattle.framing.specs.Reading.{refused as refusedOf, accepted as acceptedOf, packet_read};
 ghost use Rattle.packet_form.specs.Inner.{Bounded};

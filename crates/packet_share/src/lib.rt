@@ -1,5 +1,7 @@
 // The room of a packet's frames, all of it for the last or in equal shares: whether each share is a frame's size (RFC 6716
 // sections 3.2 and 3.4).
+#![tactic(auto)]
+
 ghost use Rattle.std.specs.Prelude.{◌≤◌, ◌≡◌};
 ghost use Rattle.packet_share.specs.Inner.{none as noneOf, closed as closedOf, shared as sharedOf};
 
@@ -7,7 +9,7 @@ ghost use Rattle.packet_share.specs.Inner.{none as noneOf, closed as closedOf, s
 const LONGEST_FRAME: usize = 1275;
 
 // Whether the rules are kept; then where the first frame starts, and the last frame's size.
-#[derive(Drop)]
+#[derive(Clone, Copy)]
 pub struct Span {
     pub kept: bool,
     pub head: usize,

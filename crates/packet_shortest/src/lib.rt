@@ -1,5 +1,7 @@
 // The shortest packet of some sizes: its arrangement, the bytes of its lengths, and its own length (RFC 6716 section
 // 3.2).
+#![tactic(auto)]
+
 ghost use Rattle.std.specs.Prelude.{◌+◌, ◌-◌, ◌≤◌, ◌≡◌, cond, ltb, length};
 ghost use Rattle.framing.specs.Lengths.{length_code};
 ghost use Rattle.framing.specs.Writing.{alike, shortest_code};

@@ -1,5 +1,7 @@
 // The sizes of a packet's frames: their sum, whether they are alike, and whether a packet may hold them (RFC 6716
 // sections 3.1 and 3.4).
+#![tactic(auto)]
+
 ghost use Rattle.std.specs.Prelude.{◌≡◌, eqb};
 ghost use Rattle.lists.specs.Every.{every};
 ghost use Rattle.framing.specs.Lengths.{total};

@@ -1,4 +1,6 @@
 // Whether a packet keeps the rules (RFC 6716 sections 3.2 and 3.4, RFC 8251 section 4).
+#![tactic(auto)]
+
 ghost use Rattle.std.specs.Prelude.{◌≤◌, ◌≡◌, length};
 ghost use Rattle.framing.specs.Form.{form_of};
 ghost use Rattle.packet_form.specs.Inner.{Bounded};

@@ -1,4 +1,6 @@
 // What the packet lister prints for an input, put into a lent buffer.
+#![tactic(auto)]
+
 ghost use Rattle.std.specs.Prelude.{◌≡◌};
 ghost use Rattle.listing.specs.Printed.{printed};
 ghost use Rattle.packet_text.specs.PacketText.{packet_text};

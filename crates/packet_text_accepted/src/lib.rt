@@ -1,5 +1,7 @@
 // What the packet lister prints of a packet that is accepted, put into a lent buffer. Each function answers the place
 // behind what it put.
+#![tactic(auto)]
+
 ghost use Rattle.std.specs.Prelude.{◌+◌, ◌≤◌, [], ◌∷◌, pos, length};
 ghost use Rattle.numerals.specs.Inner.{Put};
 ghost use Rattle.listing.specs.Lines.{line};

@@ -1,5 +1,7 @@
 // The lines that list the frames of a packet, put into a lent buffer at a place. Each function answers the place behind
 // what it put.
+#![tactic(auto)]
+
 ghost use Rattle.std.specs.Prelude.{◌+◌, ◌≤◌, length};
 ghost use Rattle.numerals.specs.Inner.{Put};
 ghost use Rattle.packet_text_frames.specs.FrameLines.{frame_line, frame_lines};

@@ -1,4 +1,6 @@
 // How long the frames of a packet last (RFC 6716, sections 3.1 and 3.2.5).
+#![tactic(auto)]
+
 ghost use Rattle.std.specs.Prelude.{◌*◌, ◌<◌, ◌≡◌};
 ghost use Rattle.framing.specs.Toc.{duration, in_time};
 

@@ -1,20 +1,22 @@
 // A packet held with the place reached (document 01): the lent slice and the reader's state in one struct, and thin
 // readers over it. Each takes the view apart, calls the reader by value of the room `entdec`, and hands the packet on
 // with the answer.
+#![tactic(auto)]
+
 ghost use Rattle.std.specs.Prelude.{◌≡◌};
 ghost use Rattle.entcode.specs.Models.{bit as a-bit, raw, num, tab};
 ghost use Rattle.packet_view.specs.View.{view_open, view_tell, view_sym, view_at};
 
 use entcode::{Dec, Decoded};
 
-#[derive(Drop)]
+#[derive(Clone, Copy)]
 pub struct PacketView<'a> {
     pub packet: &'a [u8],
     pub reader: Dec,
 }
 
 // A call's answer, and the packet that it was read from.
-#[derive(Drop)]
+#[derive(Clone, Copy)]
 pub struct PacketRead<'a> {
     pub packet: &'a [u8],
     pub read: Decoded,

@@ -1,4 +1,6 @@
 // The call that writes a whole packet into a lent buffer (RFC 6716 section 3).
+#![tactic(auto)]
+
 ghost use Rattle.std.specs.Prelude.{◌-◌, ◌≡◌, cond, eqb, length};
 ghost use Rattle.std.proofs.lemmas.List.Edits.{sets};
 ghost use Rattle.framing.specs.Inner.{Writable};

@@ -1,6 +1,8 @@
 // Replays recorded inputs of the two programs: each record of standard input has an input and the text that the
 // program prints by the crate's answers (docs/RECORDED.md has the layout). Prints how many inputs of each program
 // agreed, and then that all did, or the number of the first that did not.
+#![tactic(auto)]
+
 ghost use Rattle.records.specs.Inner.{Placed, Parted};
 
 use libc::STDIN_FILENO;

@@ -1,5 +1,7 @@
 // A block of a frame's pulses, written by its count and shift (RFC 6716, section 4.2.7.8): its splits, and its signs.
 // A block without pulses says nothing.
+#![tactic(auto)]
+
 ghost use Rattle.std.specs.Prelude.{◌≡◌, false, map, ◌^◌, ◌<◌, ◌≤◌, pos, nat_abs, length};
 ghost use Rattle.entcode.specs.Flat.{out};
 ghost use Rattle.entcode.specs.Inner.Writing.{Core};

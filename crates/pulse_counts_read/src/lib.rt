@@ -1,5 +1,7 @@
 // The pulse counts of a frame's blocks, read (RFC 6716, section 4.2.7.8.2): the first loop of the crate's
 // decode_pulses.rs. The pulses' rows are lent whole.
+#![tactic(auto)]
+
 ghost use Rattle.std.specs.Prelude.{◌≡◌, ◌^◌, ◌<◌, ◌≤◌};
 ghost use Rattle.lists.specs.AtMost.{AtMost};
 ghost use Rattle.entcode.specs.Inner.Reading.{Core};
@@ -12,7 +14,7 @@ use entcode::Dec;
 use pulse_row_places::{COUNT, COUNT_END};
 
 // A block's count before low bits, the number of its low bits, and the reader behind them.
-#[derive(Drop)]
+#[derive(Clone, Copy)]
 pub struct BlockRead {
     pub count: u32,
     pub lows: u32,
@@ -20,7 +22,7 @@ pub struct BlockRead {
 }
 
 // The same for each block of a frame.
-#[derive(Drop)]
+#[derive(Clone, Copy)]
 pub struct BlocksRead {
     pub counts: [u8; 20],
     pub lows: [u8; 20],

@@ -1,5 +1,7 @@
 // The pulse counts of a frame's blocks, written as the reader reads them (RFC 6716, section 4.2.7.8.2): a block's sum
 // of pulses before low bits (the crate's sum_pulses), behind a 17 for each of its low bits (its nRshifts).
+#![tactic(auto)]
+
 ghost use Rattle.std.specs.Prelude.{◌≡◌, ◌^◌, ◌<◌, ◌≤◌};
 ghost use Rattle.lists.specs.AtMost.{AtMost};
 ghost use Rattle.entcode.specs.Flat.{out};

@@ -1,5 +1,7 @@
 // The low bits of a block's pulses, read (RFC 6716, section 4.2.7.8.4): for each place all of them, highest first.
 // The third loop of the crate's decode_pulses.rs. The row is lent.
+#![tactic(auto)]
+
 ghost use Rattle.std.specs.Prelude.{◌≡◌, ◌+◌, ◌^◌, ◌<◌, ◌≤◌, length};
 ghost use Rattle.lists.specs.AtMost.{AtMost};
 ghost use Rattle.sheet.specs.Directory.{low_bit_row};

@@ -1,5 +1,7 @@
 // The low bits of a block's pulses, written as the reader reads them (RFC 6716, section 4.2.7.8.4): the third loop of the crate's
 // encode_pulses.rs. The row is lent.
+#![tactic(auto)]
+
 ghost use Rattle.std.specs.Prelude.{◌≡◌, map, ◌/◌, ◌^◌, ◌<◌, ◌≤◌, nat_abs, length};
 ghost use Rattle.sheet.specs.Directory.{low_bit_row};
 ghost use Rattle.entcode.specs.Flat.{out};

@@ -1,9 +1,11 @@
 // The numbers of a call on a frame's pulses, and how many blocks they make (document 01, refusals 4 and 6).
+#![tactic(auto)]
+
 ghost use Rattle.std.specs.Prelude.{◌≡◌, ◌≤◌};
 ghost use Rattle.silk.specs.FrameCalls.{pulse_numbers_ok, blocks_of, pulse_rule};
 
 // What a call that writes pulses is told of its frame.
-#[derive(Drop)]
+#[derive(Clone, Copy)]
 pub struct CallNumbers {
     pub khz: u32,
     pub subframes: u32,
@@ -12,7 +14,7 @@ pub struct CallNumbers {
 }
 
 // A frame by its blocks of 16 places, and its types.
-#[derive(Drop)]
+#[derive(Clone, Copy)]
 pub struct FrameNumbers {
     pub blocks: usize,
     pub signal: u32,

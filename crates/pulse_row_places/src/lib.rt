@@ -1,5 +1,7 @@
 // Where the rows that a block's pulses are coded by stand in the pulses' rows (RFC 6716, section 4.2.7.8): of its
 // count behind low bits, of its splits, of its signs. Reader and writer take them from here.
+#![tactic(auto)]
+
 ghost use Rattle.std.specs.Prelude.{◌≡◌, cond, ◌+◌, ◌*◌, ◌<◌, ◌≤◌, min, eqb};
 ghost use mathlib.Core.List.{flatten};
 ghost use Rattle.sheet.specs.Rows.{pulse_rows};

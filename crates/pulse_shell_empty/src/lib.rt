@@ -1,4 +1,6 @@
 // A block without pulses.
+#![tactic(auto)]
+
 ghost use Rattle.std.specs.Prelude.{◌≡◌, pos, length, replicate};
 
 // No place has a pulse.

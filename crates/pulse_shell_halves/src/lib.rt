@@ -1,5 +1,7 @@
 // The splits of a block's pulses below the first, read (RFC 6716, section 4.2.7.8.3): 8 to 4 to 2 to 1 places, left half
 // first, depth first. Names as in the crate's shell_coder.rs. The pulses' rows are lent whole.
+#![tactic(auto)]
+
 ghost use Rattle.std.specs.Prelude.{◌≡◌, cond, ◌-◌, ◌^◌, ◌<◌, ◌≤◌, eqb, length};
 ghost use Rattle.entcode.specs.Inner.Reading.{Core};
 ghost use Rattle.tree.specs.Inner.Growth.{of_symbols};

@@ -1,10 +1,12 @@
 // The splits of a block's pulses, added up (RFC 6716, section 4.2.7.8.3), as by the crate's combine_pulses.
+#![tactic(auto)]
+
 ghost use Rattle.std.specs.Prelude.{◌≡◌, map, ◌≤◌, length};
 ghost use Rattle.silk.specs.PulseSyntax.{total};
 ghost use Rattle.pulse_shell_splits.specs.Inner.{parts_of, all_of, left_of};
 
 // The splits of a block in their order: of `all` pulses, `left` lie in the left half.
-#[derive(Drop)]
+#[derive(Clone, Copy)]
 pub struct Splits {
     pub all: [u8; 15],
     pub left: [u8; 15],

@@ -1,4 +1,6 @@
 // Which splits of a block have pulses, and say something (RFC 6716, section 4.2.7.8.3).
+#![tactic(auto)]
+
 ghost use Rattle.std.specs.Prelude.{◌≡◌, cond, ◌+◌, ◌<◌, ◌≤◌, eqb, length};
 ghost use Rattle.silk.specs.PulseSyntax.{total};
 ghost use Rattle.pulse_shell_splits.specs.Inner.{parts_of};

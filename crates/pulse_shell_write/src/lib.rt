@@ -1,5 +1,7 @@
 // The splits of a block's pulses, written as the reader reads them (RFC 6716, section 4.2.7.8.3): all halves are
 // added up first, as by the crate's combine_pulses, so that one loop writes and the state stays where it is.
+#![tactic(auto)]
+
 ghost use Rattle.std.specs.Prelude.{◌≡◌, ◌^◌, ◌≤◌, length};
 ghost use Rattle.entcode.specs.Flat.{out};
 ghost use Rattle.entcode.specs.Inner.Writing.{Core};

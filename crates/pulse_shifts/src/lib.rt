@@ -1,5 +1,7 @@
 // Which shift each block of a frame's pulses is written with (document 01, "Pulses"): the smallest at which the
 // shifted magnitudes total at most 16.
+#![tactic(auto)]
+
 ghost use Rattle.std.specs.Prelude.{◌≡◌, ◌*◌, ◌≤◌, length};
 ghost use Rattle.silk.specs.PulseSyntax.{total, rows16};
 ghost use Rattle.silk.specs.PulseWriting.{shifted_by};
@@ -8,14 +10,14 @@ ghost use Rattle.silk.specs.Inner.Pulses.{Shift, Planned};
 use pulse_magnitude::magnitude;
 
 // A block's count before low bits and its shift: 0 and 11 for a block that has none.
-#[derive(Drop)]
+#[derive(Clone, Copy)]
 pub struct BlockShift {
     pub count: u32,
     pub shift: u32,
 }
 
 // The same for each block of a frame, and whether each has one.
-#[derive(Drop)]
+#[derive(Clone, Copy)]
 pub struct Plan {
     pub counts: [u8; 20],
     pub lows: [u8; 20],

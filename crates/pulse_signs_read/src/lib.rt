@@ -1,5 +1,7 @@
 // The signs of a block's pulses, read (RFC 6716, section 4.2.7.8.5): one for each place that is not 0; symbol 0 is
 // minus. Names as in the crate's code_signs.rs. The block's row is lent.
+#![tactic(auto)]
+
 ghost use Rattle.std.specs.Prelude.{◌≡◌, true, ◌^◌, ◌<◌, ◌≤◌, pos, nat_abs, length, replicate};
 ghost use Rattle.icdf.specs.Rule.{Icdf};
 ghost use Rattle.entcode.specs.Inner.Reading.{Core};
@@ -12,7 +14,7 @@ ghost use Rattle.pulse_signs_read.specs.Inner.{Gathered};
 use entcode::Dec;
 
 // A pulse with its sign, and the reader behind it.
-#[derive(Drop)]
+#[derive(Clone, Copy)]
 pub struct SignRead {
     pub pulse: i16,
     pub state: Dec,

@@ -1,5 +1,7 @@
 // The signs of a block's pulses, written as the reader reads them (RFC 6716, section 4.2.7.8.5). Names as in the
 // crate's code_signs.rs. The block's row is lent.
+#![tactic(auto)]
+
 ghost use Rattle.std.specs.Prelude.{◌≡◌, cond, map, ◌+◌, ◌^◌, ◌<◌, ◌≤◌, pos, nat_abs, length, take};
 ghost use Rattle.std.specs.Int.Signed.{lt_z};
 ghost use Rattle.icdf.specs.Rule.{Icdf, Writable};

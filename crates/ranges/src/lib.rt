@@ -1,4 +1,6 @@
 // Whether numbers lie in a range.
+#![tactic(auto)]
+
 ghost use Rattle.std.specs.Prelude.{◌≡◌};
 ghost use Rattle.lists.specs.Every.{every};
 ghost use Rattle.ranges.specs.InRange.{in_range};

@@ -1,5 +1,7 @@
 // The side indices of a frame, what is kept for the next, and the numbers of a call, by the bytes of a record
 // (docs/RECORDED.md, "Layout").
+#![tactic(auto)]
+
 ghost use Rattle.std.specs.Prelude.{◌+◌, ◌≤◌, length};
 
 use record_bytes::numbers::{small, value, word_run};
@@ -52,7 +54,7 @@ pub fn same_indices_run(x: Indices, bytes: &[u8]) -> bool
 
 // ---- what is kept for the next frame, 6 bytes
 
-#[derive(Drop)]
+#[derive(Clone, Copy)]
 pub struct Kept {
     pub prevtype: u32,
     pub prevlag: i16,
@@ -70,7 +72,7 @@ pub fn kept_run(bytes: &[u8], at: usize) -> Kept
 // ---- the numbers of a call
 
 // Rate in kHz and subframes; active flag, mode and previous type, or signal type, offset type and rate level.
-#[derive(Drop)]
+#[derive(Clone, Copy)]
 pub struct Numbers {
     pub khz: u32,
     pub subframes: u32,

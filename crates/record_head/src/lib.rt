@@ -1,4 +1,6 @@
 // What a record begins with (docs/RECORDED.md, "Layout").
+#![tactic(auto)]
+
 ghost use Rattle.std.specs.Prelude.{◌<◌, length};
 ghost use Rattle.record_head.specs.Inner.{Within};
 
@@ -11,7 +13,7 @@ const HEAD_BYTES: usize = 4;
 pub const BROKEN: u8 = 255;
 
 // What a record begins with, and where the rest of it stands.
-#[derive(Drop)]
+#[derive(Clone, Copy)]
 pub struct Head {
     pub call: u8,
     pub how: u8,

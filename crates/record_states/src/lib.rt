@@ -1,4 +1,6 @@
 // States, eleven numbers each, and answers: refusal, value and state (docs/RECORDED.md, "Layout").
+#![tactic(auto)]
+
 ghost use Rattle.std.specs.Prelude.{◌+◌, ◌≤◌, length};
 ghost use Rattle.record_states.specs.Inner.{state_bytes, answer_bytes};
 

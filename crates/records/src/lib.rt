@@ -1,5 +1,7 @@
 // Records one after the other, as docs/RECORDED.md lays them out: where the parts of each stand, and what is counted
 // and printed of them. What the programs that replay them share.
+#![tactic(auto)]
+
 ghost use Rattle.std.specs.Prelude.{◌≡◌, ◌+◌, ◌<◌, ◌≤◌, length};
 ghost use Rattle.records.specs.Inner.{Started, Placed, Parted};
 
@@ -31,7 +33,7 @@ const BYTES: u8 = 0;
 
 // The next record, the two ends of the bytes that calls are given, the state that the last call handed back; whether
 // all agreed so far, how many calls there were, and how many of each number agreed.
-#[derive(Drop)]
+#[derive(Clone, Copy)]
 pub struct Place {
     pub at: usize,
     pub from: usize,
@@ -61,7 +63,7 @@ pub fn start() -> Place
 // Where the parts of a record stand: its answer and numbers up to what it is given besides, that up to its end, its
 // state, the state that it hands back, the two ends of the bytes after it, and the next record. Of bytes, and of a
 // record that breaks the layout, the first three are empty.
-#[derive(Drop)]
+#[derive(Clone, Copy)]
 pub struct Parts {
     pub call: u8,
     pub how: u8,

@@ -1,4 +1,6 @@
 // The order of refusals: the first check that refuses decides (document 01).
+#![tactic(auto)]
+
 ghost use Rattle.std.specs.Prelude.{◌≡◌};
 ghost use Rattle.refusals.specs.First.{first_of};
 

@@ -1,4 +1,6 @@
 // The numbers of a program's input: bytes, and values of two bytes, high first.
+#![tactic(auto)]
+
 ghost use Rattle.std.specs.Prelude.{◌+◌, ◌*◌, ◌≤◌, ◌<◌, ◌≡◌, length};
 ghost use Rattle.sections.specs.Values.{byte_at, value_at, values_at};
 

@@ -1,10 +1,12 @@
 // The side-index record of a SILK frame and the answers of the frame calls, laid out for C (RFC 6716, section 4.2.7).
 // No function stands here: `specs/` has the frame's syntax, for its reader and its writer.
+#![tactic(auto)]
+
 use entcode::{Dec, Enc};
 
 // Side indices: the crate's SideInfoIndices, in the order of the C interface.
 #[repr(C)]
-#[derive(Drop)]
+#[derive(Clone, Copy)]
 pub struct Indices {
     pub gains: [i8; 4],
     pub ltp: [i8; 4],
@@ -21,7 +23,7 @@ pub struct Indices {
 
 // The setting of a frame: kHz 8, 12 or 16; 2 or 4 subframes; active 0 or 1; mode 0 independent, 1 independent without
 // LTP scaling, 2 conditional; signal type and lag of the frame before.
-#[derive(Drop)]
+#[derive(Clone, Copy)]
 pub struct Setting {
     pub khz: u32,
     pub subframes: u32,
@@ -32,7 +34,7 @@ pub struct Setting {
 }
 
 // A record with some of its fields read, and the reader behind them.
-#[derive(Drop)]
+#[derive(Clone, Copy)]
 pub struct IndicesPart {
     pub indices: Indices,
     pub state: Dec,
@@ -40,7 +42,7 @@ pub struct IndicesPart {
 
 // What reading side indices answers.
 #[repr(C)]
-#[derive(Drop)]
+#[derive(Clone, Copy)]
 pub struct IndicesRead {
     pub refusal: u32,
     pub state: Dec,
@@ -51,7 +53,7 @@ pub struct IndicesRead {
 
 // What writing side indices answers.
 #[repr(C)]
-#[derive(Drop)]
+#[derive(Clone, Copy)]
 pub struct IndicesWritten {
     pub refusal: u32,
     pub state: Enc,

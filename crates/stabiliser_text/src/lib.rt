@@ -1,4 +1,6 @@
 // What the stabiliser program prints for an input, put into a lent buffer.
+#![tactic(auto)]
+
 ghost use Rattle.std.specs.Prelude.{◌+◌, ◌*◌, ◌≤◌, ◌≡◌, length};
 ghost use Rattle.numerals.specs.Inner.{Put};
 ghost use Rattle.listing.specs.Printed.{printed};

@@ -1,4 +1,6 @@
 // What the stabiliser program prints of an answer, put into a lent buffer.
+#![tactic(auto)]
+
 ghost use Rattle.std.specs.Prelude.{◌≤◌, length};
 ghost use Rattle.numerals.specs.Inner.{Put};
 ghost use Rattle.stabiliser_text_answer.specs.Inner.{Small};

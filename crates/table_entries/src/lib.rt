@@ -1,4 +1,6 @@
 // One exported lookup: any entry of any constant, for a comparison from outside.
+#![tactic(auto)]
+
 ghost use Rattle.std.specs.Prelude.{◌≡◌, [], ◌<◌, get_or};
 ghost use Rattle.table_entries.specs.Entries.{entry_of, no_entry, row_tables};
 

@@ -1,5 +1,7 @@
 // The C interface (include/tignarops.h): each call hands its slices and states to the room that does the work, and
 // has its contract.
+#![tactic(auto)]
+
 ghost use Rattle.std.specs.Prelude.{◌≡◌};
 ghost use Rattle.entcode.specs.Models.{bit, raw, num, tab};
 ghost use Rattle.entcode.specs.Reading.{dec_sym, dec_tell, dec_open};

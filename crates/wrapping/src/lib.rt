@@ -1,4 +1,6 @@
 // Signed sums kept in 16 bits: what `wrapping_add` of i16 is in the crate.
+#![tactic(auto)]
+
 ghost use Rattle.std.specs.Prelude.{◌≤◌, ◌≡◌, ◌+ℤ◌};
 ghost use Rattle.ints.specs.Parts.{up, down};
 ghost use Rattle.ints.specs.Wrap.{wrap16};

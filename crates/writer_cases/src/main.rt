@@ -1,6 +1,8 @@
 // Replays recorded calls of the writer: each record of standard input has a call and the crate's answer
 // (docs/RECORDED.md has the layout). Prints how many calls of each kind agreed, and then that all did, or the number
 // of the first that did not.
+#![tactic(auto)]
+
 ghost use Rattle.std.specs.Prelude.{◌+◌, ◌≤◌, length};
 ghost use Rattle.record_states.specs.Inner.{state_bytes};
 ghost use Rattle.records.specs.Inner.{Placed, Parted};
@@ -14,7 +16,7 @@ use records::calls::{ACCOUNT, BIT, BITS, FINISH, NUMBER, OPEN, TABLE};
 use records::{ANSWER_BYTES, Parts, Place, STATE_BYTES, WRITER_NUMBERS};
 
 // What is asked, and what it should answer.
-#[derive(Drop)]
+#[derive(Clone, Copy)]
 struct Call {
     call: u8,
     number: u32,

@@ -4,7 +4,7 @@ use Rattle.bitlen.proofs.LengthLaws.{leading_zeros_length}
 use Rattle.bitlen.proofs.ec_ilog.Statement.{statement}
 use Rattle.bitlen.proofs.ec_ilog.Tie as tie
 
-sub_result : tie.Need-overflow-sub-result
+sub_result : tie.Need-overflow_sub-result
 sub_result c = omega (arith, leading_zeros_length c.args.x)
 
 returns : tie.Need-returns

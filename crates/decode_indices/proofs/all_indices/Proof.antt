@@ -15,59 +15,59 @@ use Rattle.silk.proofs.IndexSteps.{reading_next}
 use Rattle.decode_indices.proofs.all_indices.Statement.{statement}
 use Rattle.decode_indices.proofs.all_indices.Tie as tie
 
-abbrev start : tie.After-kind-run → tie.Start
+abbrev start : tie.After-kind_run-k → tie.Start
 start c = c.before.before.before
 
-abbrev kind_of : tie.After-gains-run → tie.After-kind-run
+abbrev kind_of : tie.After-gains_run-g → tie.After-kind_run-k
 kind_of c = c.before.before.before
 
 -- the signal type
-signal_small : (c : tie.After-kind-run) → c.kind-run.result.value / 2 < 3
-signal_small c = omega (arith, c.kind-run.ensures.1)
+signal_small : (c : tie.After-kind_run-k) → c.kind_run-k.result.value / 2 < 3
+signal_small c = omega (arith, c.kind_run-k.ensures.1)
 
 -- ---- a reader for the next part, behind each part; its total is at most n
 
 abbrev Ready : tie.Start → Dec → ℕ → Type 0
 Ready z d n = Reading z.args.packet.now d z.args.rows.now n
 
-kind_read : (c : tie.After-kind-run) (n : ℕ) → 2 ^ 26 + 16 ≤ n → Ready (start c) c.kind-run.result.state n
-kind_read c n h = reading_next n (start c).requires.0 c.kind-run.ensures.0 h
+kind_read : (c : tie.After-kind_run-k) (n : ℕ) → 2 ^ 26 + 16 ≤ n → Ready (start c) c.kind_run-k.result.state n
+kind_read c n h = reading_next n (start c).requires.0 c.kind_run-k.ensures.0 h
 
-gains_read : (c : tie.After-gains-run) (n : ℕ) → 2 ^ 26 + 96 ≤ n → Ready (start (kind_of c)) c.gains-run.result.state n
-gains_read c n h = reading_next n (kind_read (kind_of c) (2 ^ 26 + 16) (omega arith)) c.gains-run.ensures h
+gains_read : (c : tie.After-gains_run-g) (n : ℕ) → 2 ^ 26 + 96 ≤ n → Ready (start (kind_of c)) c.gains_run-g.result.state n
+gains_read c n h = reading_next n (kind_read (kind_of c) (2 ^ 26 + 16) (omega arith)) c.gains_run-g.ensures h
 
-spectrum_read : (c : tie.After-spectrum-run) (n : ℕ) → 2 ^ 26 + 624 ≤ n → Ready (start (kind_of c.before)) c.spectrum-run.result.state n
-spectrum_read c n h = reading_next n (gains_read c.before (2 ^ 26 + 96) (omega arith)) c.spectrum-run.ensures h
+spectrum_read : (c : tie.After-spectrum_run-q) (n : ℕ) → 2 ^ 26 + 624 ≤ n → Ready (start (kind_of c.before)) c.spectrum_run-q.result.state n
+spectrum_read c n h = reading_next n (gains_read c.before (2 ^ 26 + 96) (omega arith)) c.spectrum_run-q.ensures h
 
-interpolation_read : (c : tie.After-interpolation-run) (n : ℕ) → 2 ^ 26 + 640 ≤ n
-    → Ready (start (kind_of c.before.before)) c.interpolation-run.result.state n
-interpolation_read c n h = reading_next n (spectrum_read c.before (2 ^ 26 + 624) (omega arith)) c.interpolation-run.ensures h
+interpolation_read : (c : tie.After-interpolation_run-i) (n : ℕ) → 2 ^ 26 + 640 ≤ n
+    → Ready (start (kind_of c.before.before)) c.interpolation_run-i.result.state n
+interpolation_read c n h = reading_next n (spectrum_read c.before (2 ^ 26 + 624) (omega arith)) c.interpolation_run-i.ensures h
 
-voicing_read : (c : tie.After-voicing-index) (n : ℕ) → 2 ^ 26 + 800 ≤ n
-    → Ready (start (kind_of c.before.before.before)) c.voicing-index.result.state n
-voicing_read c n h = reading_next n (interpolation_read c.before (2 ^ 26 + 640) (omega arith)) c.voicing-index.ensures h
+voicing_read : (c : tie.After-voicing_index-v) (n : ℕ) → 2 ^ 26 + 800 ≤ n
+    → Ready (start (kind_of c.before.before.before)) c.voicing_index-v.result.state n
+voicing_read c n h = reading_next n (interpolation_read c.before (2 ^ 26 + 640) (omega arith)) c.voicing_index-v.ensures h
 
 -- ---- the calls
 
-gains_run_requires : tie.Need-gains-run-requires
+gains_run_requires : tie.Need-gains_run-g-requires
 gains_run_requires c κs =
     let k = c.before.before in
     (kind_read k (2 ^ 28) (omega arith), ((start k).requires.1.1, signal_small k))
 
-spectrum_run_requires : tie.Need-spectrum-run-requires
+spectrum_run_requires : tie.Need-spectrum_run-q-requires
 spectrum_run_requires c κs =
     let k = kind_of c in
     (gains_read c (2 ^ 27) (omega arith), ((start k).pre.1.0, signal_small k))
 
-interpolation_run_requires : tie.Need-interpolation-run-requires
+interpolation_run_requires : tie.Need-interpolation_run-i-requires
 interpolation_run_requires c κs = spectrum_read c (2 ^ 29) (omega arith)
 
-voicing_index_requires : tie.Need-voicing-index-requires
+voicing_index_requires : tie.Need-voicing_index-v-requires
 voicing_index_requires c κs =
     let p = (start (kind_of c.before.before)).requires.1 in
     (interpolation_read c (2 ^ 27) (omega arith), (p.0, p.1))
 
-seed_run_requires : tie.Need-seed-run-requires
+seed_run_requires : tie.Need-seed_run-requires
 seed_run_requires c κs = voicing_read c (2 ^ 29) (omega arith)
 
 returns : tie.Need-returns
@@ -78,13 +78,13 @@ returns c =
     let q = i.before in
     let g = q.before in
     let k = kind_of g in
-    let n = k.kind-run.result.value in
-    let e : to_z w8 (n / 2) ≡ pos (n / 2) = to_z_pos w8 {n = n / 2} (omega (arith, k.kind-run.ensures.1)) in
+    let n = k.kind_run-k.result.value in
+    let e : to_z w8 (n / 2) ≡ pos (n / 2) = to_z_pos w8 {n = n / 2} (omega (arith, k.kind_run-k.ensures.1)) in
     let f : to_z w8 (n % 2) ≡ pos (n % 2) = to_z_pos w8 {n = n % 2} (omega arith) in
-    ran_bind _ k.kind-run.ensures.0
-    (ran_bind _ (rw (e, f) at g.gains-run.ensures)
-    (ran_bind _ q.spectrum-run.ensures
-    (ran_bind _ i.interpolation-run.ensures (ran_bind _ v.voicing-index.ensures c.seed-run.ensures))))
+    ran_bind _ k.kind_run-k.ensures.0
+    (ran_bind _ (rw (e, f) at g.gains_run-g.ensures)
+    (ran_bind _ q.spectrum_run-q.ensures
+    (ran_bind _ i.interpolation_run-i.ensures (ran_bind _ v.voicing_index-v.ensures c.seed_run.ensures))))
 
 pub all_indices_spec : {M : Type 1} → statement M
 all_indices_spec =

@@ -24,24 +24,24 @@ prevlag_fits : (z : tie.Start) → SFits w16 z.args.s.prevlag
 prevlag_fits z = search rules
 
 -- the first refusal of gate and numbers
-abbrev begun : tie.After-first-refusal → tie.Start
+abbrev begun : tie.After-first_refusal-n → tie.Start
 begun c = c.before.before.before.before
 
-rule_is : (c : tie.After-first-refusal)
-    → let z = begun c in c.first-refusal.result ≡ indices_rule z.args.packet.now z.args.d z.args.s
-rule_is c = rw (c.before.gate.ensures, c.before.before.numbers-rule.ensures) at c.first-refusal.ensures
+rule_is : (c : tie.After-first_refusal-n)
+    → let z = begun c in c.first_refusal-n.result ≡ indices_rule z.args.packet.now z.args.d z.args.s
+rule_is c = rw (c.before.gate.ensures, c.before.before.numbers_rule-rule.ensures) at c.first_refusal-n.ensures
 
 -- a call that is not refused
-abbrev opened : tie.Then1 → tie.Start
+abbrev opened : tie.Then-n-eq0 → tie.Start
 opened c = begun c.before
 
-open_rule : (c : tie.Then1) → let z = opened c in indices_rule z.args.packet.now z.args.d z.args.s ≡ 0
-open_rule c = sym (rule_is c.before) ∙ c.if1.true
+open_rule : (c : tie.Then-n-eq0) → let z = opened c in indices_rule z.args.packet.now z.args.d z.args.s ≡ 0
+open_rule c = sym (rule_is c.before) ∙ c.if-n-eq0.true
 
-accepts : (c : tie.Then1) → let z = opened c in Accepts z.args.packet.now z.args.d z.args.s
+accepts : (c : tie.Then-n-eq0) → let z = opened c in Accepts z.args.packet.now z.args.d z.args.s
 accepts c = let z = opened c in rule_accepts z.args.packet.now z.args.d z.args.s (open_rule c)
 
-all_indices_requires : tie.Need-all-indices-requires
+all_indices_requires : tie.Need-all_indices-a-requires
 all_indices_requires c κs =
     let a = accepts c.before.before in
     let r = c.before.index_rows_lem in (
@@ -54,24 +54,24 @@ accepted_requires c κs =
     let r = c.before in
     let b = r.before.before.before in
     let z = opened b in
-    let y : Bytes z.args.packet.now = λ i. omega (arith, b.before.before.before.before.shared-slice-known.given i) in
-    subst (λ (q : Got Indices). Upto 2 q.value.signal) r.all-indices.ensures.is
+    let y : Bytes z.args.packet.now = λ i. omega (arith, b.before.before.before.before.shared_slice_known-1.given i) in
+    subst (λ (q : Got Indices). Upto 2 q.value.signal) r.all_indices-a.ensures.is
     (indices_ended _ _ _ _ y (accepts b) (shape z)).holds.range.signal
 
-returns : tie.Need-returns
+returns : tie.Need-returns-then-n-eq0
 returns c =
     let r = c.before.before in
     let b = r.before.before.before in
     let z = opened b in
     (rw (to_z-of_z (prevlag_fits z)) at c.accepted.ensures)
-    ∙ ap (λ (q : Got Indices). indices_got z.args.s.prevlag q) (sym r.all-indices.ensures.is)
+    ∙ ap (λ (q : Got Indices). indices_got z.args.s.prevlag q) (sym r.all_indices-a.ensures.is)
     ∙ indices_runs _ _ _ z.args.s (open_rule b)
 
-returns_2 : tie.Need-returns-2
+returns_2 : tie.Need-returns-else-n-eq0
 returns_2 c =
     let e = c.before in
     let z = begun e.before in
-    rw (to_z-of_z (prevlag_fits z)) (indices_refused _ _ _ z.args.s e.before.first-refusal.result (rule_is e.before) e.if1.false)
+    rw (to_z-of_z (prevlag_fits z)) (indices_refused _ _ _ z.args.s e.before.first_refusal-n.result (rule_is e.before) e.if-n-eq0.false)
 
 pub silk_decode_indices_spec : {M : Type 1} → statement M
 silk_decode_indices_spec =

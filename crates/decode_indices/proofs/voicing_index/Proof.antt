@@ -7,15 +7,15 @@ use Rattle.silk.specs.IndexSyntax.{voicing}
 use Rattle.decode_indices.proofs.voicing_index.Statement.{statement}
 use Rattle.decode_indices.proofs.voicing_index.Tie as tie
 
-returns : tie.Need-returns
+returns : tie.Need-returns-then-signal-eq2
 unfolding voicing
-returns c = rw (eq-eqb _ _ c.before.if1.true) c.pitch-run.ensures
+returns c = rw (eq-eqb _ _ c.before.if-signal-eq2.true) c.pitch_run.ensures
 
-returns_2 : tie.Need-returns-2
+returns_2 : tie.Need-returns
 unfolding voicing
 returns_2 c =
     let z = c.before.before.before in
-    rw (ne_eqb _ _ c.if1.false) (ran_within {n = 0} {m = 160} (omega arith) (ran_done z.requires.0.core))
+    rw (ne_eqb _ _ c.if-signal-eq2.false) (ran_within {n = 0} {m = 160} (omega arith) (ran_done z.requires.0.core))
 
 pub voicing_index_spec : {M : Type 1} → statement M
 voicing_index_spec = tie.close (tie.spec (λ c κs. search rules) returns returns_2)

@@ -11,34 +11,34 @@ use Rattle.decode_pulses_run.proofs.Rounds.{round_start, round_fits, round_natur
 use Rattle.decode_pulses_run.proofs.lows.Statement.{statement}
 use Rattle.decode_pulses_run.proofs.lows.Tie as tie
 
-abbrev invariant_loop : tie.invariant_loop
+abbrev invariant_loop : tie.invariant-loop-i
 invariant_loop packet rows pulses₀ n x d₀ i₀ pulses d i = Lowering packet d₀ x.counts x.lows (rows16 n (mags pulses₀)) n pulses d i
 
-abbrev decreases_loop : tie.decreases_loop
+abbrev decreases_loop : tie.decreases-loop-i
 decreases_loop packet rows pulses₀ n x d₀ i₀ pulses d i = n - i
 
-abbrev start : tie.At-loop invariant_loop decreases_loop → tie.Start invariant_loop decreases_loop
+abbrev start : tie.At-loop-i invariant_loop decreases_loop → tie.Start invariant_loop decreases_loop
 start l = l.before.before.before
 
-block_lows_run_requires : tie.Need-block-lows-run-requires invariant_loop decreases_loop
+block_lows_run_requires : tie.Need-block_lows_run-d-requires invariant_loop decreases_loop
 block_lows_run_requires c κs =
     let l = c.before.before.before.before in
-    let t = c.before.before.before.loop-test.true in
+    let t = c.before.before.before.loop-i-test.true in
     let b = start l in
-    let g = l.loop.invariant in
+    let g = l.loop-i.invariant in
     let p = b.pre.1.1 in (
       g.turning.through.core,
       (
         omega (arith, g.turning.through.most, b.pre.1.0, p.1.0),
-        ((low_bit_in b.args.rows.now p.0, p.1.1 l.loop.i), (round_natural g t, round_size g t, (round_has g t).most)),
+        ((low_bit_in b.args.rows.now p.0, p.1.1 l.loop-i.i), (round_natural g t, round_size g t, (round_has g t).most)),
       ),
     )
 
-loop_again : tie.Need-loop-preserved invariant_loop decreases_loop
+loop_again : tie.Need-loop-i-preserved invariant_loop decreases_loop
 loop_again c =
     let t = c.before.before.before.before.before in
     let r = c.before.block-lows-run in
-    round_next t.before.loop.invariant t.loop-test.true r.ensures.is r.auto.1.1.1.0 r.ensures.ran
+    round_next t.before.loop-i.invariant t.loop-i-test.true r.ensures.is r.auto.1.1.1.0 r.ensures.ran
 
 pub lows_spec : {M : Type 1} → statement M
 lows_spec =
@@ -47,9 +47,9 @@ lows_spec =
     (λ c. let b = c.before.before in round_start b.requires.1.1.1.2 b.requires.0)
     (λ c. search rules) (λ c. search rules) (λ c. search rules) (λ c. search rules) (λ c. search rules)
     (λ c. search rules) (λ c. search rules) (λ c. search rules)
-    (λ c. omega (arith, round_fits c.before.before.before.loop.invariant c.before.before.loop-test.true))
-    (λ c. round_fits c.before.before.before.loop.invariant c.before.before.loop-test.true)
-    (λ c. let l = c.before.before.before.before in omega (arith, (start l).requires.1.1.1.1 l.loop.i))
+    (λ c. omega (arith, round_fits c.before.before.before.loop-i.invariant c.before.before.loop-i-test.true))
+    (λ c. round_fits c.before.before.before.loop-i.invariant c.before.before.loop-i-test.true)
+    (λ c. let l = c.before.before.before.before in omega (arith, (start l).requires.1.1.1.1 l.loop-i.i))
     block_lows_run_requires (λ c. search rules) (λ c. search rules) loop_again
-    (λ c. round_kept c.before.loop.invariant c.loop-test.false ∙ sym (start c.before).pre.1.1.1.2.size)
-    (λ c. round_end c.before.loop.invariant c.loop-test.false))
+    (λ c. round_kept c.before.loop-i.invariant c.loop-i-test.false ∙ sym (start c.before).pre.1.1.1.2.size)
+    (λ c. round_end c.before.loop-i.invariant c.loop-i-test.false))

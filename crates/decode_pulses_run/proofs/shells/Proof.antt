@@ -9,36 +9,36 @@ use Rattle.silk.proofs.PulseRounds.{Splitting, splitting_start, splitting_size, 
 use Rattle.decode_pulses_run.proofs.shells.Statement.{statement}
 use Rattle.decode_pulses_run.proofs.shells.Tie as tie
 
-abbrev invariant_loop : tie.invariant_loop
+abbrev invariant_loop : tie.invariant-loop-i
 invariant_loop packet rows pulses₀ n x d₀ i₀ pulses d i = Splitting packet d₀ x.counts x.lows n pulses d i
 
-abbrev decreases_loop : tie.decreases_loop
+abbrev decreases_loop : tie.decreases-loop-i
 decreases_loop packet rows pulses₀ n x d₀ i₀ pulses d i = n - i
 
-abbrev start : tie.At-loop invariant_loop decreases_loop → tie.Start invariant_loop decreases_loop
+abbrev start : tie.At-loop-i invariant_loop decreases_loop → tie.Start invariant_loop decreases_loop
 start l = l.before.before.before.before
 
 -- the slice keeps its length
-sized : (l : tie.At-loop invariant_loop decreases_loop) → length l.loop.pulses ≡ (start l).args.n * 16
-sized l = splitting_size _ _ _ _ _ _ _ _ l.loop.invariant
+sized : (l : tie.At-loop-i invariant_loop decreases_loop) → length l.loop-i.pulses ≡ (start l).args.n * 16
+sized l = splitting_size _ _ _ _ _ _ _ _ l.loop-i.invariant
 
-silk_shell_decoder_run_requires : tie.Need-silk-shell-decoder-run-requires invariant_loop decreases_loop
+silk_shell_decoder_run_requires : tie.Need-silk_shell_decoder_run-d-requires invariant_loop decreases_loop
 silk_shell_decoder_run_requires c κs =
     let l = c.before.before.before in
-    let i = l.loop.i in
-    let g = l.loop.invariant.turning.through in
+    let i = l.loop-i.i in
+    let g = l.loop-i.invariant.turning.through in
     let b = start l in
     let p = b.pre.1.1 in
-    let m = mid_len (i * 16) (i * 16 + 16) l.loop.pulses (omega (arith, sized l)) in
+    let m = mid_len (i * 16) (i * 16 + 16) l.loop-i.pulses (omega (arith, sized l)) in
     (g.core, (omega (arith, g.most, b.pre.1.0, p.1.0), (p.0, (p.1.2 i, omega (arith, m)))))
 
-loop_again : tie.Need-loop-preserved invariant_loop decreases_loop
+loop_again : tie.Need-loop-i-preserved invariant_loop decreases_loop
 loop_again c =
     let t = c.before.before.before.before in
     let l = t.before.loop in
     let r = c.before.silk-shell-decoder-run in
     let few = (start t.before).pre.1.1.1.2 l.i in
-    splitting_next _ _ _ _ _ l.pulses l.d l.i l.invariant t.loop-test.true few r.new.1.1.1.0 r.result r.ensures
+    splitting_next _ _ _ _ _ l.pulses l.d l.i l.invariant t.loop-i-test.true few r.new.1.1.1.0 r.result r.ensures
 
 pub shells_spec : {M : Type 1} → statement M
 shells_spec =
@@ -48,7 +48,7 @@ shells_spec =
     (λ c. search rules) (λ c. search rules) (λ c. search rules) (λ c. search rules) (λ c. search rules)
     (λ c. omega (arith, sized c.before.before))
     (λ c. omega (arith, sized c.before.before))
-    (λ c. let l = c.before.before.before in omega (arith, (start l).requires.1.1.1.2 l.loop.i))
+    (λ c. let l = c.before.before.before in omega (arith, (start l).requires.1.1.1.2 l.loop-i.i))
     silk_shell_decoder_run_requires (λ c. search rules) (λ c. search rules) loop_again
     (λ c. sized c.before ∙ sym (start c.before).pre.1.1.1.1)
-    (λ c. let l = c.before.loop in splitting_end _ _ _ _ _ l.pulses l.d l.i l.invariant c.loop-test.false))
+    (λ c. let l = c.before.loop in splitting_end _ _ _ _ _ l.pulses l.d l.i l.invariant c.loop-i-test.false))

@@ -15,22 +15,22 @@ use Rattle.decode_pulses_run.proofs.Rounds.{round_start, round_fits, round_natur
 use Rattle.decode_pulses_run.proofs.signs.Statement.{statement}
 use Rattle.decode_pulses_run.proofs.signs.Tie as tie
 
-abbrev invariant_loop : tie.invariant_loop
+abbrev invariant_loop : tie.invariant-loop-i
 invariant_loop packet rows pulses₀ f x n d₀ i₀ pulses d i =
     Signing packet d₀ f.signal f.offset x.counts x.lows (rows16 f.blocks (mags pulses₀)) f.blocks pulses d i
 
-abbrev decreases_loop : tie.decreases_loop
+abbrev decreases_loop : tie.decreases-loop-i
 decreases_loop packet rows pulses₀ f x n d₀ i₀ pulses d i = f.blocks - i
 
-abbrev start : tie.At-loop invariant_loop decreases_loop → tie.Start invariant_loop decreases_loop
+abbrev start : tie.At-loop-i invariant_loop decreases_loop → tie.Start invariant_loop decreases_loop
 start l = l.before.before.before
 
 -- the count of the block at hand
-abbrev count : tie.At-loop invariant_loop decreases_loop → ℕ
-count l = get_or (start l).args.t4.counts l.loop.i 0
+abbrev count : tie.At-loop-i invariant_loop decreases_loop → ℕ
+count l = get_or (start l).args.t4.counts l.loop-i.i 0
 
 -- the row that this turn lends: it ends within the rows, and it is the block's
-row_ends : (c : tie.After-sign-row-at-run invariant_loop decreases_loop) → c.sign-row-at-run.result + 2 ≤ length (start c.before.before.before).args.rows.now
+row_ends : (c : tie.After-sign_row_at_run-row invariant_loop decreases_loop) → c.sign_row_at_run-row.result + 2 ≤ length (start c.before.before.before).args.rows.now
 row_ends c =
     let l = c.before.before.before in
     let b = start l in
@@ -38,9 +38,9 @@ row_ends c =
     let r = c.sign-row-at-run in
     omega (arith, sign_ends b.args.f.signal b.args.f.offset (count l) p.1.1 p.1.2 r.result r.ensures, p.0.size)
 
-row_is : (c : tie.After-sign-row-at-run invariant_loop decreases_loop)
+row_is : (c : tie.After-sign_row_at_run-row invariant_loop decreases_loop)
     → let b = start c.before.before.before in
-    let r = c.sign-row-at-run.result in
+    let r = c.sign_row_at_run-row.result in
     take (r + 2 - r) (drop r b.args.rows.now) ≡ sign_row_of b.args.f.signal b.args.f.offset (count c.before.before.before)
 row_is c =
     let l = c.before.before.before in
@@ -49,16 +49,16 @@ row_is c =
     let r = c.sign-row-at-run in
     sign_lent b.args.f.signal b.args.f.offset (count l) p.1.1 p.1.2 r.result r.ensures b.args.rows.now p.0
 
-fits : (c : tie.In-loop invariant_loop decreases_loop) → c.before.loop.i * 16 + 16 ≤ length c.before.loop.pulses
-fits c = round_fits c.before.loop.invariant c.loop-test.true
+fits : (c : tie.In-loop-i invariant_loop decreases_loop) → c.before.loop-i.i * 16 + 16 ≤ length c.before.loop-i.pulses
+fits c = round_fits c.before.loop-i.invariant c.loop-i-test.true
 
-silk_decode_signs_run_requires : tie.Need-silk-decode-signs-run-requires invariant_loop decreases_loop
+silk_decode_signs_run_requires : tie.Need-silk_decode_signs_run-d-requires invariant_loop decreases_loop
 silk_decode_signs_run_requires c κs =
     let s = c.before.before.before.before in
     let l = s.before.before.before in
-    let t = s.before.before.loop-test.true in
+    let t = s.before.before.loop-i-test.true in
     let b = start l in
-    let g = l.loop.invariant in
+    let g = l.loop-i.invariant in
     let p = b.pre.1.1 in (
       g.turning.through.core,
       (
@@ -67,15 +67,15 @@ silk_decode_signs_run_requires c κs =
       ),
     )
 
-loop_again : tie.Need-loop-preserved invariant_loop decreases_loop
+loop_again : tie.Need-loop-i-preserved invariant_loop decreases_loop
 loop_again c =
     let s = c.before.before.before.before.before.before in
     let l = s.before.before.before in
     let r = c.before.silk-decode-signs-run in
     let y = r.new.1.1.1.0 in
-    let m = mags (block_of l.loop.pulses l.loop.i) in
-    round_next l.loop.invariant s.before.before.loop-test.true (sym (map-id y)) r.auto.1.1.1.0
-    (subst (λ (q : List ℕ). Ran (start l).args.packet.now l.loop.d (each (pos 0) (sign q) m) 256 y r.result) (row_is s) r.ensures)
+    let m = mags (block_of l.loop-i.pulses l.loop-i.i) in
+    round_next l.loop-i.invariant s.before.before.loop-i-test.true (sym (map-id y)) r.auto.1.1.1.0
+    (subst (λ (q : List ℕ). Ran (start l).args.packet.now l.loop-i.d (each (pos 0) (sign q) m) 256 y r.result) (row_is s) r.ensures)
 
 pub signs_spec : {M : Type 1} → statement M
 signs_spec =
@@ -91,5 +91,5 @@ signs_spec =
     (λ c. omega (arith, fits c.before.before.before.before.before))
     (λ c. fits c.before.before.before.before.before)
     silk_decode_signs_run_requires (λ c. search rules) (λ c. search rules) loop_again
-    (λ c. round_kept c.before.loop.invariant c.loop-test.false ∙ sym (start c.before).pre.1.1.1.3.size)
-    (λ c. round_end c.before.loop.invariant c.loop-test.false))
+    (λ c. round_kept c.before.loop-i.invariant c.loop-i-test.false ∙ sym (start c.before).pre.1.1.1.3.size)
+    (λ c. round_end c.before.loop-i.invariant c.loop-i-test.false))

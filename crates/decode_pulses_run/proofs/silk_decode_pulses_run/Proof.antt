@@ -15,19 +15,19 @@ use Rattle.decode_pulses_run.proofs.silk_decode_pulses_run.Statement.{statement}
 use Rattle.decode_pulses_run.proofs.silk_decode_pulses_run.Tie as tie
 
 -- behind the rate level, the counts, the splits, the low bits, the signs
-abbrev start : tie.After-ec-dec-icdf8-run → tie.Start
+abbrev start : tie.After-ec_dec_icdf8_run-a → tie.Start
 start c = c.before.before.before.before
 
-abbrev rated : tie.After-counts-run → tie.After-ec-dec-icdf8-run
+abbrev rated : tie.After-counts_run-x → tie.After-ec_dec_icdf8_run-a
 rated c = c.before.before
 
-abbrev counted : tie.After-shells → tie.After-counts-run
+abbrev counted : tie.After-shells-s → tie.After-counts_run-x
 counted c = c.before.before
 
-abbrev split : tie.After-lows → tie.After-shells
+abbrev split : tie.After-lows-l → tie.After-shells-s
 split c = c.before.before.before
 
-abbrev lowered : tie.After-signs → tie.After-lows
+abbrev lowered : tie.After-signs → tie.After-lows-l
 lowered c = c.before.before.before
 
 -- the row of the rate level
@@ -37,38 +37,38 @@ two_rows b = omega (arith, b.requires.1.1.1.2)
 rate_is : (b : tie.Start) → let k = b.args.signal / 2 in take (k * 9 + 9 - k * 9) (drop (k * 9) b.args.rows.now) ≡ row_of (46 + k)
 rate_is b = rate_in b.args.rows.now (b.args.signal / 2) b.requires.1.1.0 (two_rows b)
 
-ec_dec_icdf8_run_requires : tie.Need-ec-dec-icdf8-run-requires
+ec_dec_icdf8_run_requires : tie.Need-ec_dec_icdf8_run-a-requires
 ec_dec_icdf8_run_requires c κs =
     let b = c.before.before.before in
     (b.requires.0, (omega (arith, b.requires.1.0), rw (rate_is b) (row_good (46 + b.args.signal / 2) (omega (arith, two_rows b)))))
 
-counts_run_requires : tie.Need-counts-run-requires
+counts_run_requires : tie.Need-counts_run-x-requires
 counts_run_requires c κs =
     let b = start c.before in
-    let a = c.before.ec-dec-icdf8-run.ensures in
+    let a = c.before.ec_dec_icdf8_run-a.ensures in
     let p = b.pre.1.1 in
     let rate = rate_stands (b.args.signal / 2) (two_rows b) in
     (a.core, (omega (arith, a.most, b.pre.1.0), (p.0, (omega (arith, a.inside, ap length (rate_is b), rate.size), p.1.0))))
 
-shells_requires : tie.Need-shells-requires
+shells_requires : tie.Need-shells-s-requires
 shells_requires c κs =
     let b = start (rated c.before) in
-    let a = (rated c.before).ec-dec-icdf8-run.ensures in
-    let f = c.before.counts-run.ensures in
+    let a = (rated c.before).ec_dec_icdf8_run-a.ensures in
+    let f = c.before.counts_run-x.ensures in
     let p = b.pre.1.1 in
     (f.0.core, (omega (arith, a.most, f.0.most, b.pre.1.0), (p.0, (p.1.0, p.1.1, f.1.0))))
 
-lows_requires : tie.Need-lows-requires
+lows_requires : tie.Need-lows-l-requires
 lows_requires c κs =
     let s = c.before.before in
     let r = rated (counted s) in
     let b = start r in
-    let f = (counted s).counts-run.ensures in
+    let f = (counted s).counts_run-x.ensures in
     let t = s.shells in
     let p = b.pre.1.1 in (
       t.ensures.ran.core,
       (
-        omega (arith, r.ec-dec-icdf8-run.ensures.most, f.0.most, t.ensures.ran.most, b.pre.1.0, p.1.0),
+        omega (arith, r.ec_dec_icdf8_run-a.ensures.most, f.0.most, t.ensures.ran.most, b.pre.1.0, p.1.0),
         (
           p.0,
           (
@@ -86,13 +86,13 @@ signs_requires c κs =
     let s = split l in
     let r = rated (counted s) in
     let b = start r in
-    let f = (counted s).counts-run.ensures in
+    let f = (counted s).counts_run-x.ensures in
     let t = s.shells in
     let u = l.lows in
     let p = b.pre.1.1 in (
       u.ensures.ran.core,
       (
-        omega (arith, r.ec-dec-icdf8-run.ensures.most, f.0.most, t.ensures.ran.most, u.ensures.ran.most, b.pre.1.0, p.1.0),
+        omega (arith, r.ec_dec_icdf8_run-a.ensures.most, f.0.most, t.ensures.ran.most, u.ensures.ran.most, b.pre.1.0, p.1.0),
         (
           p.0,
           (
@@ -113,9 +113,9 @@ returns c =
     let r = rated (counted s) in
     let b = start r in
     let f = (counted s).counts-run in
-    chain _ _ _ r.ec-dec-icdf8-run.result b.args.signal b.args.offset b.args.n f.result.counts f.result.lows
+    chain _ _ _ r.ec_dec_icdf8_run-a.result b.args.signal b.args.offset b.args.n f.result.counts f.result.lows
     s.shells.last.1.1.1.0 l.lows.last.1.1.1.1.0 _ _ _ _ _
-    b.pre.1.1.1.0 (rate_is b) r.ec-dec-icdf8-run.ensures f.ensures.0 s.shells.ensures l.lows.ensures c.before.signs.ensures
+    b.pre.1.1.1.0 (rate_is b) r.ec_dec_icdf8_run-a.ensures f.ensures.0 s.shells-s.ensures l.lows-l.ensures c.before.signs.ensures
 
 pub silk_decode_pulses_run_spec : {M : Type 1} → statement M
 silk_decode_pulses_run_spec =

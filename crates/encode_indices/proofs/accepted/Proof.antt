@@ -11,9 +11,9 @@ use Rattle.encode_indices.proofs.accepted.Tie as tie
 returns : tie.Need-returns
 returns c =
     let z = c.before.before in
-    let f : SFits w16 c.next-lag-run.result = search rules in
-    let e : c.next-lag-run.result ≡ next_lag z.args.before z.args.x = rw (to_z-of_z z.ranges.before) at c.next-lag-run.ensures in
-    rw (to_z-of_z f, e, c.before.next-type-run.ensures)
+    let f : SFits w16 c.next_lag_run-prevlag.result = search rules in
+    let e : c.next_lag_run-prevlag.result ≡ next_lag z.args.before z.args.x = rw (to_z-of_z z.ranges.before) at c.next_lag_run-prevlag.ensures in
+    rw (to_z-of_z f, e, c.before.next_type_run-prevtype.ensures)
 
 pub accepted_spec : {M : Type 1} → statement M
 accepted_spec = tie.close (tie.spec (λ c κs. search rules) (λ c κs. search rules) returns)

@@ -19,37 +19,37 @@ shape : (z : tie.Start) → Shape z.args.x
 shape z = record { gains = search (rules, z.well-formed.1.1.0); ltp = search (rules, z.well-formed.1.1.0); nlsf = search (rules, z.well-formed.1.1.0) }
 
 -- the first refusal of gate and numbers
-abbrev begun : tie.After-first-refusal → tie.Start
+abbrev begun : tie.After-first_refusal-n → tie.Start
 begun c = c.before.before.before.before
 
-early : (c : tie.After-first-refusal)
-    → c.first-refusal.result ≡ first_of (gate_w (begun c).args.buf.now (begun c).args.w) (cond (setting_ok (begun c).args.s) 0 4)
-early c = rw (c.before.before.gate.ensures, c.before.numbers-rule.ensures) at c.first-refusal.ensures
+early : (c : tie.After-first_refusal-n)
+    → c.first_refusal-n.result ≡ first_of (gate_w (begun c).args.buf.now (begun c).args.w) (cond (setting_ok (begun c).args.s) 0 4)
+early c = rw (c.before.before.gate.ensures, c.before.numbers_rule.ensures) at c.first_refusal-n.ensures
 
-fields_ok_run_requires : tie.Need-fields-ok-run-requires
+fields_ok_run_requires : tie.Need-fields_ok_run-requires
 fields_ok_run_requires c κs =
     let z = begun c.before in
-    let r = rule_chosen (entry z) z.args.x z.args.s c.before.first-refusal.result (early c.before) c.if1.true in
+    let r = rule_chosen (entry z) z.args.x z.args.s c.before.first_refusal-n.result (early c.before) c.if-n-eq0.true in
     (r.rate, r.subframes, r.active)
 
 -- what the test of the fields decides
-late : (c : tie.After-fields-ok-run)
-    → let z = begun c.before.before in cond c.fields-ok-run.result 0 8 ≡ tell_rule (entry z) z.args.s z.args.x
+late : (c : tie.After-fields_ok_run)
+    → let z = begun c.before.before in cond c.fields_ok_run.result 0 8 ≡ tell_rule (entry z) z.args.s z.args.x
 late c =
     let z = begun c.before.before in
-    let n = c.before.before.first-refusal.result in
-    rule_fields (entry z) z.args.x z.args.s n (early c.before.before) c.before.if1.true (shape z) _ c.fields-ok-run.ensures
+    let n = c.before.before.first_refusal-n.result in
+    rule_fields (entry z) z.args.x z.args.s n (early c.before.before) c.before.if-n-eq0.true (shape z) _ c.fields_ok_run.ensures
 
-returns : tie.Need-returns
-returns c = ap (λ (t : Bool). cond t 0 8) (sym c.if2.true) ∙ late c.before
+returns : tie.Need-returns-then-fields_ok_run
+returns c = ap (λ (t : Bool). cond t 0 8) (sym c.if-fields_ok_run.true) ∙ late c.before
 
-returns_2 : tie.Need-returns-2
-returns_2 c = ap (λ (t : Bool). cond t 0 8) (sym c.if2.false) ∙ late c.before
+returns_2 : tie.Need-returns-else-fields_ok_run
+returns_2 c = ap (λ (t : Bool). cond t 0 8) (sym c.if-fields_ok_run.false) ∙ late c.before
 
-returns_3 : tie.Need-returns-3
+returns_3 : tie.Need-returns-else-n-eq0
 returns_3 c =
     let z = begun c.before in
-    rule_early (entry z) z.args.x z.args.s c.before.first-refusal.result (early c.before) c.if1.false
+    rule_early (entry z) z.args.x z.args.s c.before.first_refusal-n.result (early c.before) c.if-n-eq0.false
 
 pub refusal_spec : {M : Type 1} → statement M
 refusal_spec =

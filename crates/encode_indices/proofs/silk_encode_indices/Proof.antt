@@ -25,16 +25,16 @@ prevlag_fits : (z : tie.Start) → SFits w16 z.args.s.prevlag
 prevlag_fits z = search rules
 
 -- a call that is not refused
-abbrev begun : tie.Then1 → tie.Start
+abbrev begun : tie.Then-n-eq0 → tie.Start
 begun c = c.before.before.before.before
 
-open_rule : (c : tie.Then1) → tell_rule (entry (begun c)) (begun c).args.s (begun c).args.«record» ≡ 0
-open_rule c = sym c.before.refusal.ensures ∙ c.if1.true
+open_rule : (c : tie.Then-n-eq0) → tell_rule (entry (begun c)) (begun c).args.s (begun c).args.«record» ≡ 0
+open_rule c = sym c.before.refusal-n.ensures ∙ c.if-n-eq0.true
 
-takes : (c : tie.Then1) → Takes (entry (begun c)) (begun c).args.«record» (begun c).args.s
+takes : (c : tie.Then-n-eq0) → Takes (entry (begun c)) (begun c).args.«record» (begun c).args.s
 takes c = rule_takes (entry (begun c)) (begun c).args.«record» (begun c).args.s (shape (begun c)) (open_rule c)
 
-all_tell_requires : tie.Need-all-tell-requires
+all_tell_requires : tie.Need-all_tell-q-requires
 all_tell_requires c κs =
     let t = takes c.before.before.before in
     let r = c.before.before.index_rows_lem in (
@@ -45,7 +45,7 @@ all_tell_requires c κs =
 accepted_requires : tie.Need-accepted-requires
 accepted_requires c κs = (takes c.before.before.before.before.before.before.before).fields.kind.signal
 
-returns : tie.Need-returns
+returns : tie.Need-returns-then-n-eq0
 returns c =
     let b = c.before.before.before.before.before.before.before.before in
     let z = begun b in
@@ -56,12 +56,12 @@ returns c =
     let s : IndicesWritten → IndicesSent = λ w. record { buf = t.new.0; answer = w } in
     ap s a ∙ ap (indices_told z.args.s x) t.ensures.is ∙ indices_told_lem (entry z) x z.args.s (open_rule b)
 
-returns_2 : tie.Need-returns-2
+returns_2 : tie.Need-returns-else-n-eq0
 returns_2 c =
     let e = c.before in
     let z = e.before.before.before.before in
     let n = e.before.refusal in
-    rw (to_z-of_z (prevlag_fits z)) (indices_untold_lem (entry z) z.args.«record» z.args.s n.result n.ensures e.if1.false)
+    rw (to_z-of_z (prevlag_fits z)) (indices_untold_lem (entry z) z.args.«record» z.args.s n.result n.ensures e.if-n-eq0.false)
 
 pub silk_encode_indices_spec : {M : Type 1} → statement M
 silk_encode_indices_spec =

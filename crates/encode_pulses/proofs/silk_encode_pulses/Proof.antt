@@ -18,46 +18,46 @@ use Rattle.encode_pulses.proofs.Plan.{plan_suits, plan_says, plan_fits}
 use Rattle.encode_pulses.proofs.silk_encode_pulses.Statement.{statement}
 use Rattle.encode_pulses.proofs.silk_encode_pulses.Tie as tie
 
-abbrev start : tie.After-first-refusal → tie.Start
+abbrev start : tie.After-first_refusal-n → tie.Start
 start c = c.before.before.before.before.before
 
 -- the first refusal of state and numbers
-number : (c : tie.After-first-refusal)
+number : (c : tie.After-first_refusal-n)
     → let a = (start c).args in
     let f = a.f in
     let rule = write_numbers (length a.pulses.now) f.khz f.subframes f.signal f.offset a.rate in
-    c.first-refusal.result ≡ first_of (gate_w a.buf.now a.w) rule
-number c = c.first-refusal.ensures ∙ ap₂ first_of c.before.gate.ensures c.before.before.before.write-rule.ensures
+    c.first_refusal-n.result ≡ first_of (gate_w a.buf-1.now a.w) rule
+number c = c.first_refusal-n.ensures ∙ ap₂ first_of c.before.gate.ensures c.before.before.before.write_rule-rule.ensures
 
 -- what a call without one goes on with
-on : (c : tie.Else1)
+on : (c : tie.Else-n-ne0)
     → let a = (start c.before).args in
     let f = a.f in
-    Entered (out a.buf.now a.w) a.pulses.now f.khz f.subframes f.signal f.offset a.rate _ (number c.before) c.if1.false
+    Entered (out a.buf-1.now a.w) a.pulses.now f.khz f.subframes f.signal f.offset a.rate _ (number c.before) c.if-n-ne0.false
 on c =
     let a = (start c.before).args in
     let f = a.f in
-    entered (out a.buf.now a.w) a.pulses.now f.khz f.subframes f.signal f.offset a.rate _ (number c.before) c.if1.false
+    entered (out a.buf-1.now a.w) a.pulses.now f.khz f.subframes f.signal f.offset a.rate _ (number c.before) c.if-n-ne0.false
 
 -- at most 20 blocks
-few : (c : tie.After-blocks-of-run) → c.blocks-of-run.result ≤ 20
+few : (c : tie.After-blocks_of_run-blocks) → c.blocks_of_run-blocks.result ≤ 20
 few c =
     let f = (start c.before.before).args.f in
     let m = (on c.before).own.frame.numbers in
-    omega (arith, c.blocks-of-run.ensures, blocks_most f.khz f.subframes m.khz16 m.subframes4)
+    omega (arith, c.blocks_of_run-blocks.ensures, blocks_most f.khz f.subframes m.khz16 m.subframes4)
 
-sized : (c : tie.After-plan-run) → length c.plan_run.result.lows ≡ 20
+sized : (c : tie.After-plan_run-x) → length c.plan_run-x.result.lows ≡ 20
 sized c = search rules
 
-returns : tie.Need-returns
+returns : tie.Need-returns-then-n-ne0
 returns c =
     let r = c.before.before in
     let a = (start r).args in
     let f = a.f in
-    ap (sent a.buf.now) c.answer.ensures
-    ∙ pulses_early (out a.buf.now a.w) a.pulses.now f.khz f.subframes f.signal f.offset a.rate _ (number r) c.before.if1.true
+    ap (sent a.buf-1.now) c.answer.ensures
+    ∙ pulses_early (out a.buf-1.now a.w) a.pulses.now f.khz f.subframes f.signal f.offset a.rate _ (number r) c.before.if-n-ne0.true
 
-silk_encode_pulses_run_requires : tie.Need-silk-encode-pulses-run-requires
+silk_encode_pulses_run_requires : tie.Need-silk_encode_pulses_run-state-requires
 silk_encode_pulses_run_requires c κs =
     let p = c.before.before.before.before in
     let b = p.before in
@@ -68,17 +68,17 @@ silk_encode_pulses_run_requires c κs =
       (
         omega (arith, k.gate.low),
         (
-          pulse_rows_lem _ c.before.before.pulse_rows_lem.ensures,
+          pulse_rows_lem _ c.before.before.pulse_rows-rows.ensures,
           (
-            (few b, omega (arith, b.blocks-of-run.ensures, f.length16), f.numbers.signal2, f.numbers.offset1, k.own.rate8),
+            (few b, omega (arith, b.blocks_of_run-blocks.ensures, f.length16), f.numbers.signal2, f.numbers.offset1, k.own.rate8),
             plan_suits _ (start b.before.before).args.pulses.now x.result.counts x.result.lows x.result.fits x.ensures
-                c.before.before.before.if2.true (omega (arith, sized p, few b)),
+                c.before.before.before.if-x.true (omega (arith, sized p, few b)),
           ),
         ),
       ),
     )
 
-written : tie.Need-returns-2
+written : tie.Need-returns-then-x
 written c =
     let p = c.before.before.before.before.before.before.before.before in
     let b = p.before in
@@ -87,25 +87,25 @@ written c =
     let f = a.f in
     let x = p.plan_run in
     let r = c.before.before.before.silk-encode-pulses-run in
-    let n = b.blocks-of-run.ensures in
-    let t = c.before.before.before.before.before.before.before.if2.true in
-    ap (sent r.new.0) c.answer2.ensures
-    ∙ pulses_sent (out a.buf.now a.w) a.pulses.now f.khz f.subframes f.signal f.offset a.rate _ (number e.before) e.if1.false _
+    let n = b.blocks_of_run-blocks.ensures in
+    let t = c.before.before.before.before.before.before.before.if-x.true in
+    ap (sent r.new.0) c.answer-then-x.ensures
+    ∙ pulses_sent (out a.buf-1.now a.w) a.pulses.now f.khz f.subframes f.signal f.offset a.rate _ (number e.before) e.if-n-ne0.false _
     (plan_fits _ _ a.pulses.now x.result.counts x.result.lows x.result.fits true x.ensures n t)
     (plan_says _ a.pulses.now x.result.counts x.result.lows x.result.fits x.ensures t (omega (arith, sized p, few b)) _ _
     f.signal f.offset a.rate _ 64656 n r.ensures)
 
-unfit : tie.Need-returns-3
+unfit : tie.Need-returns
 unfit c =
     let p = c.before.before in
     let e = p.before.before in
     let a = (start e.before).args in
     let f = a.f in
     let x = p.plan_run in
-    ap (sent a.buf.now) c.answer3.ensures
-    ∙ pulses_unfit (out a.buf.now a.w) a.pulses.now f.khz f.subframes f.signal f.offset a.rate _ (number e.before) e.if1.false
+    ap (sent a.buf-1.now) c.answer-2.ensures
+    ∙ pulses_unfit (out a.buf-1.now a.w) a.pulses.now f.khz f.subframes f.signal f.offset a.rate _ (number e.before) e.if-n-ne0.false
     (plan_fits _ _ a.pulses.now x.result.counts x.result.lows x.result.fits false x.ensures
-    p.before.blocks-of-run.ensures c.before.if2.false)
+    p.before.blocks_of_run-blocks.ensures c.before.if-x.false)
 
 pub silk_encode_pulses_spec : {M : Type 1} → statement M
 silk_encode_pulses_spec =
@@ -113,6 +113,6 @@ silk_encode_pulses_spec =
     (tie.spec (λ c κs. search rules) (λ c κs. search rules) (λ c κs. search rules) (λ c κs. search rules)
     (λ c. search rules) returns
     (λ c κs. let m = (on c).own.frame.numbers in (m.khz16, m.subframes4))
-    (λ c κs. (few c, omega (arith, c.blocks-of-run.ensures, (on c.before).own.frame.length16)))
+    (λ c κs. (few c, omega (arith, c.blocks_of_run-blocks.ensures, (on c.before).own.frame.length16)))
     (λ c κs. search rules) (λ c. search rules) silk_encode_pulses_run_requires (λ c κs. search rules)
     (λ c. search rules) written (λ c κs. search rules) (λ c. search rules) unfit)

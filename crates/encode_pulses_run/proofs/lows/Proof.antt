@@ -11,34 +11,34 @@ use Rattle.encode_pulses_run.proofs.Rounds.{block_size, round_start, round_next,
 use Rattle.encode_pulses_run.proofs.lows.Statement.{statement}
 use Rattle.encode_pulses_run.proofs.lows.Tie as tie
 
-abbrev invariant_loop : tie.invariant_loop
+abbrev invariant_loop : tie.invariant-loop-i
 invariant_loop buf₀ rows pulses n x w₀ i₀ buf w i = LowsTelling (out buf₀ w₀) x.counts x.lows pulses n (out buf w) i × (length buf ≡ length buf₀)
 
-abbrev decreases_loop : tie.decreases_loop
+abbrev decreases_loop : tie.decreases-loop-i
 decreases_loop buf₀ rows pulses n x w₀ i₀ buf w i = n - i
 
-block_lows_tell_run_requires : tie.Need-block-lows-tell-run-requires invariant_loop decreases_loop
+block_lows_tell_run_requires : tie.Need-block_lows_tell_run-w-requires invariant_loop decreases_loop
 block_lows_tell_run_requires c κs =
     let t = c.before.before.before.before in
     let b = t.before.before.before.before in
-    let i = t.before.loop.i in
-    let g = t.before.loop.invariant.0.midway in
+    let i = t.before.loop-i.i in
+    let g = t.before.loop-i.invariant.0.midway in
     let p = b.requires.1.1 in (
       g.core,
       (
         omega (arith, g.most, b.requires.1.0, p.1.0),
         (
           (low_bit_in b.args.rows.now p.0, p.1.2 i),
-          block_size b.args.pulses.now b.args.n i p.1.1 t.loop-test.true,
+          block_size b.args.pulses.now b.args.n i p.1.1 t.loop-i-test.true,
         ),
       ),
     )
 
-loop_again : tie.Need-loop-preserved invariant_loop decreases_loop
+loop_again : tie.Need-loop-i-preserved invariant_loop decreases_loop
 loop_again c =
     let t = c.before.before.before.before.before.before.before in
     let r = c.before.before.block-lows-tell-run in
-    round_next t.before.loop.invariant t.loop-test.true r.ensures r.auto.0
+    round_next t.before.loop-i.invariant t.loop-i-test.true r.ensures r.auto.0
 
 pub lows_spec : {M : Type 1} → statement M
 lows_spec =
@@ -49,4 +49,4 @@ lows_spec =
     (λ c. search rules) (λ c. search rules) (λ c. search rules) (λ c. search rules) (λ c. search rules)
     (λ c. search rules) block_lows_tell_run_requires (λ c. search rules) (λ c. search rules) loop_again
     (λ c. search rules)
-    (λ c. round_end c.before.loop.invariant c.loop-test.false))
+    (λ c. round_end c.before.loop-i.invariant c.loop-i-test.false))

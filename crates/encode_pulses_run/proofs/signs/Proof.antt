@@ -11,20 +11,20 @@ use Rattle.encode_pulses_run.proofs.Rounds.{block_size, round_start, round_next,
 use Rattle.encode_pulses_run.proofs.signs.Statement.{statement}
 use Rattle.encode_pulses_run.proofs.signs.Tie as tie
 
-abbrev invariant_loop : tie.invariant_loop
+abbrev invariant_loop : tie.invariant-loop-i
 invariant_loop buf₀ rows pulses f x n w₀ i₀ buf w i =
     SignsTelling (out buf₀ w₀) x.counts x.lows pulses f.blocks f.signal f.offset (out buf w) i × (length buf ≡ length buf₀)
 
-abbrev decreases_loop : tie.decreases_loop
+abbrev decreases_loop : tie.decreases-loop-i
 decreases_loop buf₀ rows pulses f x n w₀ i₀ buf w i = f.blocks - i
 
-block_signs_run_requires : tie.Need-block-signs-run-requires invariant_loop decreases_loop
+block_signs_run_requires : tie.Need-block_signs_run-w-requires invariant_loop decreases_loop
 block_signs_run_requires c κs =
     let t = c.before.before.before.before in
     let b = t.before.before.before.before in
-    let i = t.before.loop.i in
-    let g = t.before.loop.invariant.0.midway in
-    let h = t.loop-test.true in
+    let i = t.before.loop-i.i in
+    let g = t.before.loop-i.invariant.0.midway in
+    let h = t.loop-i-test.true in
     let n = b.args.f.blocks in
     let p = b.requires.1.1.1 in (
       g.core,
@@ -42,11 +42,11 @@ block_signs_run_requires c κs =
       ),
     )
 
-loop_again : tie.Need-loop-preserved invariant_loop decreases_loop
+loop_again : tie.Need-loop-i-preserved invariant_loop decreases_loop
 loop_again c =
     let t = c.before.before.before.before.before.before.before in
     let r = c.before.before.block-signs-run in
-    round_next t.before.loop.invariant t.loop-test.true r.ensures r.auto.0
+    round_next t.before.loop-i.invariant t.loop-i-test.true r.ensures r.auto.0
 
 pub signs_spec : {M : Type 1} → statement M
 signs_spec =
@@ -56,4 +56,4 @@ signs_spec =
     (λ c. search rules) (λ c. search rules) (λ c. search rules) (λ c. search rules) (λ c. search rules)
     (λ c. search rules) (λ c. search rules) (λ c. search rules) block_signs_run_requires (λ c. search rules)
     (λ c. search rules) loop_again (λ c. search rules)
-    (λ c. round_end c.before.loop.invariant c.loop-test.false))
+    (λ c. round_end c.before.loop-i.invariant c.loop-i-test.false))

@@ -13,19 +13,19 @@ use Rattle.encode_pulses_run.proofs.Rounds.{block_size, round_start, round_next,
 use Rattle.encode_pulses_run.proofs.splits.Statement.{statement}
 use Rattle.encode_pulses_run.proofs.splits.Tie as tie
 
-abbrev invariant_loop : tie.invariant_loop
+abbrev invariant_loop : tie.invariant-loop-i
 invariant_loop buf₀ rows pulses n x w₀ i₀ buf w i = SplitsTelling (out buf₀ w₀) x.counts x.lows pulses n (out buf w) i × (length buf ≡ length buf₀)
 
-abbrev decreases_loop : tie.decreases_loop
+abbrev decreases_loop : tie.decreases-loop-i
 decreases_loop buf₀ rows pulses n x w₀ i₀ buf w i = n - i
 
-block_splits_run_requires : tie.Need-block-splits-run-requires invariant_loop decreases_loop
+block_splits_run_requires : tie.Need-block_splits_run-w-requires invariant_loop decreases_loop
 block_splits_run_requires c κs =
     let t = c.before.before.before.before.before in
     let b = t.before.before.before.before in
-    let i = t.before.loop.i in
-    let g = t.before.loop.invariant.0.midway in
-    let h = t.loop-test.true in
+    let i = t.before.loop-i.i in
+    let g = t.before.loop-i.invariant.0.midway in
+    let h = t.loop-i-test.true in
     let p = b.requires.1.1.1 in
     let s = p.2 in (
       g.core,
@@ -43,14 +43,14 @@ block_splits_run_requires c κs =
       ),
     )
 
-loop_again : tie.Need-loop-preserved invariant_loop decreases_loop
+loop_again : tie.Need-loop-i-preserved invariant_loop decreases_loop
 loop_again c =
     let t = c.before.before.before in
-    let g = t.before.loop.invariant in
+    let g = t.before.loop-i.invariant in
     ⊎_elim
-    (λ a. rw (a.6, a.7) (round_next g t.loop-test.true a.3.ensures a.3.kept.0))
-    (λ a. rw (a.1, a.2) (round_next g t.loop-test.true (splits_untold _ _ a.0.left g.0.midway.core) refl))
-    c.if1.branch
+    (λ a. rw (a.6, a.7) (round_next g t.loop-i-test.true a.3.ensures a.3.kept.0))
+    (λ a. rw (a.1, a.2) (round_next g t.loop-i-test.true (splits_untold _ _ a.0.left g.0.midway.core) refl))
+    c.if-c-ne0.branch
 
 pub splits_spec : {M : Type 1} → statement M
 splits_spec =
@@ -60,4 +60,4 @@ splits_spec =
     (λ c. search rules) (λ c. search rules) (λ c. search rules) (λ c. search rules) (λ c. search rules)
     (λ c. search rules) (λ c. search rules) (λ c. search rules) (λ c. search rules) (λ c. search rules)
     block_splits_run_requires (λ c. search rules) (λ c. search rules) loop_again (λ c. search rules)
-    (λ c. round_end c.before.loop.invariant c.loop-test.false))
+    (λ c. round_end c.before.loop-i.invariant c.loop-i-test.false))

@@ -10,15 +10,15 @@ use lib.Pow.{shl_exact}
 use Rattle.entcode.proofs.window_ok.Statement.{statement}
 use Rattle.entcode.proofs.window_ok.Tie as tie
 
-returns : tie.Need-returns
+returns : tie.Need-returns-then-wbits-le32
 returns c =
     let n = c.before.args.wbits in
-    let h : n ≤ 32 = c.if1.true in
+    let h : n ≤ 32 = c.if-wbits-le32.true in
     let e : 1 * 2 ^ n % 2 ^ 64 ≡ 2 ^ n = shl_exact 1 n 64 (lit< tt) (omega arith) ∙ one-mul (2 ^ n) in
     rw (e, le-leb _ _ h)
 
-returns_2 : tie.Need-returns-2
-returns_2 c = rw (lt-leb _ _ c.if1.false)
+returns_2 : tie.Need-returns-else-wbits-le32
+returns_2 c = rw (lt-leb _ _ c.if-wbits-le32.false)
 
 pub window_ok_spec : {M : Type 1} → statement M
 window_ok_spec = tie.close (tie.spec (λ c. search rules) returns returns_2)

@@ -6,14 +6,14 @@ use Rattle.entdec.proofs.Asked.{Asked, asked}
 use Rattle.entdec.proofs.ec_dec_bit_logp.Statement.{statement}
 use Rattle.entdec.proofs.ec_dec_bit_logp.Tie as tie
 
-call : (c : tie.After-first-refusal)
-    → let a = c.before.before.before.before.args in Asked a.packet.now a.d (bit a.lp) c.first-refusal.result
-call c = asked c.first-refusal.ensures c.before.before.gate.ensures c.before.bit-rule.ensures
+call : (c : tie.After-first_refusal-n)
+    → let a = c.before.before.before.before.args in Asked a.packet.now a.d (bit a.lp) c.first_refusal-n.result
+call c = asked c.first_refusal-n.ensures c.before.before.gate.ensures c.before.bit_rule.ensures
 
 pub ec_dec_bit_logp_spec : {M : Type 1} → statement M
 ec_dec_bit_logp_spec =
     tie.close
     (tie.spec (λ c κs. search rules) (λ c κs. search rules) (λ c κs. search rules)
-    (λ c κs. (call c.before).ready c.if1.true) (λ c κs. search rules)
-    (λ c. c.ec-dec-bit-logp-run.ensures.is ∙ (call c.before.before).reads c.before.if1.true)
-    (λ c. c.refused.ensures ∙ (call c.before.before).refused c.before.if1.false))
+    (λ c κs. (call c.before).ready c.if-n-eq0.true) (λ c κs. search rules)
+    (λ c. c.ec_dec_bit_logp_run.ensures.is ∙ (call c.before.before).reads c.before.if-n-eq0.true)
+    (λ c. c.refused.ensures ∙ (call c.before.before).refused c.before.if-n-eq0.false))

@@ -6,14 +6,14 @@ use Rattle.entdec.proofs.Asked.{Asked, asked}
 use Rattle.entdec.proofs.ec_dec_bits.Statement.{statement}
 use Rattle.entdec.proofs.ec_dec_bits.Tie as tie
 
-call : (c : tie.After-first-refusal)
-    → let a = c.before.before.before.before.args in Asked a.packet.now a.d (raw a.n) c.first-refusal.result
-call c = asked c.first-refusal.ensures c.before.before.gate.ensures c.before.bits-rule.ensures
+call : (c : tie.After-first_refusal-r)
+    → let a = c.before.before.before.before.args in Asked a.packet.now a.d (raw a.n) c.first_refusal-r.result
+call c = asked c.first_refusal-r.ensures c.before.before.gate.ensures c.before.bits_rule.ensures
 
 pub ec_dec_bits_spec : {M : Type 1} → statement M
 ec_dec_bits_spec =
     tie.close
     (tie.spec (λ c κs. search rules) (λ c κs. search rules) (λ c κs. search rules)
-    (λ c κs. (call c.before).ready c.if1.true) (λ c κs. search rules)
-    (λ c. c.ec-dec-bits-run.ensures.is ∙ (call c.before.before).reads c.before.if1.true)
-    (λ c. c.refused.ensures ∙ (call c.before.before).refused c.before.if1.false))
+    (λ c κs. (call c.before).ready c.if-r-eq0.true) (λ c κs. search rules)
+    (λ c. c.ec_dec_bits_run.ensures.is ∙ (call c.before.before).reads c.before.if-r-eq0.true)
+    (λ c. c.refused.ensures ∙ (call c.before.before).refused c.before.if-r-eq0.false))

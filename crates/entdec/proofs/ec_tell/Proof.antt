@@ -10,29 +10,29 @@ use Rattle.entcode.proofs.ReadingLaws.{gate_open, answered_ok, answered_no}
 use Rattle.entdec.proofs.ec_tell.Statement.{statement}
 use Rattle.entdec.proofs.ec_tell.Tie as tie
 
-sub_account : tie.Need-overflow-sub-account
+sub_account : tie.Need-overflow_sub-account
 sub_account c =
     let g = c.before.before.before in
     let b = g.before.before in
-    let o = gate_open b.args.packet.now b.args.d (sym g.gate.ensures ∙ c.before.before.if1.true) in
+    let o = gate_open b.args.packet.now b.args.d (sym g.gate-n.ensures ∙ c.before.before.if-n-eq0.true) in
     omega (arith, o.sound.least, length_most b.args.d.rng)
 
-returns : tie.Need-returns
+returns : tie.Need-returns-then-n-eq0
 unfolding dec_tell account
 returns c =
     let g = c.before.before.before in
     let d = g.before.before.args.d in
-    ap (λ (n : ℕ). gives (d.total - n) d) c.before.ec-ilog.ensures
-    ∙ answered_ok _ d _ d (sym g.gate.ensures ∙ c.before.before.if1.true)
+    ap (λ (n : ℕ). gives (d.total - n) d) c.before.ec_ilog.ensures
+    ∙ answered_ok _ d _ d (sym g.gate-n.ensures ∙ c.before.before.if-n-eq0.true)
 
-returns_2 : tie.Need-returns-2
+returns_2 : tie.Need-returns-else-n-eq0
 unfolding dec_tell
 returns_2 c =
     let g = c.before.before in
     let d = g.before.before.args.d in
     c.refused.ensures
-    ∙ ap (λ (n : ℕ). refuses n d) g.gate.ensures
-    ∙ answered_no _ d _ d (λ z. c.before.if1.false (g.gate.ensures ∙ z))
+    ∙ ap (λ (n : ℕ). refuses n d) g.gate-n.ensures
+    ∙ answered_no _ d _ d (λ z. c.before.if-n-eq0.false (g.gate-n.ensures ∙ z))
 
 pub ec_tell_spec : {M : Type 1} → statement M
 ec_tell_spec =

@@ -5,7 +5,7 @@ use Rattle.bitlen.proofs.Shift.{one_shl}
 use Rattle.entdec_bytes.proofs.draw.Statement.{statement}
 use Rattle.entdec_bytes.proofs.draw.Tie as tie
 
-sub_v : tie.Need-overflow-sub-v
+sub_v : tie.Need-overflow_sub-v
 sub_v c = rw (one_shl c.args.n (omega arith)) (pow_pos c.args.n)
 
 returns : tie.Need-returns

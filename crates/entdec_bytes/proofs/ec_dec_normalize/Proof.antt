@@ -7,35 +7,35 @@ use Rattle.entdec_bytes.proofs.Turns.{turn_on}
 use Rattle.entdec_bytes.proofs.ec_dec_normalize.Statement.{statement}
 use Rattle.entdec_bytes.proofs.ec_dec_normalize.Tie as tie
 
-abbrev invariant_loop : tie.invariant_loop
+abbrev invariant_loop : tie.invariant-loop-d
 invariant_loop b d₀ d = (settled b d ≡ settled b d₀) × Turning b d
 
-abbrev decreases_loop : tie.decreases_loop
+abbrev decreases_loop : tie.decreases-loop-d
 decreases_loop b d₀ d = 2 ^ 24 - d.rng
 
-loop_holds : tie.Need-loop-init invariant_loop decreases_loop
+loop_holds : tie.Need-loop-d-init invariant_loop decreases_loop
 loop_holds c = (refl, c.before.requires)
 
-turn_requires : tie.Need-turn-requires invariant_loop decreases_loop
-turn_requires c κs = (c.before.before.loop.invariant.1, c.if1.true)
+turn_requires : tie.Need-turn-d-requires invariant_loop decreases_loop
+turn_requires c κs = (c.before.before.loop-d.invariant.1, c.loop-d-test.true)
 
-loop_less : tie.Need-loop-smaller invariant_loop decreases_loop
+loop_less : tie.Need-loop-d-smaller invariant_loop decreases_loop
 loop_less c =
-    let h = c.before.before.before.loop.invariant.1 in
-    let l = c.before.if1.true in
-    rw c.turn.ensures (omega arith)
+    let h = c.before.before.before.loop-d.invariant.1 in
+    let l = c.before.loop-d-test.true in
+    rw c.turn-d.ensures (omega arith)
 
-loop_again : tie.Need-loop-preserved invariant_loop decreases_loop
+loop_again : tie.Need-loop-d-preserved invariant_loop decreases_loop
 loop_again c =
-    let i = c.before.before.before.loop.invariant in
-    let l = c.before.if1.true in
-    let d = c.before.before.before.loop.d in
-    let y = c.before.before.before.before.shared-slice-known.given d.offs in
-    rw c.turn.ensures
+    let i = c.before.before.before.loop-d.invariant in
+    let l = c.before.loop-d-test.true in
+    let d = c.before.before.before.loop-d.d in
+    let y = c.before.before.before.before.shared_slice_known-1.given d.offs in
+    rw c.turn-d.ensures
     (settled_turn _ d (omega arith) l ∙ i.0, turn_on _ d (omega (arith, y)) i.1 l)
 
 returns : tie.Need-returns invariant_loop decreases_loop
-returns c = sym (settled_done _ _ c.if1.false) ∙ c.before.before.loop.invariant.0
+returns c = sym (settled_done _ _ c.loop-d-test.false) ∙ c.before.before.loop-d.invariant.0
 
 pub ec_dec_normalize_spec : {M : Type 1} → statement M
 ec_dec_normalize_spec = tie.close (tie.spec invariant_loop decreases_loop loop_holds turn_requires loop_less loop_again returns)

@@ -6,25 +6,25 @@ use Rattle.entcode.specs.Sound.{gate_r}
 use Rattle.entdec_gate.proofs.gate.Statement.{statement}
 use Rattle.entdec_gate.proofs.gate.Tie as tie
 
-returns : tie.Need-returns
+returns : tie.Need-returns-then-d-le1000000
 unfolding gate_r
 returns c =
     let b = c.before.before in
-    rw (le-leb _ _ b.before.before.if1.true, sym b.before.sound.ensures ∙ b.if2.true, le-leb _ 1000000 c.if3.true)
+    rw (le-leb _ _ b.before.before.if-packet-le-LONGEST.true, sym b.before.sound.ensures ∙ b.if-sound.true, le-leb _ 1000000 c.if-d-le1000000.true)
 
-returns_2 : tie.Need-returns-2
+returns_2 : tie.Need-returns-else-d-le1000000
 unfolding gate_r
 returns_2 c =
     let b = c.before.before in
-    rw (le-leb _ _ b.before.before.if1.true, sym b.before.sound.ensures ∙ b.if2.true, lt-leb _ 1000000 c.if3.false)
+    rw (le-leb _ _ b.before.before.if-packet-le-LONGEST.true, sym b.before.sound.ensures ∙ b.if-sound.true, lt-leb _ 1000000 c.if-d-le1000000.false)
 
-returns_3 : tie.Need-returns-3
+returns_3 : tie.Need-returns-else-sound
 unfolding gate_r
-returns_3 c = rw (le-leb _ _ c.before.before.if1.true, sym c.before.sound.ensures ∙ c.if2.false)
+returns_3 c = rw (le-leb _ _ c.before.before.if-packet-le-LONGEST.true, sym c.before.sound.ensures ∙ c.if-sound.false)
 
-returns_4 : tie.Need-returns-4
+returns_4 : tie.Need-returns-else-packet-le-LONGEST
 unfolding gate_r
-returns_4 c = rw (lt-leb _ _ c.if1.false)
+returns_4 c = rw (lt-leb _ _ c.if-packet-le-LONGEST.false)
 
 pub gate_spec : {M : Type 1} → statement M
 gate_spec = tie.close (tie.spec (λ c κs. search rules) returns returns_2 returns_3 returns_4)

@@ -2,11 +2,11 @@
 use Rattle.entdec_rules.proofs.bit_rule.Statement.{statement}
 use Rattle.entdec_rules.proofs.bit_rule.Tie as tie
 
-returns : tie.Need-returns
-returns c = rw c.if1.true
+returns : tie.Need-returns-then-lp
+returns c = rw c.if-lp.true
 
-returns_2 : tie.Need-returns-2
-returns_2 c = rw c.if1.false
+returns_2 : tie.Need-returns-else-lp
+returns_2 c = rw c.if-lp.false
 
 pub bit_rule_spec : {M : Type 1} → statement M
 bit_rule_spec = tie.close (tie.spec returns returns_2)

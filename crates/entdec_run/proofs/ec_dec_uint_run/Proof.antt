@@ -50,27 +50,27 @@ together k x n a h l =
     let m : 2 ^ (n + 8) ≤ 2 ^ 32 = pow_mono {i = n + 8} {j = 32} (omega arith) in
     (shl_exact 8 n 32 a (omega arith), omega arith)
 
-bytes : (c : tie.After-shared-slice-known) → Bytes c.before.args.packet.now
-bytes c i = omega (arith, c.shared-slice-known.given i)
+bytes : (c : tie.After-shared_slice_known-1) → Bytes c.before.args.packet.now
+bytes c i = omega (arith, c.shared_slice_known-1.given i)
 
 -- ---- the places: where the raw bits are counted, the number is sought, its part is cut, and its raw bits are read
 
-parts : (c : tie.After-raw-count) → let ft = c.before.before.args.ft in (ft - 1) / 2 ^ c.raw-count.result + 1 ≡ all (num ft)
-parts c = rw c.raw-count.ensures (omega arith)
+parts : (c : tie.After-raw_count-raws) → let ft = c.before.before.args.ft in (ft - 1) / 2 ^ c.raw_count-raws.result + 1 ≡ all (num ft)
+parts c = rw c.raw_count-raws.ensures (omega arith)
 
-few : (c : tie.After-raw-count) → c.raw-count.result ≤ 24
-few c = omega (arith, c.raw-count.ensures, length_most (c.before.before.args.ft - 1))
+few : (c : tie.After-raw_count-raws) → c.raw_count-raws.result ≤ 24
+few c = omega (arith, c.raw_count-raws.ensures, length_most (c.before.before.args.ft - 1))
 
-abbrev counted : tie.After-ec-decode → tie.After-raw-count
+abbrev counted : tie.After-ec_decode-k → tie.After-raw_count-raws
 counted c = c.before.before
 
-abbrev begun : tie.After-ec-decode → tie.Start
+abbrev begun : tie.After-ec_decode-k → tie.Start
 begun c = c.before.before.before.before
 
-sought_is : (c : tie.After-ec-decode) → let a = (begun c).args in c.ec-decode.result ≡ sought a.d.rng a.d.val (all (num a.ft))
-sought_is c = let a = (begun c).args in c.ec-decode.ensures ∙ ap (λ (p : ℕ). sought a.d.rng a.d.val p) (parts (counted c))
+sought_is : (c : tie.After-ec_decode-k) → let a = (begun c).args in c.ec_decode-k.result ≡ sought a.d.rng a.d.val (all (num a.ft))
+sought_is c = let a = (begun c).args in c.ec_decode-k.ensures ∙ ap (λ (p : ℕ). sought a.d.rng a.d.val p) (parts (counted c))
 
-the_piece : (c : tie.After-ec-decode) → let a = (begun c).args in Piece a.packet.now a.d a.ft c.ec-decode.result
+the_piece : (c : tie.After-ec_decode-k) → let a = (begun c).args in Piece a.packet.now a.d a.ft c.ec_decode-k.result
 the_piece c =
     let b = begun c in
     piece b.args.packet.now b.args.d b.args.ft _ (bytes c.before.before.before) b.pre.0 b.pre.1.1 (sought_is c)
@@ -81,46 +81,46 @@ cut_at c k =
     let m = all (num c.args.ft) in
     cut_down c.args.packet.now d (upper d.rng k m) (lower d.rng (suc k) m)
 
-cut_is : (c : tie.After-ec-dec-update) → c.ec-dec-update.result ≡ cut_at (begun c.before) c.before.ec-decode.result
+cut_is : (c : tie.After-ec_dec_update-q) → c.ec_dec_update-q.result ≡ cut_at (begun c.before) c.before.ec_decode-k.result
 cut_is c =
     let a = (begun c.before).args in
-    let k = c.before.ec-decode.result in
-    c.ec-dec-update.ensures
+    let k = c.before.ec_decode-k.result in
+    c.ec_dec_update-q.ensures
     ∙ ap (λ (p : ℕ). cut_down a.packet.now a.d (upper a.d.rng k p) (lower a.d.rng (suc k) p)) (parts (counted c.before))
 
-abbrev chosen : tie.After-raw-bits-run → tie.After-ec-decode
+abbrev chosen : tie.After-raw_bits_run-x → tie.After-ec_decode-k
 chosen c = c.before.before
 
-abbrev count : tie.After-raw-bits-run → ℕ
-count c = (counted (chosen c)).raw-count.result
+abbrev count : tie.After-raw_bits_run-x → ℕ
+count c = (counted (chosen c)).raw_count-raws.result
 
 -- the raw part fits its bits
-raw_small : (c : tie.After-raw-bits-run) → c.raw-bits-run.result.value < 2 ^ count c
-raw_small c = subst (λ (a : Decoded). a.value < 2 ^ count c) (sym c.raw-bits-run.ensures) (mod-lt _ (pow_pos (count c)))
+raw_small : (c : tie.After-raw_bits_run-x) → c.raw_bits_run-x.result.value < 2 ^ count c
+raw_small c = subst (λ (a : Decoded). a.value < 2 ^ count c) (sym c.raw_bits_run-x.ensures) (mod-lt _ (pow_pos (count c)))
 
-whole : (c : tie.After-raw-bits-run) → let k = (chosen c).ec-decode.result in
-    (k * 2 ^ count c % 2 ^ 32 ≡ k * 2 ^ count c) × (k * 2 ^ count c + c.raw-bits-run.result.value < 2 ^ 32)
+whole : (c : tie.After-raw_bits_run-x) → let k = (chosen c).ec_decode-k.result in
+    (k * 2 ^ count c % 2 ^ 32 ≡ k * 2 ^ count c) × (k * 2 ^ count c + c.raw_bits_run-x.result.value < 2 ^ 32)
 whole c = together _ _ (count c) (the_piece (chosen c)).small (few (counted (chosen c))) (raw_small c)
 
 -- ---- the needs
 
-add_parts : tie.Need-overflow-add-parts
+add_parts : tie.Need-overflow_add-parts
 add_parts c =
     let b = c.before.before in
     omega (arith, parts c, num_small b.args.ft (omega arith) b.requires.1.1.1)
 
-ec_decode_requires : tie.Need-ec-decode-requires
+ec_decode_requires : tie.Need-ec_decode-k-requires
 ec_decode_requires c κs =
     let b = c.before.before.before in
     let n = num_small b.args.ft (omega arith) b.requires.1.1.1 in
     (b.requires.0.above, omega (arith, b.requires.0.inside, b.requires.0.most), omega arith, omega (arith, parts c.before))
 
-ec_dec_update_requires : tie.Need-ec-dec-update-requires
+ec_dec_update_requires : tie.Need-ec_dec_update-q-requires
 ec_dec_update_requires c κs =
     let b = begun c in
     (b.pre.0, (b.pre.1.0, rw (parts (counted c)) ((the_piece c).below, (the_piece c).holding)))
 
-raw_bits_run_requires : tie.Need-raw-bits-run-requires
+raw_bits_run_requires : tie.Need-raw_bits_run-x-requires
 raw_bits_run_requires c κs =
     let n = (the_piece c.before).next in
     rw (cut_is c) (n.core, (omega (arith, n.most), omega (arith, few (counted c.before))))
@@ -132,18 +132,18 @@ returns c =
     let p = b.args.packet.now in
     let d = b.args.d in
     let ft = b.args.ft in
-    let k = (chosen r).ec-decode.result in
+    let k = (chosen r).ec_decode-k.result in
     let y = bytes (chosen r).before.before.before in
     let q = cut_at b k in
-    let n = (counted (chosen r)).raw-count.ensures in
-    let x : r.raw-bits-run.result ≡ gives (raw_val p (raw_bits ft) q) (raw_next p (raw_bits ft) q)
-    = r.raw-bits-run.ensures ∙ ap₂ (λ (n : ℕ) (z : Dec). gives (raw_val p n z) (raw_next p n z)) n (cut_is r.before) in
-    let v : k * 2 ^ count r % 2 ^ 32 + r.raw-bits-run.result.value ≡ k * 2 ^ raw_bits ft + raw_val p (raw_bits ft) q
+    let n = (counted (chosen r)).raw_count-raws.ensures in
+    let x : r.raw_bits_run-x.result ≡ gives (raw_val p (raw_bits ft) q) (raw_next p (raw_bits ft) q)
+    = r.raw_bits_run-x.ensures ∙ ap₂ (λ (n : ℕ) (z : Dec). gives (raw_val p n z) (raw_next p n z)) n (cut_is r.before) in
+    let v : k * 2 ^ count r % 2 ^ 32 + r.raw_bits_run-x.result.value ≡ k * 2 ^ raw_bits ft + raw_val p (raw_bits ft) q
     = ap₂ (λ (m n : ℕ). m + n) ((whole r).0 ∙ ap (λ (n : ℕ). k * 2 ^ n) n) (ap (λ (a : Decoded). a.value) x) in
     let s : d.rng / ((ft - 1) / 2 ^ count r + 1) ≡ d.rng / all (num ft) = ap (λ (n : ℕ). d.rng / n) (parts (counted (chosen r))) in
     took p (num ft) d _ y b.pre.1.1 b.pre.0
     (c.clamp.ensures
-    ∙ ap₂ (λ (n m : ℕ). outcome (ft - 1) n r.raw-bits-run.result.state m) v s
+    ∙ ap₂ (λ (n m : ℕ). outcome (ft - 1) n r.raw_bits_run-x.result.state m) v s
     ∙ ap (λ (z : Dec). outcome (ft - 1) (k * 2 ^ raw_bits ft + raw_val p (raw_bits ft) q) z (d.rng / all (num ft))) (ap (λ (a : Decoded). a.state) x)
     ∙ num_read p ft d k _ _ y b.pre.0 b.pre.1.1 (num_cutting ft d k (sought_is (chosen r))))
   where

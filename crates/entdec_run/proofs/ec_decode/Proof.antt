@@ -7,12 +7,12 @@ use Rattle.entcode.proofs.CutLaws.{step_some}
 use Rattle.entdec_run.proofs.ec_decode.Statement.{statement}
 use Rattle.entdec_run.proofs.ec_decode.Tie as tie
 
-div_least : tie.Need-nonzero-div-least
+div_least : tie.Need-nonzero_div-d
 div_least c =
     let b = c.before.before in
     omega (arith, step_some b.args.d.rng b.args.ft b.requires.0 b.requires.2 (omega arith))
 
-add_least : tie.Need-overflow-add-least
+add_least : tie.Need-overflow_add-d
 add_least c =
     let a = c.before.before.args in
     omega (arith, div-le_self a.d.val (a.d.rng / a.ft))

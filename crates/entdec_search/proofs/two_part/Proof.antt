@@ -7,10 +7,10 @@ use Rattle.entdec_search.proofs.TwoEntries.{two_entries}
 use Rattle.entdec_search.proofs.two_part.Statement.{statement}
 use Rattle.entdec_search.proofs.two_part.Tie as tie
 
-cast_edge : tie.Need-overflow-cast-edge
-cast_edge c = omega (arith, c.before.shared-slice-known.given 0)
+cast_edge : tie.Need-overflow_cast-edge
+cast_edge c = omega (arith, c.before.shared_slice_known-1.given 0)
 
-mul_edge : tie.Need-overflow-mul-edge
+mul_edge : tie.Need-overflow_mul-edge
 mul_edge c =
     let b = c.before.before in
     let a = b.args in
@@ -20,7 +20,7 @@ returns : tie.Need-returns
 returns c =
     let b = c.before.before.before.before.before in
     let a = b.args in
-    rw (c.before.before.pick.ensures, c.before.pick2.ensures, c.pick3.ensures)
+    rw (c.before.before.pick-symbol.ensures, c.before.pick-low.ensures, c.pick-top.ensures)
     (two_entries a.scale a.rng a.unit a.v a.table.now b.requires.0.0 b.requires.0.1)
 
 pub two_part_spec : {M : Type 1} → statement M

@@ -9,25 +9,25 @@ abbrev start : tie.Start → Out
 start c = out c.args.buf.now c.args.w
 
 -- where the state is finished
-abbrev gated : tie.After-ec-enc-done-run → tie.After-gate
+abbrev gated : tie.After-ec_enc_done_run → tie.After-gate-n
 gated c = c.before.before.before
 
-ec_enc_done_run_requires : tie.Need-ec-enc-done-run-requires
+ec_enc_done_run_requires : tie.Need-ec_enc_done_run-requires
 ec_enc_done_run_requires c κs =
     let g = c.before.before in
-    (gate_runs (start g.before.before.before) _ g.gate.ensures c.before.if1.true).core
+    (gate_runs (start g.before.before.before) _ g.gate-n.ensures c.before.if-n-eq0.true).core
 
-returns : tie.Need-returns
+returns : tie.Need-returns-then-n-eq0
 returns c =
     let p = c.before.before.before in
     let g = gated p in
     rw c.answer.ensures
-    (done_takes (start g.before.before.before) _ g.gate.ensures _ p.before.before.if1.true p.ec-enc-done-run.ensures)
+    (done_takes (start g.before.before.before) _ g.gate-n.ensures _ p.before.before.if-n-eq0.true p.ec_enc_done_run.ensures)
 
-returns_2 : tie.Need-returns-2
+returns_2 : tie.Need-returns-else-n-eq0
 returns_2 c =
     let g = c.before.before in
-    rw c.answer2.ensures (done_refuses (start g.before.before.before) _ g.gate.ensures c.before.if1.false)
+    rw c.answer-else-n-eq0.ensures (done_refuses (start g.before.before.before) _ g.gate-n.ensures c.before.if-n-eq0.false)
 
 pub ec_enc_done_spec : {M : Type 1} → statement M
 ec_enc_done_spec =

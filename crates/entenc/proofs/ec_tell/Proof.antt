@@ -13,23 +13,23 @@ use Rattle.entenc.proofs.ec_tell.Tie as tie
 abbrev start : tie.Start → Out
 start c = out c.args.buf.now c.args.w
 
-returns : tie.Need-returns
+returns : tie.Need-returns-then-n-eq0
 unfolding account
 returns c =
     let b = c.before.before.before.before.before in
-    tell_takes (start b) _ c.before.before.before.gate.ensures _ c.before.before.if1.true
-    (ap (λ (n : ℕ). b.args.w.total - n) c.before.ec-ilog.ensures)
+    tell_takes (start b) _ c.before.before.before.gate-n.ensures _ c.before.before.if-n-eq0.true
+    (ap (λ (n : ℕ). b.args.w.total - n) c.before.ec_ilog.ensures)
 
-sub_used : tie.Need-overflow-sub-used
+sub_used : tie.Need-overflow_sub-used
 sub_used c =
     let b = c.before.before.before.before.before in
-    let g = gate_runs (start b) _ c.before.before.before.gate.ensures c.before.before.if1.true in
-    omega (arith, g.sound.least, length_most b.args.w.rng, c.before.ec-ilog.ensures)
+    let g = gate_runs (start b) _ c.before.before.before.gate-n.ensures c.before.before.if-n-eq0.true in
+    omega (arith, g.sound.least, length_most b.args.w.rng, c.before.ec_ilog.ensures)
 
-returns_2 : tie.Need-returns-2
+returns_2 : tie.Need-returns-else-n-eq0
 returns_2 c =
     let g = c.before.before in
-    rw c.answer.ensures (tell_refuses (start g.before.before) _ g.gate.ensures c.before.if1.false)
+    rw c.answer.ensures (tell_refuses (start g.before.before) _ g.gate-n.ensures c.before.if-n-eq0.false)
 
 pub ec_tell_spec : {M : Type 1} → statement M
 ec_tell_spec = tie.close (tie.spec (λ c κs. search rules) (λ c κs. search rules) sub_used (λ c κs. search rules) returns returns_2)

@@ -10,46 +10,46 @@ use Rattle.entenc_bytes.proofs.Window.{shed_kept}
 use Rattle.entenc_bytes.proofs.flush_all_run.Statement.{statement}
 use Rattle.entenc_bytes.proofs.flush_all_run.Tie as tie
 
-abbrev invariant_loop : tie.invariant_loop
+abbrev invariant_loop : tie.invariant-loop-w
 invariant_loop buf₀ w₀ buf w =
     (flushed (out buf w) ≡ flushed (out buf₀ w₀)) × Windowed (out buf w) × (length buf ≡ length buf₀)
 
-abbrev decreases_loop : tie.decreases_loop
+abbrev decreases_loop : tie.decreases-loop-w
 decreases_loop buf₀ w₀ buf w = w.wbits
 
-loop_holds : tie.Need-loop-init invariant_loop decreases_loop
+loop_holds : tie.Need-loop-w-init invariant_loop decreases_loop
 loop_holds c = (refl, c.before.requires, refl)
 
-flush_byte_requires : tie.Need-flush-byte-requires invariant_loop decreases_loop
-flush_byte_requires c κs = (c.before.before.before.loop.invariant.1.roomy, c.before.if1.true)
+flush_byte_requires : tie.Need-flush_byte-w-requires invariant_loop decreases_loop
+flush_byte_requires c κs = (c.before.before.before.loop-w.invariant.1.roomy, c.before.loop-w-test.true)
 
-loop_less : tie.Need-loop-smaller invariant_loop decreases_loop
+loop_less : tie.Need-loop-w-smaller invariant_loop decreases_loop
 unfolding shed
 loop_less c =
     let l = c.before.before.before.before.before.before.loop in
-    let e : c.before.before.flush-byte.result.wbits ≡ l.w.wbits - 8 = ap (λ (q : Out). q.state.wbits) c.before.before.flush-byte.ensures in
-    omega (arith, c.before.before.before.before.if1.true)
+    let e : c.before.before.flush_byte-w.result.wbits ≡ l.w.wbits - 8 = ap (λ (q : Out). q.state.wbits) c.before.before.flush_byte-w.ensures in
+    omega (arith, c.before.before.before.before.loop-w-test.true)
 
-loop_again : tie.Need-loop-preserved invariant_loop decreases_loop
+loop_again : tie.Need-loop-w-preserved invariant_loop decreases_loop
 loop_again c =
     let l = c.before.before.before.before.before.before.loop in
     let o = out l.buf l.w in
-    let h = c.before.before.before.before.if1.true in
-    let e = c.before.before.flush-byte.ensures in (
+    let h = c.before.before.before.before.loop-w-test.true in
+    let e = c.before.before.flush_byte-w.ensures in (
       rw e (flushed_step o h ∙ l.invariant.0),
       rw e (shed_kept o l.invariant.1 h),
-      c.before.before.flush-byte.auto.0 ∙ l.invariant.2,
+      c.before.before.flush_byte-w.auto.0 ∙ l.invariant.2,
     )
 
-same_length : tie.Need-same-length invariant_loop decreases_loop
-same_length c = c.before.before.loop.invariant.2
+same_length : tie.Need-shape_of-buf invariant_loop decreases_loop
+same_length c = c.before.before.loop-w.invariant.2
 
 returns : tie.Need-returns invariant_loop decreases_loop
 returns c =
     let l = c.before.before.loop in
     record {
-      is = sym (flushed_done (out l.buf l.w) l.invariant.1.roomy.fair c.if1.false) ∙ l.invariant.0;
-      free = omega (arith, c.if1.false);
+      is = sym (flushed_done (out l.buf l.w) l.invariant.1.roomy.fair c.loop-w-test.false) ∙ l.invariant.0;
+      free = omega (arith, c.loop-w-test.false);
       windowed = l.invariant.1;
     }
 

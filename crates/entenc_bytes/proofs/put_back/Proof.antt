@@ -6,12 +6,12 @@ use Rattle.entenc_bytes.proofs.Placing.{back_here, back_full}
 use Rattle.entenc_bytes.proofs.put_back.Statement.{statement}
 use Rattle.entenc_bytes.proofs.put_back.Tie as tie
 
-returns : tie.Need-returns
+returns : tie.Need-returns-then-w
 returns c =
     let b = c.before.before.before.before.before in
     back_here (out b.args.buf.now b.args.w) b.args.b b.requires (omega arith)
 
-returns_2 : tie.Need-returns-2
+returns_2 : tie.Need-returns-else-w
 returns_2 c = let b = c.before.before.before in back_full (out b.args.buf.now b.args.w) b.args.b b.requires (omega arith)
 
 pub put_back_spec : {M : Type 1} → statement M

@@ -6,12 +6,12 @@ use Rattle.entenc_bytes.proofs.Placing.{put_here, put_full}
 use Rattle.entenc_bytes.proofs.put_byte.Statement.{statement}
 use Rattle.entenc_bytes.proofs.put_byte.Tie as tie
 
-returns : tie.Need-returns
+returns : tie.Need-returns-then-w
 returns c =
     let b = c.before.before.before.before.before in
     put_here (out b.args.buf.now b.args.w) b.args.b b.requires (omega arith)
 
-returns_2 : tie.Need-returns-2
+returns_2 : tie.Need-returns-else-w
 returns_2 c =
     let b = c.before.before.before.before in
     put_full (out b.args.buf.now b.args.w) b.args.b b.requires (omega arith)

@@ -14,32 +14,32 @@ use Rattle.entenc_bytes.proofs.put_held.Tie as tie
 rem_fits : (c : tie.Start) → SFits w32 c.args.w.rem
 rem_fits c = search rules
 
-cast_b : tie.Need-overflow-cast-b
+cast_b : tie.Need-overflow_cast-b
 cast_b c =
     let w = c.before.before.before.args.w in
     let h : SFits w32 w.rem = search rules in
-    rw (to_z-of_z h) (held_nat w.rem h (rw (to_z-of_z h) at c.if1.true))
+    rw (to_z-of_z h) (held_nat w.rem h (rw (to_z-of_z h) at c.if-h-ge0.true))
 
-add_b : tie.Need-overflow-add-b
+add_b : tie.Need-overflow_add-b
 add_b c =
     let w = c.before.before.before.args.w in
     let h : SFits w32 w.rem = search rules in
     rw (to_z-of_z h) (omega (arith, nat_most w.rem h))
 
-returns : tie.Need-returns
+returns : tie.Need-returns-then-h-ge0
 returns c =
     let b = c.before.before.before.before.before.before.before in
     let w = b.args.w in
     let h = rem_fits b in
-    let e = held_some w.rem b.args.k (rw (to_z-of_z h) at c.before.before.before.before.if1.true) in
+    let e = held_some w.rem b.args.k (rw (to_z-of_z h) at c.before.before.before.before.if-h-ge0.true) in
     rw (c.before.before.put_byte.ensures, to_z-of_z h, e)
 
-returns_2 : tie.Need-returns-2
+returns_2 : tie.Need-returns-else-h-ge0
 returns_2 c =
     let b = c.before.before.before in
     let w = b.args.w in
     let h = rem_fits b in
-    let e = held_none w.rem b.args.k (rw (to_z-of_z h) at c.if1.false) in
+    let e = held_none w.rem b.args.k (rw (to_z-of_z h) at c.if-h-ge0.false) in
     rw e (sym (put_none _ b.requires.0.fair))
 
 pub put_held_spec : {M : Type 1} → statement M

@@ -17,8 +17,8 @@ use Rattle.entenc_finish.proofs.ec_enc_done_run.Tie as tie
 enough : (c : tie.Start) → Enough c.args.w.rng c.args.w.val (bits_of c.args.w.rng c.args.w.val)
 enough c = bits_enough c.args.w.rng c.args.w.val c.requires.above c.requires.most
 
-nine : (c : tie.After-end-bits-run) → c.end-bits-run.result ≤ 9
-nine c = omega (arith, (enough c.before.before).few, c.end-bits-run.ensures)
+nine : (c : tie.After-end_bits_run-bits) → c.end_bits_run-bits.result ≤ 9
+nine c = omega (arith, (enough c.before.before).few, c.end_bits_run-bits.ensures)
 
 -- the coded part, from the numbers that the code computed
 front : (o q : Out) (l e d : ℕ) → l ≡ bits_of o.state.rng o.state.val → e ≡ round_up o.state.val (2 ^ (31 - l)) → d ≡ (l + 7) / 8
@@ -29,55 +29,55 @@ front o q l e d p r s t =
     t ∙ ap₂ (digits_out o) y x ∙ digits_front o
 
 -- where the digits are out: the bits chosen, the start, and the coded part
-abbrev chosen : tie.After-put-digits-run → tie.After-end-bits-run
+abbrev chosen : tie.After-put_digits_run-a → tie.After-end_bits_run-bits
 chosen c = c.before.before.before
 
-abbrev begun : tie.After-put-digits-run → tie.Start
+abbrev begun : tie.After-put_digits_run-a → tie.Start
 begun c = c.before.before.before.before.before
 
-abbrev start : tie.After-put-digits-run → Out
+abbrev start : tie.After-put_digits_run-a → Out
 start c = out (begun c).args.buf.now (begun c).args.w
 
-coded : (c : tie.After-put-digits-run) → out c.put-digits-run.new.0 c.put-digits-run.result ≡ fronted (start c)
-coded c = front (start c) _ _ _ _ (chosen c).end-bits-run.ensures c.before.before.round-up-run.ensures refl c.put-digits-run.ensures
+coded : (c : tie.After-put_digits_run-a) → out c.put_digits_run-a.new.0 c.put_digits_run-a.result ≡ fronted (start c)
+coded c = front (start c) _ _ _ _ (chosen c).end_bits_run-bits.ensures c.before.before.round_up_run-end.ensures refl c.put_digits_run-a.ensures
 
 -- where the window's bytes are out
-abbrev digits : tie.After-flush-all-run → tie.After-put-digits-run
+abbrev digits : tie.After-flush_all_run-b → tie.After-put_digits_run-a
 digits c = c.before.before.before.before
 
-sub_round_up_run : tie.Need-overflow-sub-round-up-run
+sub_round_up_run : tie.Need-overflow_sub-bits
 sub_round_up_run c = omega (arith, nine c)
 
-round_up_run_requires : tie.Need-round-up-run-requires
+round_up_run_requires : tie.Need-round_up_run-end-requires
 round_up_run_requires c κs =
     let b = c.before.before in
-    let e : cell c.end-bits-run.result ≡ cell (bits_of b.args.w.rng b.args.w.val)
-    = ap (λ (l : ℕ). cell l) c.end-bits-run.ensures in
+    let e : cell c.end_bits_run-bits.result ≡ cell (bits_of b.args.w.rng b.args.w.val)
+    = ap (λ (l : ℕ). cell l) c.end_bits_run-bits.ensures in
     (omega arith, omega (arith, (enough b).low, (enough b).high, b.requires.fits))
 
-add_digits : tie.Need-overflow-add-digits
+add_digits : tie.Need-overflow_add-digits
 add_digits c = omega (arith, nine c.before)
 
-put_digits_run_requires : tie.Need-put-digits-run-requires
+put_digits_run_requires : tie.Need-put_digits_run-a-requires
 put_digits_run_requires c κs =
     let b = c.before.before.before.before in
     (b.requires.roomy, (b.requires.held, omega (arith, b.requires.tidy, b.requires.few, nine c.before.before)))
 
-flush_all_run_requires : tie.Need-flush-all-run-requires
+flush_all_run_requires : tie.Need-flush_all_run-b-requires
 flush_all_run_requires c κs =
     let p = c.before.before.before in
     subst Windowed (sym (coded p)) (front_windowed (start p) (begun p).requires)
 
-mul_close_run : tie.Need-overflow-mul-close-run
+mul_close_run : tie.Need-overflow_mul-digits
 mul_close_run c = omega (arith, nine (chosen (digits c.before.before.before)))
 
-sub_close_run : tie.Need-overflow-sub-close-run
+sub_close_run : tie.Need-overflow_sub-digits
 sub_close_run c = omega arith
 
-close_run_requires : tie.Need-close-run-requires
+close_run_requires : tie.Need-close_run-q-requires
 close_run_requires c κs =
     let f = c.before.before.before in
-    let l = f.flush-all-run.ensures in
+    let l = f.flush_all_run-b.ensures in
     (l.windowed, (omega (arith, l.free), omega (arith, nine (chosen (digits f)))))
 
 returns : tie.Need-returns
@@ -88,8 +88,8 @@ returns c =
     let j = 8 * ((l.result + 7) / 8) - l.result in
     let e : j ≡ spare_bits (bits_of o.state.rng o.state.val) = ap spare_bits l.ensures in
     ap (λ (q : Out). at_window q o.state.window o.state.wbits q.state.total)
-    (c.before.before.close-run.ensures
-    ∙ ap (λ (q : Out). closed q j) (f.flush-all-run.ensures.is ∙ ap flushed (coded (digits f)))
+    (c.before.before.close_run-q.ensures
+    ∙ ap (λ (q : Out). closed q j) (f.flush_all_run-b.ensures.is ∙ ap flushed (coded (digits f)))
     ∙ ap (λ (i : ℕ). closed (flushed (fronted o)) i) e)
     ∙ finished_is o
 

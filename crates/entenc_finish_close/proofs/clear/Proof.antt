@@ -9,45 +9,45 @@ use Rattle.entenc_finish_close.proofs.Closing.{zeroed, zeroed_more, zeroed_none}
 use Rattle.entenc_finish_close.proofs.clear.Statement.{statement}
 use Rattle.entenc_finish_close.proofs.clear.Tie as tie
 
-abbrev invariant_loop : tie.invariant_loop
+abbrev invariant_loop : tie.invariant-loop-i
 invariant_loop buf₀ first last i₀ buf i = (buf ≡ zeroed buf₀ first i) × (first ≤ i) × (i ≤ last) × (length buf ≡ length buf₀)
 
-abbrev decreases_loop : tie.decreases_loop
+abbrev decreases_loop : tie.decreases-loop-i
 decreases_loop buf₀ first last i₀ buf i = last - i
 
-loop_holds : tie.Need-loop-init invariant_loop decreases_loop
+loop_holds : tie.Need-loop-i-init invariant_loop decreases_loop
 loop_holds c = (zeroed_none c.args.buf.now c.args.first, omega arith, c.requires.0, refl)
 
-slice_write_buf : tie.Need-slice-write-buf invariant_loop decreases_loop
-slice_write_buf c = let i = c.before.loop.invariant in omega (arith, i.3, c.loop-test.true, c.before.before.requires.1)
+slice_write_buf : tie.Need-bounds-buf-i invariant_loop decreases_loop
+slice_write_buf c = let i = c.before.loop-i.invariant in omega (arith, i.3, c.loop-i-test.true, c.before.before.requires.1)
 
-add_i : tie.Need-overflow-add-i invariant_loop decreases_loop
+add_i : tie.Need-overflow_add-i invariant_loop decreases_loop
 add_i c = omega arith
 
-loop_less : tie.Need-loop-smaller invariant_loop decreases_loop
+loop_less : tie.Need-loop-i-smaller invariant_loop decreases_loop
 loop_less c = omega arith
 
-loop_again : tie.Need-loop-preserved invariant_loop decreases_loop
+loop_again : tie.Need-loop-i-preserved invariant_loop decreases_loop
 loop_again c =
     let l = c.before.loop in
     let i = l.invariant in
     let b = c.before.before in
     let m = b.args.buf.now in
-    let h : l.i < length m = omega (arith, c.loop-test.true, b.requires.1) in (
+    let h : l.i < length m = omega (arith, c.loop-i-test.true, b.requires.1) in (
       rw add-one (ap (λ (d : List ℕ). set d l.i 0) i.0 ∙ zeroed_more m b.args.first l.i i.1 h),
       omega (arith, i.1),
-      omega (arith, c.loop-test.true),
+      omega (arith, c.loop-i-test.true),
       length-set l.buf l.i 0 ∙ i.3,
     )
 
-same_length : tie.Need-same-length invariant_loop decreases_loop
-same_length c = c.before.loop.invariant.3
+same_length : tie.Need-shape_of-buf invariant_loop decreases_loop
+same_length c = c.before.loop-i.invariant.3
 
 returns : tie.Need-returns invariant_loop decreases_loop
 returns c =
     let l = c.before.loop in
     let b = c.before.before in
-    let e : l.i ≡ b.args.last = omega (arith, l.invariant.2, c.loop-test.false) in
+    let e : l.i ≡ b.args.last = omega (arith, l.invariant.2, c.loop-i-test.false) in
     l.invariant.0 ∙ ap (λ (n : ℕ). zeroed b.args.buf.now b.args.first n) e
 
 pub clear_spec : {M : Type 1} → statement M

@@ -15,38 +15,38 @@ lead c = zeros c.args.rng c.requires.0 c.requires.1
 below : (c : tie.Start) → round_up c.args.val (cell (count_leading_zeros 32 c.args.rng)) < c.args.val + c.args.rng
 below c = omega (arith, (round_up_lem c.args.val (cell (count_leading_zeros 32 c.args.rng)) (lead c).some).1, (lead c).inside)
 
-sub_k : tie.Need-overflow-sub-k
+sub_k : tie.Need-overflow_sub-k
 sub_k c = omega (arith, (lead c).few)
 
-round_up_run_requires : tie.Need-round-up-run-requires
+round_up_run_requires : tie.Need-round_up_run-end-requires
 round_up_run_requires c κs = (omega arith, omega (arith, (lead c).inside, c.requires.2))
 
 -- the sum in whole numbers
-sums : (c : tie.After-wrapping-add-u32) → c.wrapping-add-u32.result ≡ c.before.before.args.val + c.before.before.args.rng
+sums : (c : tie.After-wrapping_add_u32-top) → c.wrapping_add_u32-top.result ≡ c.before.before.args.val + c.before.before.args.rng
 sums c = omega (arith, c.before.before.requires.2)
 
-sub_left : tie.Need-overflow-sub-left
-sub_left c = omega (arith, sums c, below c.before.before, c.before.round-up-run.ensures)
+sub_left : tie.Need-overflow_sub-left
+sub_left c = omega (arith, sums c, below c.before.before, c.before.round_up_run-end.ensures)
 
-add_result : tie.Need-overflow-add-result
+add_result : tie.Need-overflow_add-result
 add_result c = omega (arith, (lead c.before.before.before).few)
 
-returns : tie.Need-returns
+returns : tie.Need-returns-then-left-k
 returns c =
     let a = c.before in
     let b = a.before.before in
     let l = count_leading_zeros 32 b.args.rng in
     let t : b.args.val + b.args.rng < round_up b.args.val (cell l) + cell l
-    = omega (arith, c.if1.true, sums a, a.before.round-up-run.ensures, one_shl (31 - l) (omega arith), below b) in
+    = omega (arith, c.if-left-k.true, sums a, a.before.round_up_run-end.ensures, one_shl (31 - l) (omega arith), below b) in
     rw (lt-ltb (b.args.val + b.args.rng) (round_up b.args.val (cell l) + cell l) t, add-one)
 
-returns_2 : tie.Need-returns-2
+returns_2 : tie.Need-returns-else-left-k
 returns_2 c =
     let a = c.before in
     let b = a.before.before in
     let l = count_leading_zeros 32 b.args.rng in
     let t : round_up b.args.val (cell l) + cell l ≤ b.args.val + b.args.rng
-    = omega (arith, c.if1.false, sums a, a.before.round-up-run.ensures, one_shl (31 - l) (omega arith), below b) in
+    = omega (arith, c.if-left-k.false, sums a, a.before.round_up_run-end.ensures, one_shl (31 - l) (omega arith), below b) in
     rw (le-ltb (b.args.val + b.args.rng) (round_up b.args.val (cell l) + cell l) t)
 
 pub end_bits_run_spec : {M : Type 1} → statement M

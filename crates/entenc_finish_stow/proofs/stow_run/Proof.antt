@@ -29,39 +29,39 @@ waiting c =
     omega (arith, c.requires.0.slim)
 
 -- there is a byte below the back
-abbrev begun : tie.Then1 → tie.Start
+abbrev begun : tie.Then-w → tie.Start
 begun c = c.before.before.before
 
-inside : (c : tie.Then1) → let a = (begun c).args in a.w.storage - (a.w.endoffs + 1) < length a.buf.now
-inside c = omega (arith, (begun c).requires.0.roomy.fair.kept, c.if1.true)
+inside : (c : tie.Then-w) → let a = (begun c).args in a.w.storage - (a.w.endoffs + 1) < length a.buf.now
+inside c = omega (arith, (begun c).requires.0.roomy.fair.kept, c.if-w.true)
 
 -- where the bits join that byte
-abbrev below : tie.Then2 → tie.Then1
+abbrev below : tie.Then-w-used → tie.Then-w
 below c = c.before.before.before.before.before.before
 
-rem_x : tie.Need-nonzero-rem-x
+rem_x : tie.Need-nonzero_rem-x
 rem_x c = let b = begun (below c.before) in some_left _ (omega (arith, pow_pos b.args.j)) (omega (arith, few b))
 
-cast_buf : tie.Need-overflow-cast-buf
+cast_buf : tie.Need-overflow_cast-buf
 cast_buf c = record { fits = lt_of_le_of_lt (mod-le _ _) (omega (arith, waiting (begun (below c.before)))) }
 
-returns : tie.Need-returns
+returns : tie.Need-returns-then-w-used
 returns c =
     let p = below c.before in
     let b = begun p in
-    stow_short (out b.args.buf.now b.args.w) b.args.j _ b.pre.0.roomy p.if1.taken c.before.if2.true
+    stow_short (out b.args.buf.now b.args.w) b.args.j _ b.pre.0.roomy p.if1.taken c.before.if-w-used.true
     (ap (λ (m : ℕ). b.args.w.window % m) (mask b))
 
-returns_2 : tie.Need-returns-2
+returns_2 : tie.Need-returns-else-w-used
 returns_2 c =
     let p = c.before.before.before.before.before.before.before in
     let b = begun p in
-    stow_whole (out b.args.buf.now b.args.w) b.args.j b.pre.0.roomy p.if1.true c.before.if2.false
+    stow_whole (out b.args.buf.now b.args.w) b.args.j b.pre.0.roomy p.if-w.true c.before.if-w-used.false
 
-returns_3 : tie.Need-returns-3
+returns_3 : tie.Need-returns-else-w
 returns_3 c =
     let b = c.before.before.before in
-    stow_none (out b.args.buf.now b.args.w) b.args.j b.requires.0.roomy c.if1.false
+    stow_none (out b.args.buf.now b.args.w) b.args.j b.requires.0.roomy c.if-w.false
 
 pub stow_run_spec : {M : Type 1} → statement M
 stow_run_spec =

@@ -6,31 +6,31 @@ use Rattle.entcode.specs.Sound.{gate_w}
 use Rattle.entenc_gate.proofs.gate.Statement.{statement}
 use Rattle.entenc_gate.proofs.gate.Tie as tie
 
-returns : tie.Need-returns
+returns : tie.Need-returns-then-w-le1000000
 unfolding gate_w
 returns c =
     rw (
-      le-leb _ _ c.before.before.before.before.if1.true,
-      sym c.before.before.before.sound.ensures ∙ c.before.before.if2.true,
-      le-leb _ 1000000 c.if3.true,
+      le-leb _ _ c.before.before.before.before.if-buf-le-LONGEST.true,
+      sym c.before.before.before.sound.ensures ∙ c.before.before.if-sound.true,
+      le-leb _ 1000000 c.if-w-le1000000.true,
     )
 
-returns_2 : tie.Need-returns-2
+returns_2 : tie.Need-returns-else-w-le1000000
 unfolding gate_w
 returns_2 c =
     rw (
-      le-leb _ _ c.before.before.before.before.if1.true,
-      sym c.before.before.before.sound.ensures ∙ c.before.before.if2.true,
-      lt-leb _ 1000000 c.if3.false,
+      le-leb _ _ c.before.before.before.before.if-buf-le-LONGEST.true,
+      sym c.before.before.before.sound.ensures ∙ c.before.before.if-sound.true,
+      lt-leb _ 1000000 c.if-w-le1000000.false,
     )
 
-returns_3 : tie.Need-returns-3
+returns_3 : tie.Need-returns-else-sound
 unfolding gate_w
-returns_3 c = rw (le-leb _ _ c.before.before.if1.true, sym c.before.sound.ensures ∙ c.if2.false)
+returns_3 c = rw (le-leb _ _ c.before.before.if-buf-le-LONGEST.true, sym c.before.sound.ensures ∙ c.if-sound.false)
 
-returns_4 : tie.Need-returns-4
+returns_4 : tie.Need-returns-else-buf-le-LONGEST
 unfolding gate_w
-returns_4 c = rw (lt-leb _ _ c.if1.false)
+returns_4 c = rw (lt-leb _ _ c.if-buf-le-LONGEST.false)
 
 pub gate_spec : {M : Type 1} → statement M
 gate_spec = tie.close (tie.spec (λ c κs. search rules) returns returns_2 returns_3 returns_4)

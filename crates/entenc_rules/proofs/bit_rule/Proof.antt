@@ -3,14 +3,14 @@ use borrow.Author.Tests.{le-leb, lt-leb}
 use Rattle.entenc_rules.proofs.bit_rule.Statement.{statement}
 use Rattle.entenc_rules.proofs.bit_rule.Tie as tie
 
-returns : tie.Need-returns
-returns c = rw (c.before.if1.true, le-leb _ 1 c.if2.true)
+returns : tie.Need-returns-then-v-le1
+returns c = rw (c.before.if-lp.true, le-leb _ 1 c.if-v-le1.true)
 
-returns_2 : tie.Need-returns-2
-returns_2 c = rw (c.before.if1.true, lt-leb _ 1 c.if2.false)
+returns_2 : tie.Need-returns-else-v-le1
+returns_2 c = rw (c.before.if-lp.true, lt-leb _ 1 c.if-v-le1.false)
 
-returns_3 : tie.Need-returns-3
-returns_3 c = rw c.if1.false
+returns_3 : tie.Need-returns-else-lp
+returns_3 c = rw c.if-lp.false
 
 pub bit_rule_spec : {M : Type 1} → statement M
 bit_rule_spec = tie.close (tie.spec returns returns_2 returns_3)

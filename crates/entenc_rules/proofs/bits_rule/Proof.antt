@@ -7,23 +7,23 @@ use Rattle.bitlen.proofs.Shift.{one_shl}
 use Rattle.entenc_rules.proofs.bits_rule.Statement.{statement}
 use Rattle.entenc_rules.proofs.bits_rule.Tie as tie
 
-shl_if2 : tie.Need-overflow-shl-if2
-shl_if2 c = omega (arith, (in_range_lem 1 25 c.before.args.n c.if1.true).1)
+shl_if2 : tie.Need-overflow_shl-n
+shl_if2 c = omega (arith, (in_range_lem 1 25 c.before.args.n c.if-n.true).1)
 
-returns : tie.Need-returns
+returns : tie.Need-returns-then-v-n
 returns c =
     let a = c.before.before.args in
-    let e = one_shl a.n (omega (arith, (in_range_lem 1 25 a.n c.before.if1.true).1)) in
-    rw (c.before.if1.true, lt-ltb a.v (2 ^ a.n) (omega (arith, rw e at c.if2.true)))
+    let e = one_shl a.n (omega (arith, (in_range_lem 1 25 a.n c.before.if-n.true).1)) in
+    rw (c.before.if-n.true, lt-ltb a.v (2 ^ a.n) (omega (arith, rw e at c.if-v-n.true)))
 
-returns_2 : tie.Need-returns-2
+returns_2 : tie.Need-returns-else-v-n
 returns_2 c =
     let a = c.before.before.args in
-    let e = one_shl a.n (omega (arith, (in_range_lem 1 25 a.n c.before.if1.true).1)) in
-    rw (c.before.if1.true, le-ltb a.v (2 ^ a.n) (omega (arith, rw e at c.if2.false)))
+    let e = one_shl a.n (omega (arith, (in_range_lem 1 25 a.n c.before.if-n.true).1)) in
+    rw (c.before.if-n.true, le-ltb a.v (2 ^ a.n) (omega (arith, rw e at c.if-v-n.false)))
 
-returns_3 : tie.Need-returns-3
-returns_3 c = rw c.if1.false
+returns_3 : tie.Need-returns-else-n
+returns_3 c = rw c.if-n.false
 
 pub bits_rule_spec : {M : Type 1} → statement M
 bits_rule_spec = tie.close (tie.spec shl_if2 returns returns_2 returns_3)

@@ -18,13 +18,13 @@ most c i =
     let a = c.args in
     omega (arith, c.requires.0.most, entry_most a.w.rng a.scale (get_or a.table.now i 0) (entry_below a.scale a.table.now c.requires.1.1.0 i))
 
-cast_low : tie.Need-overflow-cast-low
-cast_low c = omega (arith, c.shared-slice-known2.given c.before.before.before.before.args.k)
+cast_low : tie.Need-overflow_cast-low
+cast_low c = omega (arith, c.shared_slice_known-2-1.given c.before.before.before.before.args.k)
 
-mul_low : tie.Need-overflow-mul-low
+mul_low : tie.Need-overflow_mul-low
 mul_low c = omega (arith, most c.before.before.before.before c.before.before.before.before.args.k)
 
-symbol_top_requires : tie.Need-symbol-top-requires
+symbol_top_requires : tie.Need-symbol_top-top-requires
 symbol_top_requires c κs =
     let b = c.before.before.before.before in
     (b.requires.1.1.1.inside, most b)
@@ -35,7 +35,7 @@ keep_requires c κs =
       b.requires.0,
       (
         b.requires.1.0,
-        rw c.before.symbol-top.ensures
+        rw c.before.symbol_top-top.ensures
             (symbol_cut b.args.w.rng b.args.scale b.args.k b.args.table.now b.requires.0.above (allowed b)),
       ),
     )
@@ -47,7 +47,7 @@ returns c =
     let low = b.args.w.rng / 2 ^ b.args.scale * get_or b.args.table.now b.args.k 0 in
     wrote o (record { model = tab b.args.scale b.args.table.now; value = b.args.k }) _ b.requires.0 b.requires.1.0 (allowed b)
     (c.before.before.keep.ensures.is
-    ∙ ap (λ (x : ℕ). cut o x low) c.before.before.before.before.symbol-top.ensures
+    ∙ ap (λ (x : ℕ). cut o x low) c.before.before.before.before.symbol_top-top.ensures
     ∙ symbol_is o b.args.scale b.args.k b.args.table.now b.requires.1.1.0 b.requires.0.used)
 
 pub ec_enc_icdf_run_spec : {M : Type 1} → statement M

@@ -19,65 +19,65 @@ allowed c = record { readable = (c.requires.1.1.0, below c); fitting = c.require
 part : (c : tie.Start) (d : ℕ) → d ≡ bit_length (c.args.ft - 1) → NumberPart c.args.ft c.args.v d
 part c d e = number_part c.args.ft c.args.v d e c.requires.1.1.0 (below c) c.requires.1.1.1
 
-shr_parts : tie.Need-overflow-shr-parts
-shr_parts c = omega (arith, (part c.before.before.before _ c.before.ec-ilog.ensures).few)
+shr_parts : tie.Need-overflow_shr-parts
+shr_parts c = omega (arith, (part c.before.before.before _ c.before.ec_ilog-digits.ensures).few)
 
-add_parts : tie.Need-overflow-add-parts
-add_parts c = omega (arith, (part c.before.before.before _ c.before.ec-ilog.ensures).small)
+add_parts : tie.Need-overflow_add-parts
+add_parts c = omega (arith, (part c.before.before.before _ c.before.ec_ilog-digits.ensures).small)
 
-shr_keep_part : tie.Need-overflow-shr-keep-part
-shr_keep_part c = omega (arith, (part c.before.before.before.before _ c.before.before.ec-ilog.ensures).few)
+shr_keep_part : tie.Need-overflow_shr-v
+shr_keep_part c = omega (arith, (part c.before.before.before.before _ c.before.before.ec_ilog-digits.ensures).few)
 
-keep_part_requires : tie.Need-keep-part-requires
+keep_part_requires : tie.Need-keep_part-q-requires
 keep_part_requires c κs =
     let b = c.before.before.before.before in
-    let p = part b _ c.before.before.ec-ilog.ensures in
+    let p = part b _ c.before.before.ec_ilog-digits.ensures in
     (b.requires.0, (b.requires.1.0, (p.below, p.small)))
 
-shl_append : tie.Need-overflow-shl-append
+shl_append : tie.Need-overflow_shl-n
 shl_append c =
     let b = c.before.before.before.before.before.before in
-    omega (arith, (part b.before.before _ b.ec-ilog.ensures).few)
+    omega (arith, (part b.before.before _ b.ec_ilog-digits.ensures).few)
 
-rem_append : tie.Need-nonzero-rem-append
+rem_append : tie.Need-nonzero_rem-v
 rem_append c =
     let b = c.before.before.before.before.before.before in
-    omega (arith, (part b.before.before _ b.ec-ilog.ensures).mask, pow_pos (b.ec-ilog.result - 8))
+    omega (arith, (part b.before.before _ b.ec_ilog-digits.ensures).mask, pow_pos (b.ec_ilog-digits.result - 8))
 
 append_requires : tie.Need-append-requires
 append_requires c κs =
     let b = c.before.before.before.before.before.before in
-    let p = part b.before.before _ b.ec-ilog.ensures in
-    let k = c.before.before.before.keep-part.ensures in
-    let l = c.before.before.before.before.before.if1.true in
+    let p = part b.before.before _ b.ec_ilog-digits.ensures in
+    let k = c.before.before.before.keep_part-q.ensures in
+    let l = c.before.before.before.before.before.if-digits-gt8.true in
     (k.core, (omega (arith, k.most, b.before.before.requires.1.0), (omega (arith, l), omega (arith, p.few), p.rest)))
 
-keep_part_requires_2 : tie.Need-keep-part-requires-2
+keep_part_requires_2 : tie.Need-keep_part-requires
 keep_part_requires_2 c κs =
     let b = c.before.before.before.before in
-    let n = number_few b.args.ft _ c.before.before.ec-ilog.ensures c.before.if1.false (below b) in
+    let n = number_few b.args.ft _ c.before.before.ec_ilog-digits.ensures c.before.if-digits-gt8.false (below b) in
     (b.requires.0, (b.requires.1.0, (b.requires.1.1.1, n.0)))
 
-returns : tie.Need-returns
+returns : tie.Need-returns-then-digits-gt8
 returns c =
     let d = c.before.before.before.before.before.before.before.before.before in
     let b = d.before.before in
     let o = out b.args.buf.now b.args.w in
-    let n = d.ec-ilog.result - 8 in
+    let n = d.ec_ilog-digits.result - 8 in
     wrote o (record { model = num b.args.ft; value = b.args.v }) _ b.requires.0 b.requires.1.0 (allowed b)
     (c.before.before.append.ensures.is
     ∙ ap (λ (q : Out). appended q n (b.args.v % (1 * 2 ^ n % 2 ^ 32)))
-    c.before.before.before.before.before.before.keep-part.ensures.is
-    ∙ number_is o b.args.ft b.args.v d.ec-ilog.result d.ec-ilog.ensures)
+    c.before.before.before.before.before.before.keep_part-q.ensures.is
+    ∙ number_is o b.args.ft b.args.v d.ec_ilog-digits.result d.ec_ilog-digits.ensures)
 
-returns_2 : tie.Need-returns-2
+returns_2 : tie.Need-returns-else-digits-gt8
 returns_2 c =
     let d = c.before.before.before.before.before in
     let b = d.before.before in
     let o = out b.args.buf.now b.args.w in
-    let n = number_few b.args.ft _ d.ec-ilog.ensures c.before.before.before.before.if1.false (below b) in
+    let n = number_few b.args.ft _ d.ec_ilog-digits.ensures c.before.before.before.before.if-digits-gt8.false (below b) in
     wrote o (record { model = num b.args.ft; value = b.args.v }) _ b.requires.0 b.requires.1.0 (allowed b)
-    (c.before.before.keep-part2.ensures.is
+    (c.before.before.keep_part.ensures.is
     ∙ num_plain o b.args.ft b.args.v (omega (arith, b.requires.1.1.0)) n.1 b.requires.0.used)
 
 pub ec_enc_uint_run_spec : {M : Type 1} → statement M

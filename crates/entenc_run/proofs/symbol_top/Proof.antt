@@ -5,25 +5,25 @@ use Rattle.entenc_run.proofs.symbol_top.Statement.{statement}
 use Rattle.entenc_run.proofs.symbol_top.Tie as tie
 
 -- where the entry stands
-at : (c : tie.Joined1) → (c.if1.j < length c.before.args.table.now) × ((c.before.args.k ≡ 0 → ⊥) → c.if1.j ≡ c.before.args.k - 1)
+at : (c : tie.Joined-i-eq0) → (c.if1.j < length c.before.args.table.now) × ((c.before.args.k ≡ 0 → ⊥) → c.if1.j ≡ c.before.args.k - 1)
 at c =
     let h = c.before.requires.0 in
-    ⊎_elim (λ w. (omega (arith, w.0.taken, w.1), λ n. absurd (n w.0.taken))) (λ w. (omega (arith, w.1), λ n. w.1)) c.if1.branch
+    ⊎_elim (λ w. (omega (arith, w.0.taken, w.1), λ n. absurd (n w.0.taken))) (λ w. (omega (arith, w.1), λ n. w.1)) c.if-i-eq0.branch
 
-shared_slice_read_part : tie.Need-shared-slice-read-part
+shared_slice_read_part : tie.Need-bounds-table-j
 shared_slice_read_part c = (at c.before).0
 
-cast_part : tie.Need-overflow-cast-part
-cast_part c = omega (arith, c.shared-slice-known.given c.before.if1.j)
+cast_part : tie.Need-overflow_cast-part
+cast_part c = omega (arith, c.shared_slice_known-1.given c.before.if1.j)
 
-mul_part : tie.Need-overflow-mul-part
+mul_part : tie.Need-overflow_mul-part
 mul_part c = omega (arith, c.before.before.requires.1 c.before.if1.j)
 
-returns_2 : tie.Need-returns-2
+returns_2 : tie.Need-returns-else-k-eq0
 returns_2 c =
     let b = c.before.before.before in
-    ap (λ (i : ℕ). b.args.unit * get_or b.args.table.now i 0) ((at c.before.before).1 c.if2.false)
-    ∙ later_top b.args.rng b.args.unit b.args.k b.args.table.now c.if2.false
+    ap (λ (i : ℕ). b.args.unit * get_or b.args.table.now i 0) ((at c.before.before).1 c.if-k-eq0.false)
+    ∙ later_top b.args.rng b.args.unit b.args.k b.args.table.now c.if-k-eq0.false
 
 pub symbol_top_spec : {M : Type 1} → statement M
 symbol_top_spec =

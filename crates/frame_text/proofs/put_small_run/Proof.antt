@@ -18,5 +18,5 @@ put_small_run_spec =
     let b = c.before.before.before.before.before.before in
     let s = b.before.before.before.before in
     let a = s.before.before.before.before.before.args in
-    let e = rw (to_z_pos w16 {n = length a.xs.now} (omega arith)) at s.put-start-run.ensures in
-    put_as (put_counted a.word.now a.xs.now e b.put-small-numbers-run.ensures c.before.before.put-byte-run.ensures) refl (omega arith)))
+    let e = rw (to_z_pos w16 {n = length a.xs.now} (omega arith)) at s.put_start_run-place.ensures in
+    put_as (put_counted a.word.now a.xs.now e b.put_small_numbers_run-place.ensures c.before.before.put_byte_run.ensures) refl (omega arith)))

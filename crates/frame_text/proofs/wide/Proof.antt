@@ -4,7 +4,7 @@ use mir.Facts.{to_z-of_z, sfits_widen}
 use Rattle.frame_text.proofs.wide.Statement.{statement}
 use Rattle.frame_text.proofs.wide.Tie as tie
 
-cast_result : tie.Need-overflow-cast-result
+cast_result : tie.Need-overflow_cast-result
 cast_result c = rw (to_z-of_z c.ranges.x) (sfits_widen {w = w8} tt c.ranges.x)
 
 returns : tie.Need-returns

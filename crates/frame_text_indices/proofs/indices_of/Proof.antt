@@ -6,13 +6,13 @@ use Rattle.sheet.specs.Books.{narrow_book, wide_book}
 use Rattle.frame_text_indices.proofs.indices_of.Statement.{statement}
 use Rattle.frame_text_indices.proofs.indices_of.Tie as tie
 
-returns : tie.Need-returns
+returns : tie.Need-returns-then-khz-eq16
 unfolding wide_book
-returns c = rw (eq-eqb _ _ c.if1.true) (refl, omega arith)
+returns c = rw (eq-eqb _ _ c.if-khz-eq16.true) (refl, omega arith)
 
-returns_2 : tie.Need-returns-2
+returns_2 : tie.Need-returns-else-khz-eq16
 unfolding narrow_book
-returns_2 c = rw (ne_eqb _ _ c.if1.false) (refl, omega arith)
+returns_2 c = rw (ne_eqb _ _ c.if-khz-eq16.false) (refl, omega arith)
 
 pub indices_of_spec : {M : Type 1} → statement M
 indices_of_spec = tie.close (tie.spec returns returns_2)

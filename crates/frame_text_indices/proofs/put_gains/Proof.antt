@@ -20,13 +20,13 @@ enough z =
 long : (z : tie.Start) → length (take z.args.subframes z.args.x.gains) ≡ z.args.subframes
 long z = length-take-le z.args.subframes z.args.x.gains (enough z)
 
-array_share_prefix_gains : tie.Need-array-share-prefix-gains
+array_share_prefix_gains : tie.Need-slice_bounds-gains-end
 array_share_prefix_gains c = enough c.before.before.before.before
 
 slice_aggregate_put_small_run_2 : tie.Need-slice-aggregate-put-small-run-2
 slice_aggregate_put_small_run_2 c = sym (long c.before.before.before.before.before)
 
-put_small_run_requires : tie.Need-put-small-run-requires
+put_small_run_requires : tie.Need-put_small_run-requires
 put_small_run_requires c κs =
     let e = long c.before.before.before.before.before in
     (omega (arith, e), omega (arith, e))
@@ -35,7 +35,7 @@ returns : tie.Need-returns
 unfolding ascii gains_text
 returns c =
     let z = c.before.before.before.before.before.before.before.before in
-    put_as c.before.before.put-small-run.ensures refl (omega (arith, long z))
+    put_as c.before.before.put_small_run.ensures refl (omega (arith, long z))
 
 pub put_gains_spec : {M : Type 1} → statement M
 put_gains_spec =

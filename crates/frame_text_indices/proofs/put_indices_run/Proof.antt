@@ -18,13 +18,13 @@ interp_fits z = search (rules, z.well-formed.1.1.0)
 seed_fits : (z : tie.Start) → SFits w8 z.args.x.seed
 seed_fits z = search (rules, z.well-formed.1.1.0)
 
-put_kind_run_requires : tie.Need-put-kind-run-requires
+put_kind_run_requires : tie.Need-put_kind_run-place-requires
 put_kind_run_requires c κs = (search rules, search rules, subframes_most c.before.before.requires.1.1)
 
-put_gains_requires : tie.Need-put-gains-requires
+put_gains_requires : tie.Need-put_gains-place-requires
 put_gains_requires c κs = (search rules, subframes_most c.before.before.before.before.before.before.requires.1.1)
 
-put_one_run_requires_2 : tie.Need-put-one-run-requires-2
+put_one_run_requires_2 : tie.Need-put_one_run-requires
 put_one_run_requires_2 c κs =
     let p = c.before.before.before.before.before in
     let i = p.before.before.before.before in
@@ -36,24 +36,24 @@ put_one_run_requires_2 c κs =
     omega (
       arith,
       r,
-      k.put-kind-run.ensures.behind,
-      k.put-kind-run.ensures.most,
-      k.put-kind-run.auto.0,
-      g.put-gains.ensures.behind,
-      g.put-gains.ensures.most,
-      g.put-gains.auto.0,
-      s.put-spectrum.ensures.behind,
-      s.put-spectrum.ensures.most,
-      s.put-spectrum.auto.0,
-      i.put-one-run.ensures.behind,
-      i.put-one-run.ensures.most,
-      i.put-one-run.auto.0,
-      p.put-pitch-run.ensures.behind,
-      p.put-pitch-run.ensures.most,
-      p.put-pitch-run.auto.0,
+      k.put_kind_run-place.ensures.behind,
+      k.put_kind_run-place.ensures.most,
+      k.put_kind_run-place.auto.0,
+      g.put_gains-place.ensures.behind,
+      g.put_gains-place.ensures.most,
+      g.put_gains-place.auto.0,
+      s.put_spectrum-place.ensures.behind,
+      s.put_spectrum-place.ensures.most,
+      s.put_spectrum-place.auto.0,
+      i.put_one_run-place.ensures.behind,
+      i.put_one_run-place.ensures.most,
+      i.put_one_run-place.auto.0,
+      p.put_pitch_run-place.ensures.behind,
+      p.put_pitch_run-place.ensures.most,
+      p.put_pitch_run-place.auto.0,
     )
 
-same_length : tie.Need-same-length
+same_length : tie.Need-shape_of-out
 same_length c =
     let o = c.before.before in
     let p = o.before.before.before.before.before.before in
@@ -61,12 +61,12 @@ same_length c =
     let s = i.before.before.before.before.before.before in
     let g = s.before.before.before.before in
     let k = g.before.before.before.before in
-    o.put-one-run2.auto.0
-    ∙ p.put-pitch-run.auto.0
-    ∙ i.put-one-run.auto.0
-    ∙ s.put-spectrum.auto.0
-    ∙ g.put-gains.auto.0
-    ∙ k.put-kind-run.auto.0
+    o.put_one_run.auto.0
+    ∙ p.put_pitch_run-place.auto.0
+    ∙ i.put_one_run-place.auto.0
+    ∙ s.put_spectrum-place.auto.0
+    ∙ g.put_gains-place.auto.0
+    ∙ k.put_kind_run-place.auto.0
 
 returns : tie.Need-returns
 unfolding ascii indices_text
@@ -78,9 +78,9 @@ returns c =
     let g = s.before.before.before.before in
     let k = g.before.before.before.before in
     let z = k.before.before.before in
-    let t = put_then (put_then k.put-kind-run.ensures g.put-gains.ensures) s.put-spectrum.ensures in
-    let u = put_then (put_then t (rw (to_z-of_z (interp_fits z)) at i.put-one-run.ensures)) p.put-pitch-run.ensures in
-    put_then u (rw (to_z-of_z (seed_fits z)) at o.put-one-run2.ensures)
+    let t = put_then (put_then k.put_kind_run-place.ensures g.put_gains-place.ensures) s.put_spectrum-place.ensures in
+    let u = put_then (put_then t (rw (to_z-of_z (interp_fits z)) at i.put_one_run-place.ensures)) p.put_pitch_run-place.ensures in
+    put_then u (rw (to_z-of_z (seed_fits z)) at o.put_one_run.ensures)
 
 pub put_indices_run_spec : {M : Type 1} → statement M
 put_indices_run_spec =

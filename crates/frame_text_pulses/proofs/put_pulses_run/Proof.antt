@@ -16,7 +16,7 @@ returns c =
     let b = c.before.before.before.before.before.before.before in
     let l = b.before.before.before.before in
     let n = l.before.before.before.before.before.args.blocks in
-    put_as (put_then (put_then l.put-line-run.ensures b.put-blocks.ensures) c.before.before.put-word-run.ensures)
+    put_as (put_then (put_then l.put_line_run-place.ensures b.put_blocks-place.ensures) c.before.before.put_word_run.ensures)
     (rw (to_z_pos w16 {n = n} (omega arith)))
     (omega arith)
 

@@ -12,37 +12,37 @@ use Rattle.icdf.proofs.Entries.{left, left_first, left_some}
 use Rattle.icdf.proofs.falls.Statement.{statement}
 use Rattle.icdf.proofs.falls.Tie as tie
 
-abbrev invariant_loop : tie.invariant_loop
+abbrev invariant_loop : tie.invariant-loop-k
 invariant_loop t top ok₀ k₀ ok k = (ok && left (get_or t (k - 1) 0) (drop k t) ≡ left top t) × (1 ≤ k) × (k ≤ length t)
 
-abbrev decreases_loop : tie.decreases_loop
+abbrev decreases_loop : tie.decreases-loop-k
 decreases_loop t top ok₀ k₀ ok k = length t - k
 
-shared_slice_read_ok : tie.Need-shared-slice-read-ok invariant_loop decreases_loop
+shared_slice_read_ok : tie.Need-bounds-table-0 invariant_loop decreases_loop
 shared_slice_read_ok c = omega arith
 
-cast_ok : tie.Need-overflow-cast-ok invariant_loop decreases_loop
-cast_ok c = omega (arith, c.shared-slice-known.given 0)
+cast_ok : tie.Need-overflow_cast-ok invariant_loop decreases_loop
+cast_ok c = omega (arith, c.shared_slice_known-1.given 0)
 
-loop_holds : tie.Need-loop-init invariant_loop decreases_loop
+loop_holds : tie.Need-loop-k-init invariant_loop decreases_loop
 loop_holds c = (left_first c.before.args.top c.before.args.table.now c.before.requires, omega arith, c.before.requires)
 
-sub_j : tie.Need-overflow-sub-j invariant_loop decreases_loop
+sub_j : tie.Need-overflow_sub-j invariant_loop decreases_loop
 sub_j c = omega arith
 
-shared_slice_read_ok_2 : tie.Need-shared-slice-read-ok-2 invariant_loop decreases_loop
+shared_slice_read_ok_2 : tie.Need-bounds-table-k invariant_loop decreases_loop
 shared_slice_read_ok_2 c = omega arith
 
-shared_slice_read_ok_3 : tie.Need-shared-slice-read-ok-3 invariant_loop decreases_loop
+shared_slice_read_ok_3 : tie.Need-bounds-table-j invariant_loop decreases_loop
 shared_slice_read_ok_3 c = omega arith
 
-add_k : tie.Need-overflow-add-k invariant_loop decreases_loop
+add_k : tie.Need-overflow_add-k invariant_loop decreases_loop
 add_k c = omega arith
 
-loop_less : tie.Need-loop-smaller invariant_loop decreases_loop
+loop_less : tie.Need-loop-k-smaller invariant_loop decreases_loop
 loop_less c = omega arith
 
-loop_again : tie.Need-loop-preserved invariant_loop decreases_loop
+loop_again : tie.Need-loop-k-preserved invariant_loop decreases_loop
 loop_again c =
     let l = c.before.before.before.loop in
     let t = c.before.before.before.before.before.args.table.now in
@@ -51,16 +51,16 @@ loop_again c =
     let e : l.k + 1 - 1 ≡ l.k = omega arith in (
       rw (e, add-one)
           (and_assoc l.ok (leb x above) (left x (drop (suc l.k) t))
-          ∙ ap (λ (r : List ℕ). l.ok && left above r) (sym (drop-cons t l.k 0 c.before.before.loop-test.true))
+          ∙ ap (λ (r : List ℕ). l.ok && left above r) (sym (drop-cons t l.k 0 c.before.before.loop-k-test.true))
           ∙ l.invariant.0),
       omega arith,
       omega arith,
     )
 
-sub_last : tie.Need-overflow-sub-last invariant_loop decreases_loop
+sub_last : tie.Need-overflow_sub-last invariant_loop decreases_loop
 sub_last c = omega arith
 
-shared_slice_read_result : tie.Need-shared-slice-read-result invariant_loop decreases_loop
+shared_slice_read_result : tie.Need-bounds-table-last invariant_loop decreases_loop
 shared_slice_read_result c = omega arith
 
 returns : tie.Need-returns invariant_loop decreases_loop

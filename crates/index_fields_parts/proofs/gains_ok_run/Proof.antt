@@ -18,13 +18,13 @@ use Rattle.index_fields_parts.proofs.gains_ok_run.Tie as tie
 size : (z : tie.Start) → length z.args.x.gains ≡ 4
 size z = search (rules, z.good.0)
 
-sub_all_in_range : tie.Need-sub-all-in-range
+sub_all_in_range : tie.Need-slice_bounds-all_in_range-count
 sub_all_in_range c = omega (arith, subframes_least c.before.before.before.pre)
 
-part_all_in_range_start : tie.Need-part-all-in-range-start
+part_all_in_range_start : tie.Need-slice_bounds-all_in_range-start
 part_all_in_range_start c = omega (arith, subframes_least c.before.before.before.before.pre)
 
-part_all_in_range_end : tie.Need-part-all-in-range-end
+part_all_in_range_end : tie.Need-slice_bounds-all_in_range-end
 part_all_in_range_end c = omega (arith, size c.before.before.before.before, subframes_most c.before.before.before.before.pre)
 
 returns : tie.Need-returns
@@ -32,9 +32,9 @@ returns c =
     let z = c.before.before.before.before.before.before in
     let l = z.args.x.gains in
     let m = c.before.before.before.first_most_lem in
-    let f : SFits w8 (get_or l 0 (pos 0)) = sfits_of c.before.before.before.before.first.given in
+    let f : SFits w8 (get_or l 0 (pos 0)) = sfits_of c.before.before.before.before.first-1.given in
     let g : SFits w8 m.result = search rules in
-    let e : c.all-in-range.result ≡ every (in_range (pos 0) (pos 40)) (take (z.args.subframes - 1) (drop 1 l)) = c.all-in-range.ensures in
+    let e : c.all_in_range.result ≡ every (in_range (pos 0) (pos 40)) (take (z.args.subframes - 1) (drop 1 l)) = c.all_in_range.ensures in
     rw (to_z-of_z f, to_z-of_z g, m.ensures, e) (gains_tested z.args.mode z.args.subframes z.args.x z.pre (size z))
 
 pub gains_ok_run_spec : {M : Type 1} → statement M

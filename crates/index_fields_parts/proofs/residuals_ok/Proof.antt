@@ -24,25 +24,25 @@ ordered : (z : tie.Start) (t : Bool) (n : ℕ) → (book_of z.args.khz).order �
     → Decides t ((k : ℕ) → 1 ≤ k → k ≤ (book_of z.args.khz).order → nat_abs (get_or z.args.x.nlsf k (pos 0)) ≤ 10)
 ordered z t n e = subst (λ (m : ℕ). Decides t ((k : ℕ) → 1 ≤ k → k ≤ m → nat_abs (get_or z.args.x.nlsf k (pos 0)) ≤ 10)) (sym e)
 
-part_all_in_range_end : tie.Need-slice-bounds-all-in-range-end
+part_all_in_range_end : tie.Need-slice_bounds-all_in_range-end
 part_all_in_range_end c = omega (arith, size c.before.before.before)
 
-returns : tie.Need-returns
+returns : tie.Need-returns-then-khz-eq16
 returns c =
     let z = c.before.before.before.before.before in
     let e : (book_of z.args.khz).order ≡ 16
-    = ap (λ (t : Bool). (cond t wide_book narrow_book).order) (eq-eqb _ _ c.before.before.before.if1.true) ∙ wide_shaped.order in
-    ordered z _ 16 e (rw c.all-in-range.ensures (residuals_tested 16 z.args.x.nlsf (omega (arith, size z))))
+    = ap (λ (t : Bool). (cond t wide_book narrow_book).order) (eq-eqb _ _ c.before.before.before.if-khz-eq16.true) ∙ wide_shaped.order in
+    ordered z _ 16 e (rw c.all_in_range.ensures (residuals_tested 16 z.args.x.nlsf (omega (arith, size z))))
 
-part_all_in_range_end_2 : tie.Need-slice-bounds-all-in-range-end-2
+part_all_in_range_end_2 : tie.Need-slice_bounds-all_in_range-end-2
 part_all_in_range_end_2 c = omega (arith, size c.before.before.before)
 
-returns_2 : tie.Need-returns-2
+returns_2 : tie.Need-returns
 returns_2 c =
     let z = c.before.before.before.before.before in
     let e : (book_of z.args.khz).order ≡ 10
-    = ap (λ (t : Bool). (cond t wide_book narrow_book).order) (ne_eqb _ _ c.before.before.before.if1.false) ∙ narrow_shaped.order in
-    ordered z _ 10 e (rw c.all-in-range2.ensures (residuals_tested 10 z.args.x.nlsf (omega (arith, size z))))
+    = ap (λ (t : Bool). (cond t wide_book narrow_book).order) (ne_eqb _ _ c.before.before.before.if-khz-eq16.false) ∙ narrow_shaped.order in
+    ordered z _ 10 e (rw c.all_in_range-2.ensures (residuals_tested 10 z.args.x.nlsf (omega (arith, size z))))
 
 pub residuals_ok_spec : {M : Type 1} → statement M
 residuals_ok_spec =

@@ -13,10 +13,10 @@ use Rattle.index_fields_parts.proofs.spectrum_ok.Tie as tie
 returns : tie.Need-returns
 returns c =
     let first = get_or c.before.before.args.t1.nlsf 0 (pos 0) in
-    let f : SFits w8 first = sfits_of c.before.first.given in
+    let f : SFits w8 first = sfits_of c.before.first-1.given in
     rw (to_z-of_z f)
     (decides_as (λ p. record { index = p.0; residuals = p.1 }) (λ w. (w.index, w.residuals))
-    (decides_both (upto_tested 31 first) (λ p. c.residuals-ok.ensures)))
+    (decides_both (upto_tested 31 first) (λ p. c.residuals_ok.ensures)))
 
 pub spectrum_ok_spec : {M : Type 1} → statement M
 spectrum_ok_spec = tie.close (tie.spec (λ c. search rules) (λ c κs. search rules) returns)

@@ -22,18 +22,18 @@ size_bounds khz subframes =
     (λ e. chosen (λ (n : ℕ). (1 ≤ n) × (n ≤ 34)) (eqb subframes 2) (λ f. (omega arith, omega arith)) (λ f. (omega arith, omega arith)))
     (λ e. chosen (λ (n : ℕ). (1 ≤ n) × (n ≤ 34)) (eqb subframes 2) (λ f. (omega arith, omega arith)) (λ f. (omega arith, omega arith)))
 
-sub_most : tie.Need-overflow-sub-most
-sub_most c = omega (arith, c.contour_size_lem.ensures, size_bounds c.before.args.khz c.before.args.subframes)
+sub_most : tie.Need-overflow_sub-most
+sub_most c = omega (arith, c.contour_size.ensures, size_bounds c.before.args.khz c.before.args.subframes)
 
-cast_most : tie.Need-overflow-cast-most
-cast_most c = omega (arith, c.contour_size_lem.ensures, size_bounds c.before.args.khz c.before.args.subframes)
+cast_most : tie.Need-overflow_cast-most
+cast_most c = omega (arith, c.contour_size.ensures, size_bounds c.before.args.khz c.before.args.subframes)
 
 returns : tie.Need-returns
 returns c =
     let z = c.before in
     let m = contour_size z.args.khz z.args.subframes - 1 in
     let e : to_z w8 m ≡ pos m = to_z_pos w8 {n = m} (omega (arith, size_bounds z.args.khz z.args.subframes)) in
-    rw (to_z-of_z z.ranges.contour, c.contour_size_lem.ensures, e) (upto_tested m z.args.contour)
+    rw (to_z-of_z z.ranges.contour, c.contour_size.ensures, e) (upto_tested m z.args.contour)
 
 pub contour_ok_spec : {M : Type 1} → statement M
 contour_ok_spec = tie.close (tie.spec (λ c κs. search rules) sub_most cast_most returns)

@@ -7,19 +7,19 @@ use Rattle.silk.proofs.IndexParts.{upto_bits}
 use Rattle.index_fields_pitch.proofs.filter_most.Statement.{statement}
 use Rattle.index_fields_pitch.proofs.filter_most.Tie as tie
 
-returns : tie.Need-returns
+returns : tie.Need-returns-then-period-eq0
 returns c u =
-    let e : nat_abs c.before.args.period ≡ 0 = sym (upto_bits w8 u) ∙ c.if1.true in
+    let e : nat_abs c.before.args.period ≡ 0 = sym (upto_bits w8 u) ∙ c.if-period-eq0.true in
     rw e
 
-returns_2 : tie.Need-returns-2
+returns_2 : tie.Need-returns-then-period-eq1
 returns_2 c u =
-    let e : nat_abs c.before.before.args.period ≡ 1 = sym (upto_bits w8 u) ∙ c.if2.true in
+    let e : nat_abs c.before.before.args.period ≡ 1 = sym (upto_bits w8 u) ∙ c.if-period-eq1.true in
     rw e
 
-returns_3 : tie.Need-returns-3
+returns_3 : tie.Need-returns-else-period-eq1
 returns_3 c u =
-    let e : nat_abs c.before.before.args.period ≡ 2 = omega (arith, u.most, upto_bits w8 u, c.if2.false, c.before.if1.false) in
+    let e : nat_abs c.before.before.args.period ≡ 2 = omega (arith, u.most, upto_bits w8 u, c.if-period-eq1.false, c.before.if-period-eq0.false) in
     rw e
 
 pub filter_most_spec : {M : Type 1} → statement M

@@ -18,7 +18,7 @@ use Rattle.index_fields_pitch.proofs.filters_ok.Tie as tie
 size : (z : tie.Start) → length z.args.t1 ≡ 4
 size z = search (rules, z.good.0)
 
-part_all_in_range_end : tie.Need-part-all-in-range-end
+part_all_in_range_end : tie.Need-slice_bounds-all_in_range-end
 part_all_in_range_end c = omega (arith, size c.before.before, subframes_most c.before.before.pre)
 
 returns : tie.Need-returns
@@ -26,8 +26,8 @@ returns c =
     let z = c.before.before.before.before in
     let m = c.before.before.before.filter-most in
     let g : SFits w8 m.result = search rules in
-    let e : c.all-in-range.result ≡ every (in_range (pos 0) m.result) (take (z.args.subframes - 0) (drop 0 z.args.t1)) =
-    rw (to_z-of_z g) at c.all-in-range.ensures in
+    let e : c.all_in_range.result ≡ every (in_range (pos 0) m.result) (take (z.args.subframes - 0) (drop 0 z.args.t1)) =
+    rw (to_z-of_z g) at c.all_in_range.ensures in
     rw (to_z-of_z z.fits.period, e)
     (filters_tested z.args.subframes z.args.t1 z.args.period m.result (omega (arith, size z, subframes_most z.pre))
     (rw (to_z-of_z z.fits.period) at m.ensures))

@@ -18,13 +18,13 @@ rate_bounds eight = (omega arith, omega arith)
 rate_bounds twelve = (omega arith, omega arith)
 rate_bounds sixteen = (omega arith, omega arith)
 
-mul_most : tie.Need-mul-most
+mul_most : tie.Need-overflow_mul-most
 mul_most c = omega (arith, rate_bounds c.pre)
 
-sub_most : tie.Need-sub-most
+sub_most : tie.Need-overflow_sub-most
 sub_most c = omega (arith, rate_bounds c.pre)
 
-cast_most : tie.Need-cast-most
+cast_most : tie.Need-overflow_cast-most
 cast_most c = omega (arith, rate_bounds c.pre)
 
 returns : tie.Need-returns

@@ -31,19 +31,19 @@ record Going (b : List ℕ) (p n : ℕ) (x₀ : Indices) (d₀ : Dec) (x : Indic
   pub least : d₀.total ≤ d.total
   pub most : d.total ≤ d₀.total + 16 * k
 
-abbrev invariant_loop : tie.invariant_loop
+abbrev invariant_loop : tie.invariant-loop-k
 invariant_loop packet rows p n size start end out₀ r₀ k₀ out r k = Going packet p n out₀ r₀ out r k
 
-abbrev decreases_loop : tie.decreases_loop
+abbrev decreases_loop : tie.decreases-loop-k
 decreases_loop packet rows p n size start end out₀ r₀ k₀ out r k = n - k
 
-add_start : tie.Need-overflow-add-start invariant_loop decreases_loop
+add_start : tie.Need-overflow_add-start invariant_loop decreases_loop
 add_start c = let z = c.before.before in omega (arith, size_most z.args.p z.requires.1.0)
 
-add_end : tie.Need-overflow-add-end invariant_loop decreases_loop
+add_end : tie.Need-overflow_add-end invariant_loop decreases_loop
 add_end c = let z = c.before.before in omega (arith, size_most z.args.p z.requires.1.0)
 
-loop_holds : tie.Need-loop-init invariant_loop decreases_loop
+loop_holds : tie.Need-loop-k-init invariant_loop decreases_loop
 loop_holds c =
     let z = c.before.before in
     record {
@@ -56,26 +56,26 @@ loop_holds c =
       most = omega arith;
     }
 
-part_ec_dec_icdf8_run_end : tie.Need-slice-bounds-ec-dec-icdf8-run-end invariant_loop decreases_loop
+part_ec_dec_icdf8_run_end : tie.Need-slice_bounds-ec_dec_icdf8_run-end invariant_loop decreases_loop
 part_ec_dec_icdf8_run_end c =
     let z = c.before.before.before.before in
     omega (arith, size_most z.args.p z.requires.1.0, z.requires.0.rows.size)
 
-ec_dec_icdf8_run_requires : tie.Need-ec-dec-icdf8-run-requires invariant_loop decreases_loop
+ec_dec_icdf8_run_requires : tie.Need-ec_dec_icdf8_run-a-requires invariant_loop decreases_loop
 ec_dec_icdf8_run_requires c κs =
     let z = c.before.before.before.before.before in
-    let i = c.before.before.loop.invariant in
+    let i = c.before.before.loop-k.invariant in
     let h = z.requires.1.0 in
     (i.core, (omega (arith, z.requires.0.few), (filter_row z.requires.0.rows z.args.p _ h (size_is z.args.p h)).good))
 
-cast_out : tie.Need-overflow-cast-out invariant_loop decreases_loop
+cast_out : tie.Need-overflow_cast-out invariant_loop decreases_loop
 cast_out c =
     let z = c.before.before.before.before.before.before.before in
     let h = z.requires.1.0 in
     let t = filter_row z.requires.0.rows z.args.p _ h (size_is z.args.p h) in
-    omega (arith, c.before.ec-dec-icdf8-run.ensures.inside, t.size, size_most z.args.p h)
+    omega (arith, c.before.ec_dec_icdf8_run-a.ensures.inside, t.size, size_most z.args.p h)
 
-loop_again : tie.Need-loop-preserved invariant_loop decreases_loop
+loop_again : tie.Need-loop-k-preserved invariant_loop decreases_loop
 loop_again c =
     let z = c.before.before.before.before.before.before.before.before in
     let l = c.before.before.before.before.before.loop in
@@ -96,7 +96,7 @@ loop_again c =
 
 returns : tie.Need-returns invariant_loop decreases_loop
 returns c =
-    let i = c.before.loop.invariant in
+    let i = c.before.loop-k.invariant in
     record { is = sym i.rest ∙ filters_end _ _ _ _ _ _ (omega arith); core = i.core; least = i.least; most = omega arith }
 
 pub filter_indices_spec : {M : Type 1} → statement M

@@ -12,12 +12,12 @@ use Rattle.silk.specs.IndexSyntax.{period}
 use Rattle.index_filters_read.proofs.period_index_run.Statement.{statement}
 use Rattle.index_filters_read.proofs.period_index_run.Tie as tie
 
-ec_dec_icdf8_run_requires : tie.Need-ec-dec-icdf8-run-requires
+ec_dec_icdf8_run_requires : tie.Need-ec_dec_icdf8_run-a-requires
 ec_dec_icdf8_run_requires c κs =
     let z = c.before.before.before in
     (z.requires.0.core, (omega arith, (period_row z.requires.0.rows).good))
 
-filter_indices_requires : tie.Need-filter-indices-requires
+filter_indices_requires : tie.Need-filter_indices-requires
 filter_indices_requires c κs =
     let z = c.before.before.before.before.before in
     let a = c.before.ec-dec-icdf8-run in
@@ -33,7 +33,7 @@ returns c =
     let a = c.before.before.ec-dec-icdf8-run in
     let t = period_row z.requires.0.rows in
     let e : to_z w8 a.result.value ≡ pos a.result.value = to_z_pos w8 {n = a.result.value} (omega (arith, a.ensures.inside, t.size)) in
-    ran_ask t.is a.ensures (rw e at c.filter-indices.ensures)
+    ran_ask t.is a.ensures (rw e at c.filter_indices.ensures)
 
 pub period_index_run_spec : {M : Type 1} → statement M
 period_index_run_spec =

@@ -31,19 +31,19 @@ record Going (o : Out) (x : Indices) (p n : ℕ) (q : Out) (k : ℕ) : Type 0 wh
 filter_is : (p : ℕ) → p < 3 → {z : ℤ} → Upto (8 * 2 ^ p - 1) z → to_z w8 (of_z w8 z) ≡ z
 filter_is p h {z} u = abs_kept w8 z u.most (omega (arith, size_is p h, size_most p h))
 
-abbrev invariant_loop : tie.invariant_loop
+abbrev invariant_loop : tie.invariant-loop-k
 invariant_loop buf₀ rows p n x size start end q₀ k₀ buf q k = Going (out buf₀ q₀) x p n (out buf q) k
 
-abbrev decreases_loop : tie.decreases_loop
+abbrev decreases_loop : tie.decreases-loop-k
 decreases_loop buf₀ rows p n x size start end q₀ k₀ buf q k = n - k
 
-add_start : tie.Need-overflow-add-start invariant_loop decreases_loop
+add_start : tie.Need-overflow_add-start invariant_loop decreases_loop
 add_start c = let z = c.before.before in omega (arith, size_most z.args.p z.requires.1.0)
 
-add_end : tie.Need-overflow-add-end invariant_loop decreases_loop
+add_end : tie.Need-overflow_add-end invariant_loop decreases_loop
 add_end c = let z = c.before.before in omega (arith, size_most z.args.p z.requires.1.0)
 
-loop_holds : tie.Need-loop-init invariant_loop decreases_loop
+loop_holds : tie.Need-loop-k-init invariant_loop decreases_loop
 loop_holds c =
     let z = c.before.before in
     record {
@@ -53,42 +53,42 @@ loop_holds c =
       kept = refl;
     }
 
-element_copy_out_ec_enc_icdf8_run : tie.Need-element-copy-out-ec-enc-icdf8-run invariant_loop decreases_loop
+element_copy_out_ec_enc_icdf8_run : tie.Need-bounds-x-k invariant_loop decreases_loop
 element_copy_out_ec_enc_icdf8_run c =
     let z = c.before.before.before.before.before in
     omega (arith, subframes_most z.requires.1.1)
 
-cast_ec_enc_icdf8_run : tie.Need-overflow-cast-ec-enc-icdf8-run invariant_loop decreases_loop
+cast_ec_enc_icdf8_run : tie.Need-overflow_cast-x invariant_loop decreases_loop
 cast_ec_enc_icdf8_run c =
     let z = c.before.before.before.before.before.before in
     let l = c.before.before.before.loop in
-    let u = z.requires.1.2 l.k c.before.before.loop-test.true in
+    let u = z.requires.1.2 l.k c.before.before.loop-k-test.true in
     let h = z.requires.1.0 in
     rw (filter_is z.args.p h u)
     (upto_fits (get_or z.args.t4.ltp l.k (pos 0)) (omega (arith, size_is z.args.p h, size_most z.args.p h)) u)
 
-part_ec_enc_icdf8_run_end : tie.Need-slice-bounds-ec-enc-icdf8-run-end invariant_loop decreases_loop
+part_ec_enc_icdf8_run_end : tie.Need-slice_bounds-ec_enc_icdf8_run-end invariant_loop decreases_loop
 part_ec_enc_icdf8_run_end c =
     let z = c.before.before.before.before.before.before in
     omega (arith, size_most z.args.p z.requires.1.0, z.requires.0.rows.size)
 
-ec_enc_icdf8_run_requires : tie.Need-ec-enc-icdf8-run-requires invariant_loop decreases_loop
+ec_enc_icdf8_run_requires : tie.Need-ec_enc_icdf8_run-q-requires invariant_loop decreases_loop
 ec_enc_icdf8_run_requires c κs =
     let z = c.before.before.before.before.before.before.before in
     let l = c.before.before.before.before.loop in
-    let u = z.requires.1.2 l.k c.before.before.before.loop-test.true in
+    let u = z.requires.1.2 l.k c.before.before.before.loop-k-test.true in
     let h = z.requires.1.0 in
     let e = size_is z.args.p h in
     let t = filter_row z.requires.0.rows z.args.p _ h e in
     let few : l.q.total ≤ 2 ^ 30 = omega (arith, z.requires.0.few, l.invariant.told.most, l.invariant.to, subframes_most z.requires.1.1) in
     rw (filter_is z.args.p h u) (l.invariant.told.core, (few, (t.good, t.writable _ (omega (arith, u.most, e, t.size, t.good.some)))))
 
-loop_again : tie.Need-loop-preserved invariant_loop decreases_loop
+loop_again : tie.Need-loop-k-preserved invariant_loop decreases_loop
 loop_again c =
     let z = c.before.before.before.before.before.before.before.before.before.before in
     let l = c.before.before.before.before.before.before.before.loop in
     let a = c.before.before.ec-enc-icdf8-run in
-    let i = c.before.before.before.before.before.before.loop-test.true in
+    let i = c.before.before.before.before.before.before.loop-k-test.true in
     let u = z.requires.1.2 l.k i in
     let h = z.requires.1.0 in
     let t = filter_row z.requires.0.rows z.args.p _ h (size_is z.args.p h) in
@@ -100,15 +100,15 @@ loop_again c =
       kept = a.auto.0 ∙ l.invariant.kept;
     }
 
-same_length : tie.Need-same-length invariant_loop decreases_loop
-same_length c = c.before.loop.invariant.kept
+same_length : tie.Need-shape_of-buf invariant_loop decreases_loop
+same_length c = c.before.loop-k.invariant.kept
 
 returns : tie.Need-returns invariant_loop decreases_loop
 returns c =
     let z = c.before.before.before.before in
     let l = c.before.loop in
     told_within (omega (arith, l.invariant.to, subframes_most z.requires.1.1))
-    (midway_end l.invariant.told (filters_told_end z.args.n l.k z.args.t4 z.args.p c.loop-test.false))
+    (midway_end l.invariant.told (filters_told_end z.args.n l.k z.args.t4 z.args.p c.loop-k-test.false))
 
 pub filters_tell_spec : {M : Type 1} → statement M
 filters_tell_spec =

@@ -19,18 +19,18 @@ use Rattle.index_filters_write.proofs.period_tell_run.Tie as tie
 period_is : (z : tie.Start) → to_z w8 (of_z w8 z.args.x.period) ≡ z.args.x.period
 period_is z = abs_kept w8 _ z.requires.1.0.1.most (omega arith)
 
-cast_p : tie.Need-overflow-cast-p
+cast_p : tie.Need-overflow_cast-p
 cast_p c =
     let z = c.before.before.before.before in
     rw (period_is z) (upto_fits z.args.x.period (omega arith) z.requires.1.0.1)
 
-ec_enc_icdf8_run_requires : tie.Need-ec-enc-icdf8-run-requires
+ec_enc_icdf8_run_requires : tie.Need-ec_enc_icdf8_run-q-requires
 ec_enc_icdf8_run_requires c κs =
     let z = c.before.before.before.before.before.before in
     let t = period_row z.requires.0.rows in
     rw (period_is z) (z.requires.0.core, (omega (arith, z.requires.0.few), (t.good, t.writable _ (omega (arith, z.requires.1.0.1.most)))))
 
-filters_tell_requires : tie.Need-filters-tell-requires
+filters_tell_requires : tie.Need-filters_tell-requires
 filters_tell_requires c κs =
     let z = c.before.before.before.before.before.before.before.before.before.before in
     let a = c.before.before.before.ec-enc-icdf8-run in

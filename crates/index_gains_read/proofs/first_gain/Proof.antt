@@ -14,33 +14,33 @@ use Rattle.silk.specs.IndexSyntax.{first_gain}
 use Rattle.index_gains_read.proofs.first_gain.Statement.{statement}
 use Rattle.index_gains_read.proofs.first_gain.Tie as tie
 
-ec_dec_icdf8_run_requires : tie.Need-ec-dec-icdf8-run-requires
+ec_dec_icdf8_run_requires : tie.Need-ec_dec_icdf8_run-a-requires
 ec_dec_icdf8_run_requires c κs =
     let z = c.before.before.before.before in
     (z.requires.0.core, (omega arith, (delta_gain_row z.requires.0.rows).good))
 
-returns : tie.Need-returns
+returns : tie.Need-returns-then-mode-eq2
 unfolding first_gain
 returns c =
     let z = c.before.before.before.before.before.before.before in
     let a = c.before.before.ec-dec-icdf8-run in
     let t = delta_gain_row z.requires.0.rows in
     let e : to_z w8 a.result.value ≡ pos a.result.value = to_z_pos w8 {n = a.result.value} (omega (arith, a.ensures.inside, t.size)) in
-    rw (eq-eqb _ 2 c.before.before.before.before.if1.true, e)
+    rw (eq-eqb _ 2 c.before.before.before.before.if-mode-eq2.true, e)
     (ran_within {n = 16} {m = 32} (omega arith) (ran_ask t.is a.ensures (ran_done a.ensures.core)))
 
-ec_dec_icdf8_run_requires_2 : tie.Need-ec-dec-icdf8-run-requires-2
+ec_dec_icdf8_run_requires_2 : tie.Need-ec_dec_icdf8_run-h-requires
 ec_dec_icdf8_run_requires_2 c κs =
     let z = c.before.before.before.before in
     (z.requires.0.core, (omega arith, (gain_row z.requires.0.rows z.args.signal z.requires.1).good))
 
-ec_dec_icdf8_run_requires_3 : tie.Need-ec-dec-icdf8-run-requires-3
+ec_dec_icdf8_run_requires_3 : tie.Need-ec_dec_icdf8_run-l-requires
 ec_dec_icdf8_run_requires_3 c κs =
     let z = c.before.before.before.before.before.before in
     let h = c.before.ec-dec-icdf8-run2 in
     (h.ensures.core, (omega (arith, h.ensures.most), (gain_low_row z.requires.0.rows).good))
 
-returns_2 : tie.Need-returns-2
+returns_2 : tie.Need-returns
 unfolding first_gain
 returns_2 c =
     let z = c.before.before.before.before.before.before.before.before.before.before in
@@ -50,7 +50,7 @@ returns_2 c =
     let u = gain_low_row z.requires.0.rows in
     let v = h.result.value * 8 + l.result.value in
     let e : to_z w8 v ≡ pos v = to_z_pos w8 {n = v} (omega (arith, h.ensures.inside, t.size, l.ensures.inside, u.size)) in
-    rw (ne_eqb _ 2 c.before.before.before.before.before.before.before.if1.false, e)
+    rw (ne_eqb _ 2 c.before.before.before.before.before.before.before.if-mode-eq2.false, e)
     (ran_ask t.is h.ensures (ran_ask u.is l.ensures (ran_done l.ensures.core)))
 
 pub first_gain_spec : {M : Type 1} → statement M

@@ -30,13 +30,13 @@ record Going (b : List ℕ) (n : ℕ) (x₀ : Indices) (d₀ : Dec) (x : Indices
   pub least : d₀.total ≤ d.total
   pub most : d.total + 16 ≤ d₀.total + 16 * k
 
-abbrev invariant_loop : tie.invariant_loop
+abbrev invariant_loop : tie.invariant-loop-k
 invariant_loop packet rows n out₀ r₀ k₀ out r k = Going packet n out₀ r₀ out r k
 
-abbrev decreases_loop : tie.decreases_loop
+abbrev decreases_loop : tie.decreases-loop-k
 decreases_loop packet rows n out₀ r₀ k₀ out r k = n - k
 
-loop_holds : tie.Need-loop-init invariant_loop decreases_loop
+loop_holds : tie.Need-loop-k-init invariant_loop decreases_loop
 loop_holds c =
     let z = c.before.before in
     record {
@@ -50,18 +50,18 @@ loop_holds c =
       most = omega arith;
     }
 
-ec_dec_icdf8_run_requires : tie.Need-ec-dec-icdf8-run-requires invariant_loop decreases_loop
+ec_dec_icdf8_run_requires : tie.Need-ec_dec_icdf8_run-a-requires invariant_loop decreases_loop
 ec_dec_icdf8_run_requires c κs =
     let z = c.before.before.before.before.before in
-    let i = c.before.before.loop.invariant in
+    let i = c.before.before.loop-k.invariant in
     (i.core, (omega (arith, z.requires.0.few), (delta_gain_row z.requires.0.rows).good))
 
-cast_out : tie.Need-overflow-cast-out invariant_loop decreases_loop
+cast_out : tie.Need-overflow_cast-out invariant_loop decreases_loop
 cast_out c =
     let z = c.before.before.before.before.before.before.before in
-    omega (arith, c.before.ec-dec-icdf8-run.ensures.inside, (delta_gain_row z.requires.0.rows).size)
+    omega (arith, c.before.ec_dec_icdf8_run-a.ensures.inside, (delta_gain_row z.requires.0.rows).size)
 
-loop_again : tie.Need-loop-preserved invariant_loop decreases_loop
+loop_again : tie.Need-loop-k-preserved invariant_loop decreases_loop
 loop_again c =
     let z = c.before.before.before.before.before.before.before.before in
     let l = c.before.before.before.before.before.loop in
@@ -82,7 +82,7 @@ loop_again c =
 
 returns : tie.Need-returns invariant_loop decreases_loop
 returns c =
-    let i = c.before.loop.invariant in
+    let i = c.before.loop-k.invariant in
     record { is = sym i.rest ∙ gains_end _ _ _ _ _ (omega arith); core = i.core; least = i.least; most = omega arith }
 
 pub more_gains_spec : {M : Type 1} → statement M

@@ -25,49 +25,49 @@ gain_upto z = record { least = z.requires.1.1.least; most = omega (arith, z.requ
 gain_is : (z : tie.Start) → to_z w8 (of_z w8 (gain z)) ≡ gain z
 gain_is z = abs_kept w8 (gain z) (gain_upto z).most (omega arith)
 
-cast_gain : tie.Need-overflow-cast-gain
+cast_gain : tie.Need-overflow_cast-gain
 cast_gain c =
     let z = c.before.before.before in
     rw (gain_is z) (upto_fits (gain z) (omega arith) (gain_upto z))
 
-ec_enc_icdf8_run_requires : tie.Need-ec-enc-icdf8-run-requires
+ec_enc_icdf8_run_requires : tie.Need-ec_enc_icdf8_run-requires
 ec_enc_icdf8_run_requires c κs =
     let z = c.before.before.before.before.before.before in
     let t = delta_gain_row z.requires.0.rows in
-    let l : nat_abs (gain z) ≤ 40 = rw (eq-eqb _ _ c.before.before.if1.true) at z.requires.1.1.most in
+    let l : nat_abs (gain z) ≤ 40 = rw (eq-eqb _ _ c.before.before.if-mode-eq2.true) at z.requires.1.1.most in
     rw (gain_is z) (z.requires.0.core, (omega (arith, z.requires.0.few), (t.good, t.writable _ (omega arith))))
 
-returns : tie.Need-returns
+returns : tie.Need-returns-then-mode-eq2
 unfolding first_gain
 returns c =
     let z = c.before.before.before.before.before.before.before.before.before in
     let a = c.before.before.ec-enc-icdf8-run in
-    rw (eq-eqb _ _ c.before.before.before.before.before.if1.true)
+    rw (eq-eqb _ _ c.before.before.before.before.before.if-mode-eq2.true)
     (told_within {n = 16} {m = 32} (omega arith)
     (told_ask (delta_gain_row z.requires.0.rows).is (ap nat_abs (gain_is z)) a.ensures (told_done a.ensures.core)))
 
-ec_enc_icdf8_run_requires_2 : tie.Need-ec-enc-icdf8-run-requires-2
+ec_enc_icdf8_run_requires_2 : tie.Need-ec_enc_icdf8_run-h-requires
 ec_enc_icdf8_run_requires_2 c κs =
     let z = c.before.before.before.before.before.before in
     let t = gain_row z.requires.0.rows z.args.signal z.requires.1.0 in
-    let l : nat_abs (gain z) ≤ 63 = rw (ne_eqb _ _ c.before.before.if1.false) at z.requires.1.1.most in
+    let l : nat_abs (gain z) ≤ 63 = rw (ne_eqb _ _ c.before.before.if-mode-eq2.false) at z.requires.1.1.most in
     rw (gain_is z) (z.requires.0.core, (omega (arith, z.requires.0.few), (t.good, t.writable _ (omega arith))))
 
-ec_enc_icdf8_run_requires_3 : tie.Need-ec-enc-icdf8-run-requires-3
+ec_enc_icdf8_run_requires_3 : tie.Need-ec_enc_icdf8_run-requires-2
 ec_enc_icdf8_run_requires_3 c κs =
     let z = c.before.before.before.before.before.before.before.before.before.before.before in
     let h = c.before.before.before.before.ec-enc-icdf8-run2 in
     let t = gain_low_row z.requires.0.rows in
     (h.ensures.core, (omega (arith, z.requires.0.few, h.ensures.most), (t.good, t.writable _ (omega arith))))
 
-returns_2 : tie.Need-returns-2
+returns_2 : tie.Need-returns
 unfolding first_gain
 returns_2 c =
     let z = c.before.before.before.before.before.before.before.before.before.before.before.before.before.before in
     let h = c.before.before.before.before.before.before.before.ec-enc-icdf8-run2 in
     let l = c.before.before.ec-enc-icdf8-run3 in
     let e = ap nat_abs (gain_is z) in
-    rw (ne_eqb _ _ c.before.before.before.before.before.before.before.before.before.before.if1.false)
+    rw (ne_eqb _ _ c.before.before.before.before.before.before.before.before.before.before.if-mode-eq2.false)
     (told_ask (gain_row z.requires.0.rows z.args.signal z.requires.1.0).is (ap (λ (g : ℕ). g / 8) e) h.ensures
     (told_ask (gain_low_row z.requires.0.rows).is (ap (λ (g : ℕ). g % 8) e) l.ensures (told_done l.ensures.core)))
 

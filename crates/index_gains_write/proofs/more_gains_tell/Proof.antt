@@ -30,13 +30,13 @@ record Going (o : Out) (x : Indices) (n : ℕ) (p : Out) (k : ℕ) : Type 0 wher
 gain_is : {z : ℤ} → Upto 40 z → to_z w8 (of_z w8 z) ≡ z
 gain_is {z} u = abs_kept w8 z u.most (omega arith)
 
-abbrev invariant_loop : tie.invariant_loop
+abbrev invariant_loop : tie.invariant-loop-k
 invariant_loop buf₀ rows n x q₀ k₀ buf q k = Going (out buf₀ q₀) x n (out buf q) k
 
-abbrev decreases_loop : tie.decreases_loop
+abbrev decreases_loop : tie.decreases-loop-k
 decreases_loop buf₀ rows n x q₀ k₀ buf q k = n - k
 
-loop_holds : tie.Need-loop-init invariant_loop decreases_loop
+loop_holds : tie.Need-loop-k-init invariant_loop decreases_loop
 loop_holds c =
     let z = c.before.before in
     record {
@@ -47,33 +47,33 @@ loop_holds c =
       kept = refl;
     }
 
-element_copy_out_ec_enc_icdf8_run : tie.Need-element-copy-out-ec-enc-icdf8-run invariant_loop decreases_loop
+element_copy_out_ec_enc_icdf8_run : tie.Need-bounds-x-k invariant_loop decreases_loop
 element_copy_out_ec_enc_icdf8_run c =
     let z = c.before.before.before.before.before in
     omega (arith, subframes_most z.requires.1.0)
 
-cast_ec_enc_icdf8_run : tie.Need-overflow-cast-ec-enc-icdf8-run invariant_loop decreases_loop
+cast_ec_enc_icdf8_run : tie.Need-overflow_cast-x invariant_loop decreases_loop
 cast_ec_enc_icdf8_run c =
     let z = c.before.before.before.before.before.before in
     let l = c.before.before.before.loop in
-    let u = z.requires.1.1 l.k l.invariant.from c.before.before.loop-test.true in
+    let u = z.requires.1.1 l.k l.invariant.from c.before.before.loop-k-test.true in
     rw (gain_is u) (upto_fits (get_or z.args.t4.gains l.k (pos 0)) (omega arith) u)
 
-ec_enc_icdf8_run_requires : tie.Need-ec-enc-icdf8-run-requires invariant_loop decreases_loop
+ec_enc_icdf8_run_requires : tie.Need-ec_enc_icdf8_run-q-requires invariant_loop decreases_loop
 ec_enc_icdf8_run_requires c κs =
     let z = c.before.before.before.before.before.before.before in
     let l = c.before.before.before.before.loop in
-    let u = z.requires.1.1 l.k l.invariant.from c.before.before.before.loop-test.true in
+    let u = z.requires.1.1 l.k l.invariant.from c.before.before.before.loop-k-test.true in
     let t = delta_gain_row z.requires.0.rows in
     let few : l.q.total ≤ 2 ^ 30 = omega (arith, z.requires.0.few, l.invariant.told.most, l.invariant.to, subframes_most z.requires.1.0) in
     rw (gain_is u) (l.invariant.told.core, (few, (t.good, t.writable _ (omega (arith, u.most)))))
 
-loop_again : tie.Need-loop-preserved invariant_loop decreases_loop
+loop_again : tie.Need-loop-k-preserved invariant_loop decreases_loop
 loop_again c =
     let z = c.before.before.before.before.before.before.before.before.before.before in
     let l = c.before.before.before.before.before.before.before.loop in
     let a = c.before.before.ec-enc-icdf8-run in
-    let i = c.before.before.before.before.before.before.loop-test.true in
+    let i = c.before.before.before.before.before.before.loop-k-test.true in
     let u = z.requires.1.1 l.k l.invariant.from i in
     let s = gains_told_next z.args.n l.k z.args.t4 40 i (omega (arith, subframes_most z.requires.1.0, l.invariant.size)) u in
     record {
@@ -84,15 +84,15 @@ loop_again c =
       kept = a.auto.0 ∙ l.invariant.kept;
     }
 
-same_length : tie.Need-same-length invariant_loop decreases_loop
-same_length c = c.before.loop.invariant.kept
+same_length : tie.Need-shape_of-buf invariant_loop decreases_loop
+same_length c = c.before.loop-k.invariant.kept
 
 returns : tie.Need-returns invariant_loop decreases_loop
 returns c =
     let z = c.before.before.before.before in
     let l = c.before.loop in
     told_within (omega (arith, l.invariant.to, subframes_most z.requires.1.0))
-    (midway_end l.invariant.told (gains_told_end z.args.n l.k z.args.t4 c.loop-test.false))
+    (midway_end l.invariant.told (gains_told_end z.args.n l.k z.args.t4 c.loop-k-test.false))
 
 pub more_gains_tell_spec : {M : Type 1} → statement M
 more_gains_tell_spec =

@@ -12,31 +12,31 @@ use Rattle.silk.specs.IndexSyntax.{contour}
 use Rattle.index_lag_read.proofs.contour_index_run.Statement.{statement}
 use Rattle.index_lag_read.proofs.contour_index_run.Tie as tie
 
-add_end : tie.Need-overflow-add-end
+add_end : tie.Need-overflow_add-end
 add_end c =
     let z = c.before.before.before.before in
     let w = contour_within z.args.khz z.args.subframes z.requires.1.0 z.requires.1.1 in
-    omega (arith, w.0, c.contour_size_lem.ensures, c.before.contour-start.ensures)
+    omega (arith, w.0, c.contour_size-size.ensures, c.before.contour_start-start.ensures)
 
-part_ec_dec_icdf8_run_end : tie.Need-slice-bounds-ec-dec-icdf8-run-end
+part_ec_dec_icdf8_run_end : tie.Need-slice_bounds-ec_dec_icdf8_run-end
 part_ec_dec_icdf8_run_end c =
     let z = c.before.before.before.before in
     let w = contour_within z.args.khz z.args.subframes z.requires.1.0 z.requires.1.1 in
-    omega (arith, w.0, c.contour_size_lem.ensures, c.before.contour-start.ensures, z.requires.0.rows.size)
+    omega (arith, w.0, c.contour_size-size.ensures, c.before.contour_start-start.ensures, z.requires.0.rows.size)
 
-ec_dec_icdf8_run_requires : tie.Need-ec-dec-icdf8-run-requires
+ec_dec_icdf8_run_requires : tie.Need-ec_dec_icdf8_run-a-requires
 ec_dec_icdf8_run_requires c κs =
     let z = c.before.before.before.before.before in
-    let t = contour_row z.requires.0.rows _ _ _ _ z.requires.1.0 z.requires.1.1 c.before.before.contour-start.ensures c.before.contour_size_lem.ensures in
+    let t = contour_row z.requires.0.rows _ _ _ _ z.requires.1.0 z.requires.1.1 c.before.before.contour_start-start.ensures c.before.contour_size-size.ensures in
     (z.requires.0.core, (omega (arith, z.requires.0.few), t.good))
 
-cast_out : tie.Need-overflow-cast-out
+cast_out : tie.Need-overflow_cast-out
 cast_out c =
     let z = c.before.before.before.before.before.before.before in
     let n = c.before.before.before.contour_size_lem in
-    let t = contour_row z.requires.0.rows _ _ _ _ z.requires.1.0 z.requires.1.1 c.before.before.before.before.contour-start.ensures n.ensures in
+    let t = contour_row z.requires.0.rows _ _ _ _ z.requires.1.0 z.requires.1.1 c.before.before.before.before.contour_start-start.ensures n.ensures in
     let w = contour_within z.args.khz z.args.subframes z.requires.1.0 z.requires.1.1 in
-    omega (arith, c.before.ec-dec-icdf8-run.ensures.inside, t.size, w.1, n.ensures)
+    omega (arith, c.before.ec_dec_icdf8_run-a.ensures.inside, t.size, w.1, n.ensures)
 
 returns : tie.Need-returns
 unfolding contour
@@ -44,7 +44,7 @@ returns c =
     let z = c.before.before.before.before.before.before.before.before in
     let a = c.before.before.ec-dec-icdf8-run in
     let n = c.before.before.before.before.contour_size_lem in
-    let t = contour_row z.requires.0.rows _ _ _ _ z.requires.1.0 z.requires.1.1 c.before.before.before.before.before.contour-start.ensures n.ensures in
+    let t = contour_row z.requires.0.rows _ _ _ _ z.requires.1.0 z.requires.1.1 c.before.before.before.before.before.contour_start-start.ensures n.ensures in
     let w = contour_within z.args.khz z.args.subframes z.requires.1.0 z.requires.1.1 in
     let e : to_z w8 a.result.value ≡ pos a.result.value = to_z_pos w8 {n = a.result.value} (omega (arith, a.ensures.inside, t.size, w.1, n.ensures)) in
     rw e (ran_ask t.is a.ensures (ran_done a.ensures.core))

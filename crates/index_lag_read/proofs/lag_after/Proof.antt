@@ -20,7 +20,7 @@ module _ (v : ℕ) (h : v < 21) where
   delta_fits : SFits w16 (pos v -ℤ pos 9)
   delta_fits = parts_fit (pos v -ℤ pos 9) (omega (arith, up_diff (pos v) (pos 9))) (omega (arith, down_diff (pos v) (pos 9)))
 
-sub_delta : tie.Need-overflow-sub-delta
+sub_delta : tie.Need-overflow_sub-delta
 sub_delta c = rw (symbol_is c.args.v c.requires) (delta_fits c.args.v c.requires)
 
 returns : tie.Need-returns

@@ -22,28 +22,28 @@ within z = contour_within z.args.khz z.args.subframes z.requires.1.0 z.requires.
 contour_is : (z : tie.Start) → to_z w8 (of_z w8 z.args.x.contour) ≡ z.args.x.contour
 contour_is z = abs_kept w8 _ z.requires.1.2.most (omega (arith, (within z).1))
 
-add_end : tie.Need-overflow-add-end
+add_end : tie.Need-overflow_add-end
 add_end c =
     let z = c.before.before.before.before in
-    omega (arith, (within z).0, c.contour_size_lem.ensures, c.before.contour-start.ensures)
+    omega (arith, (within z).0, c.contour_size-size.ensures, c.before.contour_start-start.ensures)
 
-cast_ec_enc_icdf8_run : tie.Need-overflow-cast-ec-enc-icdf8-run
+cast_ec_enc_icdf8_run : tie.Need-overflow_cast-x
 cast_ec_enc_icdf8_run c =
     let z = c.before.before.before.before.before.before.before in
     rw (contour_is z) (upto_fits z.args.x.contour (omega (arith, (within z).1)) z.requires.1.2)
 
-part_ec_enc_icdf8_run_end : tie.Need-slice-bounds-ec-enc-icdf8-run-end
+part_ec_enc_icdf8_run_end : tie.Need-slice_bounds-ec_enc_icdf8_run-end
 part_ec_enc_icdf8_run_end c =
     let z = c.before.before.before.before.before.before.before in
-    let s = c.before.before.before.before.contour-start.ensures in
-    let n = c.before.before.before.contour_size_lem.ensures in
+    let s = c.before.before.before.before.contour_start-start.ensures in
+    let n = c.before.before.before.contour_size-size.ensures in
     omega (arith, (within z).0, s, n, z.requires.0.rows.size)
 
-ec_enc_icdf8_run_requires : tie.Need-ec-enc-icdf8-run-requires
+ec_enc_icdf8_run_requires : tie.Need-ec_enc_icdf8_run-requires
 ec_enc_icdf8_run_requires c κs =
     let z = c.before.before.before.before.before.before.before.before in
-    let s = c.before.before.before.before.before.contour-start.ensures in
-    let n = c.before.before.before.before.contour_size_lem.ensures in
+    let s = c.before.before.before.before.before.contour_start-start.ensures in
+    let n = c.before.before.before.before.contour_size-size.ensures in
     let t = contour_row z.requires.0.rows _ _ _ _ z.requires.1.0 z.requires.1.1 s n in
     rw (contour_is z)
     (z.requires.0.core, (omega (arith, z.requires.0.few), (t.good, t.writable _ (omega (arith, z.requires.1.2.most, n, t.size, t.good.some)))))
@@ -53,8 +53,8 @@ unfolding contour
 returns c =
     let z = c.before.before.before.before.before.before.before.before.before.before.before in
     let a = c.before.before.ec-enc-icdf8-run in
-    let s = c.before.before.before.before.before.before.before.before.contour-start.ensures in
-    let n = c.before.before.before.before.before.before.before.contour_size_lem.ensures in
+    let s = c.before.before.before.before.before.before.before.before.contour_start-start.ensures in
+    let n = c.before.before.before.before.before.before.before.contour_size-size.ensures in
     let t = contour_row z.requires.0.rows _ _ _ _ z.requires.1.0 z.requires.1.1 s n in
     told_ask t.is (ap nat_abs (contour_is z)) a.ensures (told_done a.ensures.core)
 

@@ -8,24 +8,24 @@ use Rattle.silk.specs.IndexSyntax.{lag}
 use Rattle.index_lag_write.proofs.delta_tell.Statement.{statement}
 use Rattle.index_lag_write.proofs.delta_tell.Tie as tie
 
-ec_enc_icdf8_run_requires : tie.Need-ec-enc-icdf8-run-requires
+ec_enc_icdf8_run_requires : tie.Need-ec_enc_icdf8_run-requires
 ec_enc_icdf8_run_requires c κs =
     let z = c.before.before.before.before.before in
     let t = delta_lag_row z.requires.rows in
     (z.requires.core, (omega (arith, z.requires.few), (t.good, t.writable _ (omega arith))))
 
-returns : tie.Need-returns
+returns : tie.Need-returns-then-relative
 unfolding lag
 returns c =
     let z = c.before.before.before.before.before.before.before.before in
     let a = c.before.before.ec-enc-icdf8-run in
     λ khz before x.
-    rw c.before.before.before.before.before.if1.true
+    rw c.before.before.before.before.before.if-relative.true
     (midway_asked (midway_start {n = 0} z.requires.core) (delta_lag_row z.requires.rows).is refl a.ensures (omega arith))
 
-returns_2 : tie.Need-returns-2
+returns_2 : tie.Need-returns
 unfolding lag
-returns_2 c = λ khz before x. rw c.if1.false (midway_start c.before.before.before.requires.core)
+returns_2 c = λ khz before x. rw c.if-relative.false (midway_start c.before.before.before.requires.core)
 
 pub delta_tell_spec : {M : Type 1} → statement M
 delta_tell_spec =

@@ -8,7 +8,7 @@ use Rattle.silk.proofs.IndexParts.{upto_fits}
 use Rattle.index_numbers.proofs.next_type_run.Statement.{statement}
 use Rattle.index_numbers.proofs.next_type_run.Tie as tie
 
-cast_result : tie.Need-overflow-cast-result
+cast_result : tie.Need-overflow_cast-result
 cast_result c =
     let z = c.before.before in
     let f : SFits w8 z.args.x.signal = search rules in

@@ -28,25 +28,25 @@ prevlag_is z = let f : SFits w16 z.args.s.prevlag = search rules in to_z-of_z f
 abbrev Ready : tie.Start → Dec → ℕ → Type 0
 Ready z d n = Reading z.args.packet.now d z.args.rows.now n
 
-abbrev start : tie.After-lag-index-run → tie.Start
+abbrev start : tie.After-lag_index_run-l → tie.Start
 start c = c.before.before.before.before.before.before
 
-lag_read : (c : tie.After-lag-index-run) (n : ℕ) → 2 ^ 27 + 48 ≤ n → Ready (start c) c.lag-index-run.result.state n
-lag_read c n h = reading_next n (start c).requires.0 c.lag-index-run.ensures h
+lag_read : (c : tie.After-lag_index_run-l) (n : ℕ) → 2 ^ 27 + 48 ≤ n → Ready (start c) c.lag_index_run-l.result.state n
+lag_read c n h = reading_next n (start c).requires.0 c.lag_index_run-l.ensures h
 
-contour_read : (c : tie.After-contour-index-run) (n : ℕ) → 2 ^ 27 + 64 ≤ n → Ready (start c.before) c.contour-index-run.result.state n
-contour_read c n h = reading_next n (lag_read c.before (2 ^ 27 + 48) (omega arith)) c.contour-index-run.ensures h
+contour_read : (c : tie.After-contour_index_run-c) (n : ℕ) → 2 ^ 27 + 64 ≤ n → Ready (start c.before) c.contour_index_run-c.result.state n
+contour_read c n h = reading_next n (lag_read c.before (2 ^ 27 + 48) (omega arith)) c.contour_index_run-c.ensures h
 
-period_read : (c : tie.After-period-index-run) (n : ℕ) → 2 ^ 27 + 144 ≤ n → Ready (start c.before.before) c.period-index-run.result.state n
-period_read c n h = reading_next n (contour_read c.before (2 ^ 27 + 64) (omega arith)) c.period-index-run.ensures h
+period_read : (c : tie.After-period_index_run-p) (n : ℕ) → 2 ^ 27 + 144 ≤ n → Ready (start c.before.before) c.period_index_run-p.result.state n
+period_read c n h = reading_next n (contour_read c.before (2 ^ 27 + 64) (omega arith)) c.period_index_run-p.ensures h
 
-contour_index_run_requires : tie.Need-contour-index-run-requires
+contour_index_run_requires : tie.Need-contour_index_run-c-requires
 contour_index_run_requires c κs = (lag_read c (2 ^ 29) (omega arith), (start c).requires.1)
 
-period_index_run_requires : tie.Need-period-index-run-requires
+period_index_run_requires : tie.Need-period_index_run-p-requires
 period_index_run_requires c κs = (contour_read c (2 ^ 28) (omega arith), (start c.before).requires.1.1)
 
-scale_index_run_requires : tie.Need-scale-index-run-requires
+scale_index_run_requires : tie.Need-scale_index_run-requires
 scale_index_run_requires c κs = period_read c (2 ^ 29) (omega arith)
 
 -- the lag is relative where the setting says so
@@ -61,8 +61,8 @@ returns c =
     let k = p.before in
     let l = k.before in
     let a = (start l).args in
-    ran_bind _ (as_set a.s a.s.khz a.s.prevlag a.x (rw (prevlag_is (start l)) at l.lag-index-run.ensures) refl)
-    (ran_bind _ k.contour-index-run.ensures (ran_bind _ p.period-index-run.ensures c.scale-index-run.ensures))
+    ran_bind _ (as_set a.s a.s.khz a.s.prevlag a.x (rw (prevlag_is (start l)) at l.lag_index_run-l.ensures) refl)
+    (ran_bind _ k.contour_index_run-c.ensures (ran_bind _ p.period_index_run-p.ensures c.scale_index_run.ensures))
 
 pub pitch_run_spec : {M : Type 1} → statement M
 pitch_run_spec =

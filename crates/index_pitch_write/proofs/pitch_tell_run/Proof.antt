@@ -29,46 +29,46 @@ shape z = record { gains = search rules; ltp = search rules; nlsf = search rules
 abbrev Ready : tie.Start → List ℕ → Enc → ℕ → Type 0
 Ready z b w n = Writing (out b w) z.args.rows.now n
 
-abbrev lag_start : tie.After-lag-tell-run → tie.Start
+abbrev lag_start : tie.After-lag_tell_run-l → tie.Start
 lag_start c = c.before.before.before.before.before.before
 
-lag_told : (c : tie.After-lag-tell-run) (n : ℕ) → 2 ^ 27 + 48 ≤ n → Ready (lag_start c) c.lag-tell-run.new.0 c.lag-tell-run.result n
-lag_told c n h = let z = lag_start c in writing_next n z.pre.0 (c.lag-tell-run.ensures z.args.s.prevlag) h
+lag_told : (c : tie.After-lag_tell_run-l) (n : ℕ) → 2 ^ 27 + 48 ≤ n → Ready (lag_start c) c.lag_tell_run-l.new.0 c.lag_tell_run-l.result n
+lag_told c n h = let z = lag_start c in writing_next n z.pre.0 (c.lag_tell_run-l.ensures z.args.s.prevlag) h
 
-abbrev contour_lag : tie.After-contour-tell-run → tie.After-lag-tell-run
+abbrev contour_lag : tie.After-contour_tell_run-c → tie.After-lag_tell_run-l
 contour_lag c = c.before.before.before.before
 
-contour_told : (c : tie.After-contour-tell-run) (n : ℕ) → 2 ^ 27 + 64 ≤ n
-    → Ready (lag_start (contour_lag c)) c.contour-tell-run.new.0 c.contour-tell-run.result n
-contour_told c n h = writing_next n (lag_told (contour_lag c) (2 ^ 27 + 48) (omega arith)) c.contour-tell-run.ensures h
+contour_told : (c : tie.After-contour_tell_run-c) (n : ℕ) → 2 ^ 27 + 64 ≤ n
+    → Ready (lag_start (contour_lag c)) c.contour_tell_run-c.new.0 c.contour_tell_run-c.result n
+contour_told c n h = writing_next n (lag_told (contour_lag c) (2 ^ 27 + 48) (omega arith)) c.contour_tell_run-c.ensures h
 
-abbrev period_contour : tie.After-period-tell-run → tie.After-contour-tell-run
+abbrev period_contour : tie.After-period_tell_run-p → tie.After-contour_tell_run-c
 period_contour c = c.before.before.before.before
 
-period_told : (c : tie.After-period-tell-run) (n : ℕ) → 2 ^ 27 + 144 ≤ n
-    → Ready (lag_start (contour_lag (period_contour c))) c.period-tell-run.new.0 c.period-tell-run.result n
-period_told c n h = writing_next n (contour_told (period_contour c) (2 ^ 27 + 64) (omega arith)) c.period-tell-run.ensures h
+period_told : (c : tie.After-period_tell_run-p) (n : ℕ) → 2 ^ 27 + 144 ≤ n
+    → Ready (lag_start (contour_lag (period_contour c))) c.period_tell_run-p.new.0 c.period_tell_run-p.result n
+period_told c n h = writing_next n (contour_told (period_contour c) (2 ^ 27 + 64) (omega arith)) c.period_tell_run-p.ensures h
 
 -- ---- the calls
 
-lag_tell_run_requires : tie.Need-lag-tell-run-requires
+lag_tell_run_requires : tie.Need-lag_tell_run-l-requires
 lag_tell_run_requires c κs =
     let z = c.before.before.before.before.before in
     (record { core = z.requires.0.core; few = omega (arith, z.requires.0.few); rows = z.requires.0.rows }, (z.requires.1.0, z.requires.1.2.lag))
 
-contour_tell_run_requires : tie.Need-contour-tell-run-requires
+contour_tell_run_requires : tie.Need-contour_tell_run-c-requires
 contour_tell_run_requires c κs =
     let l = c.before.before.before in
     let t = (lag_start l).requires.1 in
     (lag_told l (2 ^ 29) (omega arith), (t.0, t.1, t.2.contour))
 
-period_tell_run_requires : tie.Need-period-tell-run-requires
+period_tell_run_requires : tie.Need-period_tell_run-p-requires
 period_tell_run_requires c κs =
     let k = c.before.before.before in
     let t = (lag_start (contour_lag k)).requires.1 in
     (contour_told k (2 ^ 28) (omega arith), ((t.1, t.2.period), t.2.filters))
 
-scale_tell_run_requires : tie.Need-scale-tell-run-requires
+scale_tell_run_requires : tie.Need-scale_tell_run-requires
 scale_tell_run_requires c κs =
     let p = c.before.before.before in
     (period_told p (2 ^ 29) (omega arith), (lag_start (contour_lag (period_contour p))).requires.1.2.scale)
@@ -89,10 +89,10 @@ returns c =
     let s = z.args.s in
     let t = z.pre.1 in
     told_then _ (says_means (lag_says (relative_lag s) s.khz s.prevlag x t.0 t.2.lag))
-    (as_set s s.khz s.prevlag (l.lag-tell-run.ensures s.prevlag) refl)
-    (told_then _ (says_means (contour_says s x t.0 t.1 (shape z) t.2)) k.contour-tell-run.ensures
-    (told_then _ (says_means (period_says s x t.0 t.1 (shape z) t.2)) p.period-tell-run.ensures
-    c.before.before.scale-tell-run.ensures))
+    (as_set s s.khz s.prevlag (l.lag_tell_run-l.ensures s.prevlag) refl)
+    (told_then _ (says_means (contour_says s x t.0 t.1 (shape z) t.2)) k.contour_tell_run-c.ensures
+    (told_then _ (says_means (period_says s x t.0 t.1 (shape z) t.2)) p.period_tell_run-p.ensures
+    c.before.before.scale_tell_run.ensures))
 
 pub pitch_tell_run_spec : {M : Type 1} → statement M
 pitch_tell_run_spec =

@@ -9,25 +9,25 @@ use Rattle.silk.proofs.IndexSteps.{coded_read, fixed_read}
 use Rattle.index_single_read.proofs.interpolation_run.Statement.{statement}
 use Rattle.index_single_read.proofs.interpolation_run.Tie as tie
 
-ec_dec_icdf8_run_requires : tie.Need-ec-dec-icdf8-run-requires
+ec_dec_icdf8_run_requires : tie.Need-ec_dec_icdf8_run-a-requires
 ec_dec_icdf8_run_requires c κs =
     let z = c.before.before.before.before in
     (z.requires.core, (omega arith, (interpolation_row_lem z.requires.rows).good))
 
-returns : tie.Need-returns
+returns : tie.Need-returns-then-subframes-eq4
 unfolding interpolation
 returns c =
     let a = c.before.before in
     let z = a.before.before.before.before.before in
     let t = interpolation_row_lem z.requires.rows in
     coded_read z.args.subframes 4 interpolation_row (λ y. said y.interp) (put_interp z.args.x) 4
-    a.before.before.if1.true t.is a.ec-dec-icdf8-run.ensures (omega (arith, t.size))
+    a.before.before.if-subframes-eq4.true t.is a.ec_dec_icdf8_run-a.ensures (omega (arith, t.size))
 
-returns_2 : tie.Need-returns-2
+returns_2 : tie.Need-returns
 unfolding interpolation
 returns_2 c =
     let z = c.before.before.before in
-    fixed_read z.args.subframes 4 interpolation_row (λ y. said y.interp) (put_interp z.args.x) 4 c.if1.false z.requires.core
+    fixed_read z.args.subframes 4 interpolation_row (λ y. said y.interp) (put_interp z.args.x) 4 c.if-subframes-eq4.false z.requires.core
 
 pub interpolation_run_spec : {M : Type 1} → statement M
 interpolation_run_spec =

@@ -7,7 +7,7 @@ use Rattle.silk.specs.IndexSyntax.{kind}
 use Rattle.index_single_read.proofs.kind_run.Statement.{statement}
 use Rattle.index_single_read.proofs.kind_run.Tie as tie
 
-ec_dec_icdf8_run_requires : tie.Need-ec-dec-icdf8-run-requires
+ec_dec_icdf8_run_requires : tie.Need-ec_dec_icdf8_run-a-requires
 ec_dec_icdf8_run_requires c κs =
     let z = c.before.before.before in
     (z.requires.0.core, (omega arith, (type_row z.requires.0.rows z.args.active z.requires.1).good))

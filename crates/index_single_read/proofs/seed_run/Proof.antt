@@ -12,7 +12,7 @@ use Rattle.silk.specs.IndexSyntax.{seed}
 use Rattle.index_single_read.proofs.seed_run.Statement.{statement}
 use Rattle.index_single_read.proofs.seed_run.Tie as tie
 
-ec_dec_icdf8_run_requires : tie.Need-ec-dec-icdf8-run-requires
+ec_dec_icdf8_run_requires : tie.Need-ec_dec_icdf8_run-a-requires
 ec_dec_icdf8_run_requires c κs =
     let z = c.before.before.before in
     (z.requires.core, (omega arith, (seed_row z.requires.rows).good))

@@ -19,32 +19,32 @@ signal_is z = abs_kept w8 _ z.requires.1.1.0.most (omega arith)
 offset_is : (z : tie.Start) → to_z w8 (of_z w8 z.args.x.offset) ≡ z.args.x.offset
 offset_is z = abs_kept w8 _ z.requires.1.1.1.most (omega arith)
 
-cast_kind : tie.Need-overflow-cast-kind
+cast_kind : tie.Need-overflow_cast-kind
 cast_kind c =
     let z = c.before.before.before.before in
     rw (signal_is z) (upto_fits z.args.x.signal (omega arith) z.requires.1.1.0)
 
-mul_kind : tie.Need-overflow-mul-kind
+mul_kind : tie.Need-overflow_mul-kind
 mul_kind c =
     let z = c.before.before.before.before in
     rw (signal_is z) (omega (arith, z.requires.1.1.0.most))
 
-cast_kind_2 : tie.Need-overflow-cast-kind-2
+cast_kind_2 : tie.Need-overflow_cast-kind-2
 cast_kind_2 c =
     let z = c.before.before.before.before.before.before in
     rw (offset_is z) (upto_fits z.args.x.offset (omega arith) z.requires.1.1.1)
 
-add_kind : tie.Need-overflow-add-kind
+add_kind : tie.Need-overflow_add-kind
 add_kind c =
     let z = c.before.before.before.before.before.before in
     rw (signal_is z, offset_is z) (omega (arith, z.requires.1.1.0.most, z.requires.1.1.1.most))
 
-sub_ec_enc_icdf8_run : tie.Need-overflow-sub-ec-enc-icdf8-run
+sub_ec_enc_icdf8_run : tie.Need-overflow_sub-kind
 sub_ec_enc_icdf8_run c =
     let z = c.before.before.before.before.before.before.before in
     rw (signal_is z, offset_is z) (omega (arith, z.requires.1.0.1.least))
 
-ec_enc_icdf8_run_requires : tie.Need-ec-enc-icdf8-run-requires
+ec_enc_icdf8_run_requires : tie.Need-ec_enc_icdf8_run-requires
 ec_enc_icdf8_run_requires c κs =
     let z = c.before.before.before.before.before.before.before.before in
     let t = type_row z.requires.0.rows z.args.active z.requires.1.0.0 in

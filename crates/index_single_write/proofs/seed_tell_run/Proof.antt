@@ -15,12 +15,12 @@ use Rattle.index_single_write.proofs.seed_tell_run.Tie as tie
 seed_is : (z : tie.Start) → to_z w8 (of_z w8 z.args.x.seed) ≡ z.args.x.seed
 seed_is z = abs_kept w8 _ z.requires.1.most (omega arith)
 
-cast_ec_enc_icdf8_run : tie.Need-overflow-cast-ec-enc-icdf8-run
+cast_ec_enc_icdf8_run : tie.Need-overflow_cast-x
 cast_ec_enc_icdf8_run c =
     let z = c.before.before.before.before.before in
     rw (seed_is z) (upto_fits z.args.x.seed (omega arith) z.requires.1)
 
-ec_enc_icdf8_run_requires : tie.Need-ec-enc-icdf8-run-requires
+ec_enc_icdf8_run_requires : tie.Need-ec_enc_icdf8_run-requires
 ec_enc_icdf8_run_requires c κs =
     let z = c.before.before.before.before.before.before in
     let t = seed_row z.requires.0.rows in

@@ -19,7 +19,7 @@ module _ (v : ℕ) (h : v < 9) where
   fits : SFits w8 (pos v -ℤ pos 4)
   fits = parts_fit (pos v -ℤ pos 4) (omega (arith, up_diff (pos v) (pos 4))) (omega (arith, down_diff (pos v) (pos 4)))
 
-sub_result : tie.Need-overflow-sub-result
+sub_result : tie.Need-overflow_sub-result
 sub_result c = rw (symbol_is c.args.v c.requires) (fits c.args.v c.requires)
 
 returns : tie.Need-returns

@@ -23,7 +23,7 @@ module _ (e : ℕ) (h : e < 7) where
   fits : SFits w8 (negsuc (3 + e))
   fits = parts_fit (negsuc (3 + e)) (omega arith) (omega arith)
 
-sub_result : tie.Need-overflow-sub-result
+sub_result : tie.Need-overflow_sub-result
 sub_result c = rw (symbol_is c.args.extension c.requires, lower_is c.args.extension c.requires) (fits c.args.extension c.requires)
 
 returns : tie.Need-returns

@@ -30,16 +30,16 @@ record Going (b : List ℕ) (khz : ℕ) (s : List ℕ) (n : ℕ) (x₀ : Indices
   pub least : d₀.total ≤ d.total
   pub most : d.total ≤ d₀.total + 32 * i
 
-abbrev invariant_loop : tie.invariant_loop
+abbrev invariant_loop : tie.invariant-loop-i
 invariant_loop packet rows selectors khz n base out₀ r₀ i₀ out r i = Going packet khz selectors n out₀ r₀ out r i
 
-abbrev decreases_loop : tie.decreases_loop
+abbrev decreases_loop : tie.decreases-loop-i
 decreases_loop packet rows selectors khz n base out₀ r₀ i₀ out r i = n - i
 
-mul_base : tie.Need-overflow-mul-base invariant_loop decreases_loop
+mul_base : tie.Need-overflow_mul-base invariant_loop decreases_loop
 mul_base c = let z = c.before.before.before in omega (arith, rate_most z.requires.1.0)
 
-loop_holds : tie.Need-loop-init invariant_loop decreases_loop
+loop_holds : tie.Need-loop-i-init invariant_loop decreases_loop
 loop_holds c =
     let z = c.before.before.before in
     record {
@@ -52,23 +52,23 @@ loop_holds c =
       most = omega arith;
     }
 
-residual_pick_run_requires : tie.Need-residual-pick-run-requires invariant_loop decreases_loop
+residual_pick_run_requires : tie.Need-residual_pick_run-k-requires invariant_loop decreases_loop
 residual_pick_run_requires c κs =
     let z = c.before.before.before.before.before in
     omega (arith, z.requires.1.1)
 
-add_residual_index : tie.Need-overflow-add-residual-index invariant_loop decreases_loop
+add_residual_index : tie.Need-overflow_add-base invariant_loop decreases_loop
 add_residual_index c =
     let z = c.before.before.before.before.before.before in
-    omega (arith, rate_most z.requires.1.0, c.residual-pick-run.ensures)
+    omega (arith, rate_most z.requires.1.0, c.residual_pick_run-k.ensures)
 
-residual_index_requires : tie.Need-residual-index-requires invariant_loop decreases_loop
+residual_index_requires : tie.Need-residual_index-a-requires invariant_loop decreases_loop
 residual_index_requires c κs =
     let z = c.before.before.before.before.before.before in
-    let i = c.before.before.loop.invariant in
-    (record { core = i.core; few = omega (arith, z.requires.0.few, i.most); rows = z.requires.0.rows }, omega (arith, rate_most z.requires.1.0, c.residual-pick-run.ensures))
+    let i = c.before.before.loop-i.invariant in
+    (record { core = i.core; few = omega (arith, z.requires.0.few, i.most); rows = z.requires.0.rows }, omega (arith, rate_most z.requires.1.0, c.residual_pick_run-k.ensures))
 
-loop_again : tie.Need-loop-preserved invariant_loop decreases_loop
+loop_again : tie.Need-loop-i-preserved invariant_loop decreases_loop
 loop_again c =
     let z = c.before.before.before.before.before.before.before.before.before in
     let l = c.before.before.before.before.before.loop in
@@ -90,7 +90,7 @@ loop_again c =
 
 returns : tie.Need-returns invariant_loop decreases_loop
 returns c =
-    let i = c.before.loop.invariant in
+    let i = c.before.loop-i.invariant in
     record { is = sym i.rest ∙ residuals_end _ _ _ _ _ _ _ (omega arith); core = i.core; least = i.least; most = omega arith }
 
 pub residual_indices_spec : {M : Type 1} → statement M

@@ -32,10 +32,10 @@ module _ (z : ℤ) (l : le_z z (negsuc 3) ≡ false) where
 z_is : (z : tie.Start) → to_z w8 (of_z w8 z.args.z) ≡ z.args.z
 z_is z = to_z-of_z z.ranges.z
 
-add_result : tie.Need-overflow-add-result
+add_result : tie.Need-overflow_add-result
 add_result c = rw (z_is c, moved_is c.args.z c.requires.0) (fits c.args.z c.requires.0 c.requires.1)
 
-cast_result : tie.Need-overflow-cast-result
+cast_result : tie.Need-overflow_cast-result
 cast_result c =
     let m = moved c.args.z c.requires.0 c.requires.1 in
     rw (z_is c, moved_is c.args.z c.requires.0, to_z-of_z (fits c.args.z c.requires.0 c.requires.1)) (tt, omega (arith, m.1))

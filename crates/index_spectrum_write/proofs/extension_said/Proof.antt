@@ -36,23 +36,23 @@ module _ (z : tie.Start) where
   fits : SFits w8 (pos (nat_abs z.args.z - 4))
   fits = record { sfits = omega (arith, z.pre.1) }
 
-sub_result : tie.Need-overflow-sub-result
-sub_result c = let z = c.before in rw (low_is z c.if1.true) (fits z)
+sub_result : tie.Need-overflow_sub-result
+sub_result c = let z = c.before in rw (low_is z c.if-z-lt0.true) (fits z)
 
-cast_result : tie.Need-overflow-cast-result
-cast_result c = let z = c.before in rw (low_is z c.if1.true, to_z-of_z (fits z)) (tt, omega (arith, z.requires.1))
+cast_result : tie.Need-overflow_cast-result
+cast_result c = let z = c.before in rw (low_is z c.if-z-lt0.true, to_z-of_z (fits z)) (tt, omega (arith, z.requires.1))
 
-sub_result_2 : tie.Need-overflow-sub-result-2
-sub_result_2 c = let z = c.before in rw (high_is z c.if1.false) (fits z)
+sub_result_2 : tie.Need-overflow_sub-result-else-z-lt0
+sub_result_2 c = let z = c.before in rw (high_is z c.if-z-lt0.false) (fits z)
 
-cast_result_2 : tie.Need-overflow-cast-result-2
-cast_result_2 c = let z = c.before in rw (high_is z c.if1.false, to_z-of_z (fits z)) (tt, omega (arith, z.requires.1))
+cast_result_2 : tie.Need-overflow_cast-result-else-z-lt0
+cast_result_2 c = let z = c.before in rw (high_is z c.if-z-lt0.false, to_z-of_z (fits z)) (tt, omega (arith, z.requires.1))
 
-returns : tie.Need-returns
-returns c = let z = c.before in rw (low_is z c.if1.true, to_z-of_z (fits z))
+returns : tie.Need-returns-then-z-lt0
+returns c = let z = c.before in rw (low_is z c.if-z-lt0.true, to_z-of_z (fits z))
 
-returns_2 : tie.Need-returns-2
-returns_2 c = let z = c.before in rw (high_is z c.if1.false, to_z-of_z (fits z))
+returns_2 : tie.Need-returns-else-z-lt0
+returns_2 c = let z = c.before in rw (high_is z c.if-z-lt0.false, to_z-of_z (fits z))
 
 pub extension_said_spec : {M : Type 1} → statement M
 extension_said_spec =

@@ -28,26 +28,26 @@ high_end (negsuc n) e = absurd (omega (arith, le_z_true (pos 4) (negsuc n) e))
 z_is : (z : tie.Start) → to_z w8 (of_z w8 z.args.z) ≡ z.args.z
 z_is z = to_z-of_z z.ranges.z
 
-ec_enc_icdf8_run_requires : tie.Need-ec-enc-icdf8-run-requires
+ec_enc_icdf8_run_requires : tie.Need-ec_enc_icdf8_run-q-requires
 ec_enc_icdf8_run_requires c κs =
     let z = c.before.before.before.before.before in
     let t = residual_row z.requires.0.rows z.args.k z.requires.1.0 in
     (z.requires.0.core, (omega (arith, z.requires.0.few), (t.good, t.writable _ (omega arith))))
 
-extension_said_requires : tie.Need-extension-said-requires
+extension_said_requires : tie.Need-extension_said-requires
 extension_said_requires c κs =
     let z = c.before.before.before.before.before.before.before.before.before in
-    rw (z_is z) (low_end z.args.z (rw (z_is z) at c.before.before.before.before.before.before.if1.true), z.requires.1.1)
+    rw (z_is z) (low_end z.args.z (rw (z_is z) at c.before.before.before.before.before.before.if-z-leminus4.true), z.requires.1.1)
 
-ec_enc_icdf8_run_requires_2 : tie.Need-ec-enc-icdf8-run-requires-2
+ec_enc_icdf8_run_requires_2 : tie.Need-ec_enc_icdf8_run-requires
 ec_enc_icdf8_run_requires_2 c κs =
     let z = c.before.before.before.before.before.before.before.before.before.before.before in
     let a = c.before.before.before.before.before.ec-enc-icdf8-run in
-    let e : c.before.extension-said.result ≡ extension_said z.args.z = rw (z_is z) at c.before.extension-said.ensures in
+    let e : c.before.extension_said.result ≡ extension_said z.args.z = rw (z_is z) at c.before.extension_said.ensures in
     let t = extension_row z.requires.0.rows in
     (a.ensures.core, (omega (arith, a.ensures.most, z.requires.0.few), (t.good, t.writable _ (omega (arith, e, z.requires.1.1)))))
 
-returns : tie.Need-returns
+returns : tie.Need-returns-then-z-leminus4
 unfolding residual
 returns c =
     let z = c.before.before.before.before.before.before.before.before.before.before.before.before.before.before in
@@ -61,26 +61,26 @@ returns c =
     told_ask {n = 16} (residual_row z.requires.0.rows z.args.k z.requires.1.0).is f a.ensures
     (told_ask (extension_row z.requires.0.rows).is e b.ensures (told_done b.ensures.core))
 
-ec_enc_icdf8_run_requires_3 : tie.Need-ec-enc-icdf8-run-requires-3
+ec_enc_icdf8_run_requires_3 : tie.Need-ec_enc_icdf8_run-q-requires-then-z-ge4
 ec_enc_icdf8_run_requires_3 c κs =
     let z = c.before.before.before.before.before.before in
     let t = residual_row z.requires.0.rows z.args.k z.requires.1.0 in
     (z.requires.0.core, (omega (arith, z.requires.0.few), (t.good, t.writable _ (omega arith))))
 
-extension_said_requires_2 : tie.Need-extension-said-requires-2
+extension_said_requires_2 : tie.Need-extension_said-requires-then-z-ge4
 extension_said_requires_2 c κs =
     let z = c.before.before.before.before.before.before.before.before.before.before in
-    rw (z_is z) (high_end z.args.z (rw (z_is z) at c.before.before.before.before.before.before.if2.true), z.requires.1.1)
+    rw (z_is z) (high_end z.args.z (rw (z_is z) at c.before.before.before.before.before.before.if-z-ge4.true), z.requires.1.1)
 
-ec_enc_icdf8_run_requires_4 : tie.Need-ec-enc-icdf8-run-requires-4
+ec_enc_icdf8_run_requires_4 : tie.Need-ec_enc_icdf8_run-requires-then-z-ge4
 ec_enc_icdf8_run_requires_4 c κs =
     let z = c.before.before.before.before.before.before.before.before.before.before.before.before in
     let a = c.before.before.before.before.before.ec-enc-icdf8-run3 in
-    let e : c.before.extension-said2.result ≡ extension_said z.args.z = rw (z_is z) at c.before.extension-said2.ensures in
+    let e : c.before.extension_said-then-z-ge4.result ≡ extension_said z.args.z = rw (z_is z) at c.before.extension_said-then-z-ge4.ensures in
     let t = extension_row z.requires.0.rows in
     (a.ensures.core, (omega (arith, a.ensures.most, z.requires.0.few), (t.good, t.writable _ (omega (arith, e, z.requires.1.1)))))
 
-returns_2 : tie.Need-returns-2
+returns_2 : tie.Need-returns-then-z-ge4
 unfolding residual
 returns_2 c =
     let z = c.before.before.before.before.before.before.before.before.before.before.before.before.before.before.before in
@@ -96,13 +96,13 @@ returns_2 c =
     told_ask {n = 16} (residual_row z.requires.0.rows z.args.k z.requires.1.0).is f a.ensures
     (told_ask (extension_row z.requires.0.rows).is e b.ensures (told_done b.ensures.core))
 
-ec_enc_icdf8_run_requires_5 : tie.Need-ec-enc-icdf8-run-requires-5
+ec_enc_icdf8_run_requires_5 : tie.Need-ec_enc_icdf8_run-requires-2
 ec_enc_icdf8_run_requires_5 c κs =
     let z = c.before.before.before.before.before.before.before in
     let t = residual_row z.requires.0.rows z.args.k z.requires.1.0 in
-    (z.requires.0.core, (omega (arith, z.requires.0.few), (t.good, t.writable _ (omega (arith, c.before.centred-said.ensures.2)))))
+    (z.requires.0.core, (omega (arith, z.requires.0.few), (t.good, t.writable _ (omega (arith, c.before.centred_said.ensures.2)))))
 
-returns_3 : tie.Need-returns-3
+returns_3 : tie.Need-returns
 unfolding residual
 returns_3 c =
     let z = c.before.before.before.before.before.before.before.before.before.before in

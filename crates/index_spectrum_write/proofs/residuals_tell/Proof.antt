@@ -27,16 +27,16 @@ record Going (o : Out) (x : Indices) (khz : ℕ) (s : List ℕ) (n : ℕ) (p : O
   pub size : length x.nlsf ≡ 17
   pub kept : length p.buf ≡ length o.buf
 
-abbrev invariant_loop : tie.invariant_loop
+abbrev invariant_loop : tie.invariant-loop-i
 invariant_loop buf₀ rows selectors khz n x base q₀ i₀ buf q i = Going (out buf₀ q₀) x khz selectors n (out buf q) i
 
-abbrev decreases_loop : tie.decreases_loop
+abbrev decreases_loop : tie.decreases-loop-i
 decreases_loop buf₀ rows selectors khz n x base q₀ i₀ buf q i = n - i
 
-mul_base : tie.Need-overflow-mul-base invariant_loop decreases_loop
+mul_base : tie.Need-overflow_mul-base invariant_loop decreases_loop
 mul_base c = let z = c.before.before.before in omega (arith, rate_most z.requires.1.0.0)
 
-loop_holds : tie.Need-loop-init invariant_loop decreases_loop
+loop_holds : tie.Need-loop-i-init invariant_loop decreases_loop
 loop_holds c =
     let z = c.before.before.before in
     record {
@@ -46,38 +46,38 @@ loop_holds c =
       kept = refl;
     }
 
-residual_pick_run_requires : tie.Need-residual-pick-run-requires invariant_loop decreases_loop
+residual_pick_run_requires : tie.Need-residual_pick_run-k-requires invariant_loop decreases_loop
 residual_pick_run_requires c κs =
     let z = c.before.before.before.before.before in
     omega (arith, z.requires.1.0.1)
 
-element_copy_out_residual_tell : tie.Need-element-copy-out-residual-tell invariant_loop decreases_loop
+element_copy_out_residual_tell : tie.Need-bounds-x-i invariant_loop decreases_loop
 element_copy_out_residual_tell c =
     let z = c.before.before.before.before.before.before.before in
     omega (arith, z.requires.1.0.2)
 
-add_residual_tell_2 : tie.Need-overflow-add-residual-tell-2 invariant_loop decreases_loop
+add_residual_tell_2 : tie.Need-overflow_add-base invariant_loop decreases_loop
 add_residual_tell_2 c =
     let z = c.before.before.before.before.before.before.before.before in
-    omega (arith, rate_most z.requires.1.0.0, c.before.before.residual-pick-run.ensures)
+    omega (arith, rate_most z.requires.1.0.0, c.before.before.residual_pick_run-k.ensures)
 
-residual_tell_requires : tie.Need-residual-tell-requires invariant_loop decreases_loop
+residual_tell_requires : tie.Need-residual_tell-q-requires invariant_loop decreases_loop
 residual_tell_requires c κs =
     let z = c.before.before.before.before.before.before.before.before in
     let l = c.before.before.before.before.loop in
-    let u = z.requires.1.1 (l.i + 1) (omega arith) (omega (arith, c.before.before.before.loop-test.true)) in
+    let u = z.requires.1.1 (l.i + 1) (omega arith) (omega (arith, c.before.before.before.loop-i-test.true)) in
     let few : l.q.total ≤ 2 ^ 29 = omega (arith, z.requires.0.few, l.invariant.told.most, l.invariant.to, z.requires.1.0.2) in (
       record { core = l.invariant.told.core; few = few; rows = z.requires.0.rows },
-      (omega (arith, rate_most z.requires.1.0.0, c.before.before.residual-pick-run.ensures), rw (abs_kept w8 _ u (omega arith)) u),
+      (omega (arith, rate_most z.requires.1.0.0, c.before.before.residual_pick_run-k.ensures), rw (abs_kept w8 _ u (omega arith)) u),
     )
 
-loop_again : tie.Need-loop-preserved invariant_loop decreases_loop
+loop_again : tie.Need-loop-i-preserved invariant_loop decreases_loop
 loop_again c =
     let z = c.before.before.before.before.before.before.before.before.before.before.before in
     let l = c.before.before.before.before.before.before.before.loop in
     let a = c.before.before.residual-tell in
     let p = c.before.before.before.before.before.residual-pick-run in
-    let i = c.before.before.before.before.before.before.loop-test.true in
+    let i = c.before.before.before.before.before.before.loop-i-test.true in
     let v = get_or z.args.t4.nlsf (l.i + 1) (pos 0) in
     let u = z.requires.1.1 (l.i + 1) (omega arith) (omega (arith, i)) in
     let m = z.args.selectors.now in
@@ -92,15 +92,15 @@ loop_again c =
       kept = a.auto.0 ∙ l.invariant.kept;
     }
 
-same_length : tie.Need-same-length invariant_loop decreases_loop
-same_length c = c.before.loop.invariant.kept
+same_length : tie.Need-shape_of-buf invariant_loop decreases_loop
+same_length c = c.before.loop-i.invariant.kept
 
 returns : tie.Need-returns invariant_loop decreases_loop
 returns c =
     let z = c.before.before.before.before.before in
     let l = c.before.loop in
     told_within (omega (arith, l.invariant.to, z.requires.1.0.2))
-    (midway_end l.invariant.told (residuals_told_end z.args.n l.i z.args.t4 z.args.khz z.args.selectors.now c.loop-test.false))
+    (midway_end l.invariant.told (residuals_told_end z.args.n l.i z.args.t4 z.args.khz z.args.selectors.now c.loop-i-test.false))
 
 pub residuals_tell_spec : {M : Type 1} → statement M
 residuals_tell_spec =

@@ -31,31 +31,31 @@ index_below z = rw (index_is z) (omega (arith, z.requires.1.2.index.most))
 nlsf_size : (z : tie.Start) → length z.args.t4.nlsf ≡ 17
 nlsf_size z = search rules
 
-cast_v : tie.Need-overflow-cast-v
+cast_v : tie.Need-overflow_cast-v
 cast_v c =
     let z = c.before.before.before in
     rw (index_is z) (upto_fits (index z) (omega arith) z.requires.1.2.index)
 
-part_ec_enc_icdf8_run_end : tie.Need-slice-bounds-ec-enc-icdf8-run-end
+part_ec_enc_icdf8_run_end : tie.Need-slice_bounds-ec_enc_icdf8_run-end
 part_ec_enc_icdf8_run_end c =
     let z = c.before.before.before.before in
     omega (arith, below_four z, z.requires.0.rows.size)
 
-ec_enc_icdf8_run_requires : tie.Need-ec-enc-icdf8-run-requires
+ec_enc_icdf8_run_requires : tie.Need-ec_enc_icdf8_run-q-requires
 ec_enc_icdf8_run_requires c κs =
     let z = c.before.before.before.before.before in
     let t = first_index_row z.requires.0.rows _ (below_four z) in
     rw (index_is z) (z.requires.0.core, (omega (arith, z.requires.0.few), (t.good, t.writable _ (omega (arith, z.requires.1.2.index.most)))))
 
-selectors_run_requires : tie.Need-selectors-run-requires
+selectors_run_requires : tie.Need-selectors_run-s-requires
 selectors_run_requires c κs = index_below c.before.before.before.before.before.before.before.before
 
-residuals_tell_requires : tie.Need-residuals-tell-requires
+residuals_tell_requires : tie.Need-residuals_tell-requires
 residuals_tell_requires c κs =
     let z = c.before.before.before.before.before.before.before.before.before.before.before.before in
     let a = c.before.before.before.before.before.before.ec-enc-icdf8-run in
-    let s : length c.before.before.before.selectors-run.result ≡ 8 = search rules in
-    let o = c.order-of.ensures in (
+    let s : length c.before.before.before.selectors_run-s.result ≡ 8 = search rules in
+    let o = c.order_of.ensures in (
       record { core = a.ensures.core; few = omega (arith, a.ensures.most, z.requires.0.few); rows = z.requires.0.rows },
       (
         (z.requires.1.0, omega (arith, o, order_most z.args.khz), omega (arith, o, order_most z.args.khz)),
@@ -72,7 +72,7 @@ returns c =
     let e = residuals_picked z.args.khz s.result _ (book_of z.args.khz).order 0 z.args.t4 (λ j l. s.ensures j (omega arith)) in
     spectrum_told {n = 512} z.args.khz z.args.signal z.args.t4 (nlsf_size z) z.requires.1.2.index
     (first_index_row z.requires.0.rows _ (below_four z)).is (ap nat_abs (index_is z)) a.ensures
-    (rw (c.before.before.before.order-of.ensures, e) at f.ensures)
+    (rw (c.before.before.before.order_of.ensures, e) at f.ensures)
 
 pub spectrum_tell_run_spec : {M : Type 1} → statement M
 spectrum_tell_run_spec =

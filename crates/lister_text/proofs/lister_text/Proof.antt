@@ -46,25 +46,25 @@ unfolding lister_text
 put_cut s h t = rw h t
 
 -- where the input is whole, and where all its numbers are read
-abbrev start : tie.Then1 → tie.Start
+abbrev start : tie.Then-whole → tie.Start
 start t = t.before.before.before
 
-abbrev tested : tie.After-value-at-run → tie.Then1
+abbrev tested : tie.After-value_at_run-prevlag → tie.Then-whole
 tested v = v.before.before.before.before.before.before
 
-is_whole : (t : tie.Then1) → whole (start t).args.input.now ≡ true
-is_whole t = sym t.before.whole.ensures ∙ t.if1.true
+is_whole : (t : tie.Then-whole) → whole (start t).args.input.now ≡ true
+is_whole t = sym t.before.whole.ensures ∙ t.if-whole.true
 
-value_at_run_requires : tie.Need-value-at-run-requires
+value_at_run_requires : tie.Need-value_at_run-prevlag-requires
 value_at_run_requires c κs =
     let t = c.before.before.before.before.before in
     omega (arith, long (start t).args.input.now (is_whole t))
 
 -- the packet begins inside of the input
-inside : (v : tie.After-value-at-run) → 10 ≤ length (start (tested v)).args.input.now
+inside : (v : tie.After-value_at_run-prevlag) → 10 ≤ length (start (tested v)).args.input.now
 inside v = long (start (tested v)).args.input.now (is_whole (tested v))
 
-returns : tie.Need-returns
+returns : tie.Need-returns-then-whole
 returns c =
     let v = c.before.before.before in
     let t4 = v.before.before in
@@ -74,15 +74,15 @@ returns c =
     let t = tested v in
     let s = (start t).args.input.now in
     let e =
-    same s t1.number_at.ensures t2.number-at2.ensures t3.number-at3.ensures t4.number-at4.ensures
-    v.before.number-at5.ensures (to_z-of_z {w = w16} (sfits_of v.value-at-run.type-inv) ∙ v.value-at-run.ensures) in
-    printed_put (put_whole s (is_whole t) e c.put-read.ensures) (omega (arith, c.before.before.put-read-arg.given.0.1))
+    same s t1.number_at-khz.ensures t2.number_at-subframes.ensures t3.number_at-active.ensures t4.number_at-mode.ensures
+    v.before.number_at-prevtype.ensures (to_z-of_z {w = w16} (sfits_of v.value-at-run.type-inv) ∙ v.value_at_run-prevlag.ensures) in
+    printed_put (put_whole s (is_whole t) e c.put_read.ensures) (omega (arith, c.before.before.put_read-arg-1.given.0.1))
 
-returns_2 : tie.Need-returns-2
+returns_2 : tie.Need-returns
 returns_2 c =
     let t = c.before.before in
     let s = t.before.before.before.args.input.now in
-    printed_put (put_cut s (sym t.before.whole.ensures ∙ t.if1.false) c.put-cut-run.ensures) (search rules)
+    printed_put (put_cut s (sym t.before.whole.ensures ∙ t.if-whole.false) c.put_cut_run.ensures) (search rules)
 
 pub lister_text_spec : {M : Type 1} → statement M
 lister_text_spec =

@@ -47,68 +47,68 @@ offset_small (pos n) h = parts_fit (pos n) (omega (arith, h.most)) (omega arith)
 offset_small (negsuc n) h = let e = h.least in let q : ◌≡◌ {A = ℕ} 0 1 = cc in absurd (omega arith)
 
 -- where the indices are put, the blocks counted, and the pulses made
-abbrev start : tie.After-put-indices-run → tie.Start
+abbrev start : tie.After-put_indices_run-place → tie.Start
 start i = i.before.before.before.before.before
 
-abbrev listed : tie.After-blocks-of-run → tie.After-put-indices-run
+abbrev listed : tie.After-blocks_of_run-n → tie.After-put_indices_run-place
 listed n = n.before.before.before.before.before
 
-abbrev counted : tie.After-zeros → tie.After-blocks-of-run
+abbrev counted : tie.After-zeros-pulses → tie.After-blocks_of_run-n
 counted o = o.before
 
 -- the pulses that are lent
-room : (o : tie.After-zeros) → 16 * (counted o).blocks-of-run.result ≤ length o.zeros.result
+room : (o : tie.After-zeros-pulses) → 16 * (counted o).blocks_of_run-n.result ≤ length o.zeros-pulses.result
 room o =
     let n = counted o in
-    omega (arith, n.blocks-of-run.ensures, few (start (listed n)), ap length o.zeros.ensures, length-replicate 320 (pos 0))
+    omega (arith, n.blocks_of_run-n.ensures, few (start (listed n)), ap length o.zeros-pulses.ensures, length-replicate 320 (pos 0))
 
-lent : (o : tie.After-zeros)
-    → let n = (counted o).blocks-of-run.result in
-    length (take (16 * n) o.zeros.result) ≡ 16 * n
-lent o = length-take-le (16 * (counted o).blocks-of-run.result) o.zeros.result (room o)
+lent : (o : tie.After-zeros-pulses)
+    → let n = (counted o).blocks_of_run-n.result in
+    length (take (16 * n) o.zeros-pulses.result) ≡ 16 * n
+lent o = length-take-le (16 * (counted o).blocks_of_run-n.result) o.zeros-pulses.result (room o)
 
-blanks : (o : tie.After-zeros)
+blanks : (o : tie.After-zeros-pulses)
     → let a = (start (listed (counted o))).args in
-    take (16 * (counted o).blocks-of-run.result) o.zeros.result ≡ replicate (16 * blocks_of a.khz a.subframes) (pos 0)
+    take (16 * (counted o).blocks_of_run-n.result) o.zeros-pulses.result ≡ replicate (16 * blocks_of a.khz a.subframes) (pos 0)
 blanks o =
     let n = (counted o).blocks-of-run in
-    ap (λ (k : List ℤ). take (16 * n.result) k) o.zeros.ensures
+    ap (λ (k : List ℤ). take (16 * n.result) k) o.zeros-pulses.ensures
     ∙ take_same (16 * n.result) 320 (pos 0) (omega (arith, n.ensures, few (start (listed (counted o)))))
     ∙ ap (λ (k : ℕ). replicate (16 * k) (pos 0)) n.ensures
 
-put_indices_run_requires : tie.Need-put-indices-run-requires
+put_indices_run_requires : tie.Need-put_indices_run-place-requires
 put_indices_run_requires c κs =
     let z = c.before.before.before.before in
     ((search rules, rate_most z.requires.1.0.0), (z.requires.1.1.0, z.requires.1.0.1))
 
-cast_offset : tie.Need-overflow-cast-offset
+cast_offset : tie.Need-overflow_cast-offset
 cast_offset c =
     let z = start c.before.before.before.before in
     let o = z.pre.1.1.1 in
     rw (to_z-of_z (offset_small z.args.a.indices.offset o)) (offset_fits z.args.a.indices.offset o)
 
-blocks_of_run_requires : tie.Need-blocks-of-run-requires
+blocks_of_run_requires : tie.Need-blocks_of_run-n-requires
 blocks_of_run_requires c κs =
     let p = (start c.before.before.before.before).requires.1.0 in
     (rate_most p.0, subframes_most p.1)
 
-mul_n : tie.Need-overflow-mul-n
-mul_n c = omega (arith, c.blocks-of-run.ensures, few (start (listed c)))
+mul_n : tie.Need-overflow_mul-n
+mul_n c = omega (arith, c.blocks_of_run-n.ensures, few (start (listed c)))
 
-array_borrow_prefix_pulses : tie.Need-array-borrow-prefix-pulses
+array_borrow_prefix_pulses : tie.Need-slice_bounds-pulses-end
 array_borrow_prefix_pulses c = room c.before
 
-slice_aggregate_put_pulses : tie.Need-slice-aggregate-put-pulses
+slice_aggregate_put_pulses : tie.Need-slice_bounds-put_pulses-end
 slice_aggregate_put_pulses c = sym (lent c.before.before)
 
-put_pulses_requires : tie.Need-put-pulses-requires
+put_pulses_requires : tie.Need-put_pulses-requires
 put_pulses_requires c κs =
     let o = c.before.before in
     let i = listed (counted o) in
     let p = (start i).pre in
     let e = i.put-indices-run in (
       (omega (arith, e.ensures.behind, e.ensures.most, e.kept.0, p.0), rate_most p.1.0.0, subframes_most p.1.0.1),
-      lent o ∙ ap (λ (k : ℕ). 16 * k) (counted o).blocks-of-run.ensures,
+      lent o ∙ ap (λ (k : ℕ). 16 * k) (counted o).blocks_of_run-n.ensures,
     )
 
 -- the text of the pulses is that of the numbers that the frame has
@@ -123,10 +123,10 @@ returns c =
     let z = start i in
     let a = z.args in
     let f = ap nat_abs (to_z-of_z (offset_small a.a.indices.offset z.pre.1.1.1)) in
-    let p = take (16 * (counted o).blocks-of-run.result) o.zeros.result in
+    let p = take (16 * (counted o).blocks_of_run-n.result) o.zeros-pulses.result in
     let v = nat_abs (to_z w8 (of_z w8 a.a.indices.offset)) in
     let u = excitation_text a.packet.now a.a.state p a.khz a.subframes a.a.prevtype v in
-    put_as (put_then {u = u} i.put-indices-run.ensures c.before.before.before.put-pulses.ensures)
+    put_as (put_then {u = u} i.put_indices_run-place.ensures c.before.before.before.put_pulses.ensures)
     (same_text (indices_text a.khz a.subframes a.a.indices) a.packet.now a.a.state a.khz a.subframes (blanks o)
     z.pre.1.1.0 f)
     (omega arith)

@@ -10,32 +10,32 @@ use Rattle.frame_text.specs.FrameText.{pulses_text}
 use Rattle.lister_text.proofs.put_pulses.Statement.{statement}
 use Rattle.lister_text.proofs.put_pulses.Tie as tie
 
-abbrev start : tie.After-silk-decode-pulses → tie.Start
+abbrev start : tie.After-silk_decode_pulses → tie.Start
 start r = r.before.before.before.before
 
 -- where the blocks are counted, the pulses are read
-abbrev read : tie.After-blocks-of-run → tie.After-silk-decode-pulses
+abbrev read : tie.After-blocks_of_run-blocks → tie.After-silk_decode_pulses
 read n = n.before.before
 
 few : (z : tie.Start) → blocks_of z.args.f.khz z.args.f.subframes ≤ 20
 few z = blocks_most z.args.f.khz z.args.f.subframes z.requires.0.1 z.requires.0.2
 
-put_pulses_run_requires : tie.Need-put-pulses-run-requires
+put_pulses_run_requires : tie.Need-put_pulses_run-requires
 put_pulses_run_requires c κs =
     let n = c.before.before in
-    let e = n.blocks-of-run.ensures in
+    let e = n.blocks_of_run-blocks.ensures in
     let m = few (start (read n)) in
-    (omega (arith, e), omega (arith, e), omega (arith, e, (read n).silk-decode-pulses.auto.1.1.0))
+    (omega (arith, e), omega (arith, e), omega (arith, e, (read n).silk_decode_pulses.auto.1.1.0))
 
 returns : tie.Need-returns
 returns c =
     let n = c.before.before.before.before.before in
     let r = read n in
     let a = (start r).args in
-    let q = decode_pulses a.packet.now a.d a.pulses.now a.f.khz a.f.subframes a.f.signal a.f.offset in
-    let e = ap (λ (p : Pulsed). p.pulses) {y = q} r.silk-decode-pulses.ensures in
-    put_as c.before.before.put-pulses-run.ensures (ap₂ pulses_text {v = q.pulses} n.blocks-of-run.ensures e)
-    (omega (arith, n.blocks-of-run.ensures, few (start r)))
+    let q = decode_pulses a.packet.now a.d a.pulses-1.now a.f.khz a.f.subframes a.f.signal a.f.offset in
+    let e = ap (λ (p : Pulsed). p.pulses) {y = q} r.silk_decode_pulses.ensures in
+    put_as c.before.before.put_pulses_run.ensures (ap₂ pulses_text {v = q.pulses} n.blocks_of_run-blocks.ensures e)
+    (omega (arith, n.blocks_of_run-blocks.ensures, few (start r)))
 
 pub put_pulses_spec : {M : Type 1} → statement M
 put_pulses_spec =

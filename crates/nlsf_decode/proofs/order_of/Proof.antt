@@ -6,4 +6,4 @@ use Rattle.nlsf_decode.proofs.order_of.Tie as tie
 pub order_of_spec : {M : Type 1} → statement M
 order_of_spec =
     tie.close
-    (tie.spec (λ c. order_is (wide_under _ c.if1.true)) (λ c. order_is (narrow_under _ c.if1.false)))
+    (tie.spec (λ c. order_is (wide_under _ c.if-khz-eq16.true)) (λ c. order_is (narrow_under _ c.if-khz-eq16.false)))

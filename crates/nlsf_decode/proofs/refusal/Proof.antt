@@ -6,19 +6,19 @@ use Rattle.spectrum.specs.Calls.{decode_refusal}
 use Rattle.nlsf_decode.proofs.refusal.Statement.{statement}
 use Rattle.nlsf_decode.proofs.refusal.Tie as tie
 
-returns : tie.Need-returns
+returns : tie.Need-returns-then-vector-order_of
 unfolding decode_refusal
 returns c =
-    rw (sym c.before.before.before.numbers-ok.ensures ∙ c.before.before.if1.true, eq-eqb _ _ (c.if2.true ∙ c.before.order-of.ensures))
+    rw (sym c.before.before.before.numbers_ok.ensures ∙ c.before.before.if-numbers_ok.true, eq-eqb _ _ (c.if-vector-order_of.true ∙ c.before.order_of.ensures))
 
-returns_2 : tie.Need-returns-2
+returns_2 : tie.Need-returns-else-vector-order_of
 unfolding decode_refusal
 returns_2 c =
-    rw (sym c.before.before.before.numbers-ok.ensures ∙ c.before.before.if1.true, ne_eqb _ _ (λ h. c.if2.false (h ∙ sym c.before.order-of.ensures)))
+    rw (sym c.before.before.before.numbers_ok.ensures ∙ c.before.before.if-numbers_ok.true, ne_eqb _ _ (λ h. c.if-vector-order_of.false (h ∙ sym c.before.order_of.ensures)))
 
-returns_3 : tie.Need-returns-3
+returns_3 : tie.Need-returns-else-numbers_ok
 unfolding decode_refusal
-returns_3 c = rw (sym c.before.numbers-ok.ensures ∙ c.if1.false)
+returns_3 c = rw (sym c.before.numbers_ok.ensures ∙ c.if-numbers_ok.false)
 
 pub refusal_spec : {M : Type 1} → statement M
 refusal_spec =

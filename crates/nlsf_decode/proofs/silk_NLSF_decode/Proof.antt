@@ -7,23 +7,23 @@ use Rattle.spectrum.specs.Calls.{called}
 use Rattle.nlsf_decode.proofs.silk_NLSF_decode.Statement.{statement}
 use Rattle.nlsf_decode.proofs.silk_NLSF_decode.Tie as tie
 
-decode_requires : tie.Need-decode-requires
-decode_requires c κs = sym c.before.before.refusal.ensures ∙ c.before.if1.true
+decode_requires : tie.Need-decode-m-requires
+decode_requires c κs = sym c.before.before.refusal-n.ensures ∙ c.before.if-n-eq0.true
 
-returns : tie.Need-returns
+returns : tie.Need-returns-then-n-eq0
 returns c =
     let b = c.before.before.before.before in
     let a = b.before.before.before.args in
-    decode_answers a.vector.now a.indices a.khz c.before.decode.new.0 c.before.decode.result
-    (sym b.refusal.ensures ∙ c.before.before.before.if1.true)
-    c.before.decode.ensures
+    decode_answers a.vector-1.now a.indices a.khz c.before.decode-m.new.0 c.before.decode-m.result
+    (sym b.refusal-n.ensures ∙ c.before.before.before.if-n-eq0.true)
+    c.before.decode-m.ensures
 
-returns_2 : tie.Need-returns-2
+returns_2 : tie.Need-returns-else-n-eq0
 returns_2 c =
     let a = c.before.before.before.before.args in
-    let e = c.before.refusal.ensures in
-    ap (λ (n : ℕ). called a.vector.now n 0) e
-    ∙ decode_refuses a.vector.now a.indices a.khz (λ h. c.if1.false (e ∙ h))
+    let e = c.before.refusal-n.ensures in
+    ap (λ (n : ℕ). called a.vector-1.now n 0) e
+    ∙ decode_refuses a.vector-1.now a.indices a.khz (λ h. c.if-n-eq0.false (e ∙ h))
 
 pub silk_NLSF_decode_spec : {M : Type 1} → statement M
 silk_NLSF_decode_spec =

@@ -41,16 +41,16 @@ sums : (c : tie.Start)
     ≡ quot_z (c.args.r *ℤ pos 16384) (pos c.args.weight) +ℤ pos (c.args.value * 128)
 sums c = rw (divides c, to_z-of_z (quotient c), to_z_pos w32 {n = c.args.value} (omega arith), to_z-of_z (base c))
 
-mul_result : tie.Need-overflow-mul-result
+mul_result : tie.Need-overflow_mul-result
 mul_result c = rw (to_z-of_z c.ranges.r) (product c)
 
-div_result : tie.Need-nonzero-div-result
+div_result : tie.Need-nonzero_div-result
 div_result c = (omega arith, rw (divides c) (quotient c))
 
-mul_result_2 : tie.Need-overflow-mul-result-2
+mul_result_2 : tie.Need-overflow_mul-result-2
 mul_result_2 c = rw (to_z_pos w32 {n = c.args.value} (omega arith)) (base c)
 
-add_result : tie.Need-overflow-add-result
+add_result : tie.Need-overflow_add-result
 add_result c = rw (sums c) (fits c)
 
 returns : tie.Need-returns

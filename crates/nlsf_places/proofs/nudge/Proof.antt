@@ -53,7 +53,7 @@ module _ (x : ℤ) (f : SFits w8 x) where
   product = rw reads (to_z-of_z times)
 
 -- what the machine adds
-sums : (c : tie.After-toward-zero) → let x = c.before.args.x in
+sums : (c : tie.After-toward_zero) → let x = c.before.args.x in
     to_z w32 (of_z w32 (to_z w32 (of_z w32 (to_z w8 (of_z w8 x))) *ℤ pos 1024)) +ℤ to_z w32 (of_z w32 c.toward_zero.result) ≡ x *ℤ pos 1024 +ℤ toward_zero x
 sums c =
     let x = c.before.args.x in
@@ -61,13 +61,13 @@ sums c =
     let e : c.toward_zero.result ≡ toward_zero x = rw (to_z-of_z f) at c.toward_zero.ensures in
     rw (product x f, to_z-of_z {w = w32} (sfits_of c.toward_zero.type-inv), e)
 
-cast_result : tie.Need-overflow-cast-result
+cast_result : tie.Need-overflow_cast-result
 cast_result c = rw (to_z-of_z c.ranges.x) (wide c.args.x c.ranges.x)
 
-mul_result : tie.Need-overflow-mul-result
+mul_result : tie.Need-overflow_mul-result
 mul_result c = rw (reads c.args.x c.ranges.x) (times c.args.x c.ranges.x)
 
-add_result : tie.Need-overflow-add-result
+add_result : tie.Need-overflow_add-result
 add_result c = rw (sums c) (sum c.before.args.x c.before.ranges.x)
 
 returns : tie.Need-returns

@@ -81,27 +81,27 @@ even_by e p k =
 
 -- ---- the places of the code
 
-abbrev invariant_loop : tie.invariant_loop
+abbrev invariant_loop : tie.invariant-loop-k
 invariant_loop v₀ xs step e p b shares roots q₀ r₀ k₀ v q r k = Came (weighted step e p b) v₀ xs v (to_z w32 r) q (2 * k)
 
-abbrev decreases_loop : tie.decreases_loop
+abbrev decreases_loop : tie.decreases-loop-k
 decreases_loop v₀ xs step e p b shares roots q₀ r₀ k₀ v q r k = k
 
-abbrev start : tie.At-loop invariant_loop decreases_loop → tie.Start invariant_loop decreases_loop
+abbrev start : tie.At-loop-k invariant_loop decreases_loop → tie.Start invariant_loop decreases_loop
 start b = b.before.before.before.before.before.before.before.before
 
 -- the loop's head behind the odd place's residual; that residual behind the odd place; the odd place behind the even one's residual, and
 -- that behind the even place
-abbrev head : tie.After-residual invariant_loop decreases_loop → tie.At-loop invariant_loop decreases_loop
+abbrev head : tie.After-residual-r invariant_loop decreases_loop → tie.At-loop-k invariant_loop decreases_loop
 head d = d.before.before.before.before.before
 
-abbrev odd_res : tie.After-place invariant_loop decreases_loop → tie.After-residual invariant_loop decreases_loop
+abbrev odd_res : tie.After-place invariant_loop decreases_loop → tie.After-residual-r invariant_loop decreases_loop
 odd_res m = m.before.before.before.before.before
 
-abbrev odd : tie.After-residual2 invariant_loop decreases_loop → tie.After-place invariant_loop decreases_loop
+abbrev odd : tie.After-residual-r-in-loop-k invariant_loop decreases_loop → tie.After-place invariant_loop decreases_loop
 odd d = d.before.before.before
 
-abbrev even_res : tie.After-place2 invariant_loop decreases_loop → tie.After-residual2 invariant_loop decreases_loop
+abbrev even_res : tie.After-place-in-loop-k invariant_loop decreases_loop → tie.After-residual-r-in-loop-k invariant_loop decreases_loop
 even_res c = c.before.before.before.before.before
 
 -- the rows that are lent, with the weights that they give
@@ -111,42 +111,42 @@ lent s =
     weighted a.step a.selectors.now a.lists.now a.values.now
 
 -- predictors are bytes, so each residual fits
-fitting : (b : tie.At-loop invariant_loop decreases_loop) → (k : ℕ) → Mag 29200 (at (residuals_by (lent (start b)) (start b).args.xs.now) k)
+fitting : (b : tie.At-loop-k invariant_loop decreases_loop) → (k : ℕ) → Mag 29200 (at (residuals_by (lent (start b)) (start b).args.xs.now) k)
 unfolding predictor_of
 fitting b =
     let s = start b in
     near (lent s) s.args.vector.now s.args.xs.now s.pre
     (λ i.
     let l = list_of (get_or s.args.selectors.now (i / 2) 0) i in
-    omega (arith, b.before.before.before.before.before.before.shared-slice-known2.given (2 * i + l)))
+    omega (arith, b.before.before.before.before.before.before.shared_slice_known-2-1.given (2 * i + l)))
 
 -- the residual that the machine has at the odd place
-odd_residual : (c : tie.After-residual invariant_loop decreases_loop) → let b = head c in
-    to_z w32 (of_z w32 c.residual.result) ≡ at (residuals_by (lent (start b)) (start b).args.xs.now) (2 * (b.loop.k - 1) + 1)
+odd_residual : (c : tie.After-residual-r invariant_loop decreases_loop) → let b = head c in
+    to_z w32 (of_z w32 c.residual-r.result) ≡ at (residuals_by (lent (start b)) (start b).args.xs.now) (2 * (b.loop-k.k - 1) + 1)
 odd_residual c =
     let b = head c in
     let s = start b in
     let t = lent s in
-    let k = b.loop.k - 1 in
+    let k = b.loop-k.k - 1 in
     let j = 2 * k + 1 in
     let x = at s.args.xs.now j in
-    let f : SFits w8 x = sfits_of c.before.before.residual-arg.given in
+    let f : SFits w8 x = sfits_of c.before.before.residual-arg-1.given in
     let l : c.before.predictor.result ≡ predictor_of t.lists (get_or t.selectors k 0 / 16 % 2) j = c.before.predictor.ensures in
     let p = l ∙ odd_by t.selectors t.lists k in
-    let r = to_z w32 b.loop.r in
+    let r = to_z w32 b.loop-k.r in
     let g = scaled s.args.step x in
     to_z-of_z {w = w32} (sfits_of c.residual.type-inv)
-    ∙ (rw (to_z-of_z f) at c.residual.ensures)
+    ∙ (rw (to_z-of_z f) at c.residual-r.ensures)
     ∙ ap (λ (n : ℕ). predicted n r +ℤ g) p
-    ∙ turn t s.args.vector.now s.args.xs.now s.pre j (2 * b.loop.k) r (omega arith) b.loop.inv.here b.loop.inv.left
+    ∙ turn t s.args.vector.now s.args.xs.now s.pre j (2 * b.loop-k.k) r (omega arith) b.loop-k.inv.here b.loop-k.inv.left
 
-last_share_run_requires : tie.Need-last-share-run-requires invariant_loop decreases_loop
+last_share_run_requires : tie.Need-last_share_run-q-requires invariant_loop decreases_loop
 last_share_run_requires c κs =
     let s = c.before.before.before.before.before.before in
     let o = s.requires in
-    (c.before.before.shares.ensures, (omega (arith, o.some, o.book), o.rising))
+    (c.before.before.shares-shares.ensures, (omega (arith, o.some, o.book), o.rising))
 
-loop_holds : tie.Need-loop-init invariant_loop decreases_loop
+loop_holds : tie.Need-loop-k-init invariant_loop decreases_loop
 loop_holds c =
     let s = c.before.before.before.before.before.before.before in
     let t = lent s in
@@ -158,171 +158,171 @@ loop_holds c =
       here = omega (arith, n);
       done = subst (λ (k : ℕ). Down (places_by t xs) v v k) n (down_start (places_by t xs) v);
       left = sym (subst (λ (k : ℕ). at (residuals_by t xs) k ≡ pos 0) n (none_behind t v xs o));
-      share = c.last-share-run.ensures ∙ ap (share_at s.args.values.now) (o.book ∙ n);
+      share = c.last_share_run-q.ensures ∙ ap (share_at s.args.values.now) (o.book ∙ n);
     }
 
 predictor_requires : tie.Need-predictor-requires invariant_loop decreases_loop
 predictor_requires c κs =
     let b = c.before.before.before in
     let o = (start b).requires in
-    (omega arith, omega (arith, o.lists, b.loop.invariant.here))
+    (omega arith, omega (arith, o.lists, b.loop-k.invariant.here))
 
-residual_requires : tie.Need-residual-requires invariant_loop decreases_loop
+residual_requires : tie.Need-residual-r-requires invariant_loop decreases_loop
 residual_requires c κs =
     let b = c.before.before.before.before in
     let s = start b in
-    let j = 2 * (b.loop.k - 1) + 1 in
+    let j = 2 * (b.loop-k.k - 1) + 1 in
     let x = at s.args.xs.now j in
-    let f : SFits w8 x = sfits_of c.before.residual-arg.given in
+    let f : SFits w8 x = sfits_of c.before.residual-arg-1.given in
     let w = within_at 10 10 s.args.xs.now s.pre.tens j in
-    let n : Mag 29200 (to_z w32 b.loop.r) = rw b.loop.invariant.left (fitting b (2 * b.loop.k)) in
+    let n : Mag 29200 (to_z w32 b.loop-k.r) = rw b.loop-k.invariant.left (fitting b (2 * b.loop-k.k)) in
     rw (to_z-of_z f) (((w.1, w.0), s.pre.small), n)
 
-weigh_run_requires : tie.Need-weigh-run-requires invariant_loop decreases_loop
+weigh_run_requires : tie.Need-weigh_run-w-requires invariant_loop decreases_loop
 weigh_run_requires c κs =
     let b = c.before.before.before.before.before.before.before in
     let s = start b in
-    let e : 2 * b.loop.k ≡ suc (2 * (b.loop.k - 1) + 1) = omega arith in
+    let e : 2 * b.loop-k.k ≡ suc (2 * (b.loop-k.k - 1) + 1) = omega arith in
     record {
-      shares = b.before.before.before.before.shares.ensures;
-      roots = b.before.before.before.roots.ensures;
+      shares = b.before.before.before.before.shares-shares.ensures;
+      roots = b.before.before.before.roots-roots.ensures;
       rising = s.pre.rising;
-      inside = omega (arith, s.pre.book, b.loop.invariant.here);
-      behind = b.loop.invariant.share ∙ ap (share_at s.args.values.now) e;
+      inside = omega (arith, s.pre.book, b.loop-k.invariant.here);
+      behind = b.loop-k.invariant.share ∙ ap (share_at s.args.values.now) e;
     }
 
 place_requires : tie.Need-place-requires invariant_loop decreases_loop
 place_requires c κs =
     let d = c.before.before.before.before in
     let b = head d in
-    let j = 2 * (b.loop.k - 1) + 1 in
-    let w = (start b).pre.heavy j (omega (arith, b.loop.inv.here)) in
-    (rw (odd_residual d) (fitting b j), omega (arith, c.before.weigh-run.ensures.0, w))
+    let j = 2 * (b.loop-k.k - 1) + 1 in
+    let w = (start b).pre.heavy j (omega (arith, b.loop-k.inv.here)) in
+    (rw (odd_residual d) (fitting b j), omega (arith, c.before.weigh_run-w.ensures.0, w))
 
 -- behind the odd place
 midway : (c : tie.After-place invariant_loop decreases_loop) → let d = odd_res c in
     let b = head d in
     let s = start b in
-    let j = 2 * (b.loop.k - 1) + 1 in
-    let v = set b.loop.vector j (to_z w16 (of_z w16 c.place.result)) in
-    let r = to_z w32 (of_z w32 d.residual.result) in
-    Came (lent s) s.args.vector.now s.args.xs.now v r c.before.before.weigh-run.result.share j
+    let j = 2 * (b.loop-k.k - 1) + 1 in
+    let v = set b.loop-k.vector j (to_z w16 (of_z w16 c.place.result)) in
+    let r = to_z w32 (of_z w32 d.residual-r.result) in
+    Came (lent s) s.args.vector.now s.args.xs.now v r c.before.before.weigh_run-w.result.share j
 midway c =
     let d = odd_res c in
     let b = head d in
     let s = start b in
     let w = c.before.before.weigh-run in
-    let j = 2 * (b.loop.k - 1) + 1 in
+    let j = 2 * (b.loop-k.k - 1) + 1 in
     let r = odd_residual d in
-    let p = puts (lent s) s.args.vector.now s.args.xs.now s.pre j (omega (arith, b.loop.inv.here)) in
+    let p = puts (lent s) s.args.vector.now s.args.xs.now s.pre j (omega (arith, b.loop-k.inv.here)) in
     let x = get_or s.args.values.now j 0 in
     let z = to_z-of_z {w = w16} (sfits_of c.place.type-inv) ∙ c.place.ensures ∙ ap₂ (placed x) w.ensures.0 r ∙ p in
-    went (lent s) s.args.vector.now s.args.xs.now s.pre b.loop.inv (omega arith) r z w.ensures.1
+    went (lent s) s.args.vector.now s.args.xs.now s.pre b.loop-k.inv (omega arith) r z w.ensures.1
 
 -- the residual that it has at the even place
-even_residual : (c : tie.After-residual2 invariant_loop decreases_loop) → let b = head (odd_res (odd c)) in
-    to_z w32 (of_z w32 c.residual2.result) ≡ at (residuals_by (lent (start b)) (start b).args.xs.now) (2 * (b.loop.k - 1))
+even_residual : (c : tie.After-residual-r-in-loop-k invariant_loop decreases_loop) → let b = head (odd_res (odd c)) in
+    to_z w32 (of_z w32 c.residual-r-in-loop-k.result) ≡ at (residuals_by (lent (start b)) (start b).args.xs.now) (2 * (b.loop-k.k - 1))
 even_residual c =
     let m = odd c in
     let d = odd_res m in
     let b = head d in
     let s = start b in
     let t = lent s in
-    let k = b.loop.k - 1 in
+    let k = b.loop-k.k - 1 in
     let i = 2 * k in
     let x = at s.args.xs.now i in
-    let r = to_z w32 (of_z w32 d.residual.result) in
-    let f : SFits w8 x = sfits_of c.before.before.residual-arg2.given in
-    let l : c.before.predictor2.result ≡ predictor_of t.lists (get_or t.selectors k 0 % 2) i = c.before.predictor2.ensures in
+    let r = to_z w32 (of_z w32 d.residual-r.result) in
+    let f : SFits w8 x = sfits_of c.before.before.residual-arg-in-loop-k-1.given in
+    let l : c.before.predictor-in-loop-k.result ≡ predictor_of t.lists (get_or t.selectors k 0 % 2) i = c.before.predictor-in-loop-k.ensures in
     let p = l ∙ even_by t.selectors t.lists k in
     let g = scaled s.args.step x in
     to_z-of_z {w = w32} (sfits_of c.residual2.type-inv)
-    ∙ (rw (to_z-of_z f) at c.residual2.ensures)
+    ∙ (rw (to_z-of_z f) at c.residual-r-in-loop-k.ensures)
     ∙ ap (λ (n : ℕ). predicted n r +ℤ g) p
     ∙ turn t s.args.vector.now s.args.xs.now s.pre i (2 * k + 1) r (omega arith) (midway m).here (midway m).left
 
-predictor_requires_2 : tie.Need-predictor-requires-2 invariant_loop decreases_loop
+predictor_requires_2 : tie.Need-predictor-requires-in-loop-k invariant_loop decreases_loop
 predictor_requires_2 c κs =
     let b = head (odd_res c.before) in
     let o = (start b).pre in
-    (omega arith, omega (arith, o.lists, b.loop.inv.here))
+    (omega arith, omega (arith, o.lists, b.loop-k.inv.here))
 
-residual_requires_2 : tie.Need-residual-requires-2 invariant_loop decreases_loop
+residual_requires_2 : tie.Need-residual-r-requires-in-loop-k invariant_loop decreases_loop
 residual_requires_2 c κs =
     let m = c.before.before in
     let b = head (odd_res m) in
     let s = start b in
-    let i = 2 * (b.loop.k - 1) in
+    let i = 2 * (b.loop-k.k - 1) in
     let x = at s.args.xs.now i in
-    let f : SFits w8 x = sfits_of c.before.residual-arg2.given in
+    let f : SFits w8 x = sfits_of c.before.residual-arg-in-loop-k-1.given in
     let w = within_at 10 10 s.args.xs.now s.pre.tens i in
-    let n : Mag 29200 (to_z w32 (of_z w32 (odd_res m).residual.result)) = rw (midway m).left (fitting b (i + 1)) in
+    let n : Mag 29200 (to_z w32 (of_z w32 (odd_res m).residual-r.result)) = rw (midway m).left (fitting b (i + 1)) in
     rw (to_z-of_z f) (((w.1, w.0), s.pre.small), n)
 
-weigh_run_requires_2 : tie.Need-weigh-run-requires-2 invariant_loop decreases_loop
+weigh_run_requires_2 : tie.Need-weigh_run-u-requires invariant_loop decreases_loop
 weigh_run_requires_2 c κs =
     let m = odd c.before.before in
     let b = head (odd_res m) in
     let s = start b in
     record {
-      shares = b.before.before.before.before.shares.ensures;
-      roots = b.before.before.before.roots.ensures;
+      shares = b.before.before.before.before.shares-shares.ensures;
+      roots = b.before.before.before.roots-roots.ensures;
       rising = s.pre.rising;
-      inside = omega (arith, s.pre.book, b.loop.inv.here);
+      inside = omega (arith, s.pre.book, b.loop-k.inv.here);
       behind = (midway m).share ∙ ap (share_at s.args.values.now) (omega arith);
     }
 
-place_requires_2 : tie.Need-place-requires-2 invariant_loop decreases_loop
+place_requires_2 : tie.Need-place-requires-in-loop-k invariant_loop decreases_loop
 place_requires_2 c κs =
     let d = c.before.before.before.before in
     let b = head (odd_res (odd d)) in
     let o = (start b).pre in
-    let i = 2 * (b.loop.k - 1) in
-    let w = o.heavy i (omega (arith, o.some, b.loop.inv.here)) in
-    (rw (even_residual d) (fitting b i), omega (arith, c.before.weigh-run2.ensures.0, w))
+    let i = 2 * (b.loop-k.k - 1) in
+    let w = o.heavy i (omega (arith, o.some, b.loop-k.inv.here)) in
+    (rw (even_residual d) (fitting b i), omega (arith, c.before.weigh_run-u.ensures.0, w))
 
-loop_again : tie.Need-loop-preserved invariant_loop decreases_loop
+loop_again : tie.Need-loop-k-preserved invariant_loop decreases_loop
 loop_again c =
     let d = even_res c in
     let m = odd d in
     let b = head (odd_res m) in
     let s = start b in
     let w = c.before.before.weigh-run2 in
-    let i = 2 * (b.loop.k - 1) in
+    let i = 2 * (b.loop-k.k - 1) in
     let r = even_residual d in
-    let p = puts (lent s) s.args.vector.now s.args.xs.now s.pre i (omega (arith, b.loop.inv.here)) in
+    let p = puts (lent s) s.args.vector.now s.args.xs.now s.pre i (omega (arith, b.loop-k.inv.here)) in
     let x = get_or s.args.values.now i 0 in
-    let z = to_z-of_z {w = w16} (sfits_of c.place2.type-inv) ∙ c.place2.ensures ∙ ap₂ (placed x) w.ensures.0 r ∙ p in
+    let z = to_z-of_z {w = w16} (sfits_of c.place2.type-inv) ∙ c.place-in-loop-k.ensures ∙ ap₂ (placed x) w.ensures.0 r ∙ p in
     went (lent s) s.args.vector.now s.args.xs.now s.pre (midway m) (omega arith) r z w.ensures.1
 
 returns : tie.Need-returns invariant_loop decreases_loop
 returns c =
     let b = c.before in
     let s = start b in
-    let e : b.loop.k ≡ 0 = omega arith in
-    down_end (places_by (lent s) s.args.xs.now) s.args.vector.now b.loop.vector
+    let e : b.loop-k.k ≡ 0 = omega arith in
+    down_end (places_by (lent s) s.args.xs.now) s.args.vector.now b.loop-k.vector
     (full (lent s) s.args.vector.now s.args.xs.now s.pre)
-    (rw e at b.loop.invariant.done)
+    (rw e at b.loop-k.invariant.done)
 
 -- what the search does not reach
-read_even : tie.Need-shared-slice-read-place-2 invariant_loop decreases_loop
+read_even : tie.Need-bounds-values-i invariant_loop decreases_loop
 read_even c =
     let b = head (odd_res (odd c.before.before.before.before)) in
-    omega (arith, (start b).pre.book, b.loop.inv.here)
+    omega (arith, (start b).pre.book, b.loop-k.inv.here)
 
-mul_even : tie.Need-overflow-mul-t24 invariant_loop decreases_loop
+mul_even : tie.Need-offset_bounds-vector-i invariant_loop decreases_loop
 mul_even c =
     let b = head (odd_res (odd (even_res c))) in
-    omega (arith, (start b).pre.few, b.loop.inv.here)
+    omega (arith, (start b).pre.few, b.loop-k.inv.here)
 
-write_even : tie.Need-slice-set-from-vector-2 invariant_loop decreases_loop
+write_even : tie.Need-bounds-vector-i invariant_loop decreases_loop
 write_even c =
     let m = odd (even_res c) in
     let b = head (odd_res m) in
-    omega (arith, (midway m).done.long, (start b).pre.some, b.loop.inv.here)
+    omega (arith, (midway m).done.long, (start b).pre.some, b.loop-k.inv.here)
 
-loop_less : tie.Need-loop-smaller invariant_loop decreases_loop
-loop_less c = omega (arith, (odd_res (odd (even_res c))).before.before.before.before.loop-test.taken)
+loop_less : tie.Need-loop-k-smaller invariant_loop decreases_loop
+loop_less c = omega (arith, (odd_res (odd (even_res c))).before.before.before.before.loop-k-test.taken)
 
 pub places_run_spec : {M : Type 1} → statement M
 places_run_spec =

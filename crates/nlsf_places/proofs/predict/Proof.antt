@@ -19,7 +19,7 @@ product c = times_fits c.args.r c.args.p 29200 256 c.requires.0 c.requires.1 (om
 reads : (c : tie.Start) → to_z w32 (of_z w32 c.args.r) *ℤ to_z w32 c.args.p ≡ c.args.r *ℤ pos c.args.p
 reads c = rw (to_z-of_z c.ranges.r, to_z_pos w32 {n = c.args.p} (omega arith))
 
-mul_result : tie.Need-overflow-mul-result
+mul_result : tie.Need-overflow_mul-result
 mul_result c = rw (reads c) (product c)
 
 returns : tie.Need-returns

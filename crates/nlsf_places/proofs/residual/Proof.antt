@@ -32,7 +32,7 @@ sums c =
     let g : c.scale.result ≡ scaled a.step a.x = rw (to_z-of_z f.x) at c.scale.ensures in
     rw (to_z-of_z {w = w32} (sfits_of c.before.predict.type-inv), to_z-of_z {w = w32} (sfits_of c.scale.type-inv), e, g)
 
-add_result : tie.Need-overflow-add-result
+add_result : tie.Need-overflow_add-result
 add_result c = rw (sums c) (fits c.before.before)
 
 returns : tie.Need-returns

@@ -25,7 +25,7 @@ reads c =
     let e : c.nudge.result ≡ nudged c.before.args.x = rw (to_z-of_z c.before.ranges.x) at c.nudge.ensures in
     rw (to_z-of_z {w = w32} (sfits_of c.nudge.type-inv), e, to_z_pos w32 {n = c.before.args.step} (omega arith))
 
-mul_result : tie.Need-overflow-mul-result
+mul_result : tie.Need-overflow_mul-result
 mul_result c = rw (reads c) (product c.before)
 
 returns : tie.Need-returns

@@ -4,21 +4,21 @@ use Rattle.nlsf_places.specs.Inner.{toward_zero}
 use Rattle.nlsf_places.proofs.toward_zero.Statement.{statement}
 use Rattle.nlsf_places.proofs.toward_zero.Tie as tie
 
-returns : tie.Need-returns
+returns : tie.Need-returns-then-x-gt0
 unfolding toward_zero
-returns c = rw (rw (to_z-of_z c.before.ranges.x) at c.if1.true)
+returns c = rw (rw (to_z-of_z c.before.ranges.x) at c.if-x-gt0.true)
 
-returns_2 : tie.Need-returns-2
+returns_2 : tie.Need-returns-then-x-lt0
 unfolding toward_zero
 returns_2 c =
     let f = c.before.before.ranges.x in
-    rw (rw (to_z-of_z f) at c.before.if1.false, rw (to_z-of_z f) at c.if2.true)
+    rw (rw (to_z-of_z f) at c.before.if-x-gt0.false, rw (to_z-of_z f) at c.if-x-lt0.true)
 
-returns_3 : tie.Need-returns-3
+returns_3 : tie.Need-returns
 unfolding toward_zero
 returns_3 c =
     let f = c.before.before.ranges.x in
-    rw (rw (to_z-of_z f) at c.before.if1.false, rw (to_z-of_z f) at c.if2.false)
+    rw (rw (to_z-of_z f) at c.before.if-x-gt0.false, rw (to_z-of_z f) at c.if-x-lt0.false)
 
 pub toward_zero_spec : {M : Type 1} → statement M
 toward_zero_spec = tie.close (tie.spec returns returns_2 returns_3)

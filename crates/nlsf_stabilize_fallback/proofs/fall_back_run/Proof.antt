@@ -22,17 +22,17 @@ same_within g v s u e f r l =
     subst (λ (x : List ℤ). Within 0 32767 (lowered (drop 1 g) x)) (sym (f ∙ ap (raised g) e)) (fallback_within g v r l)
 
 -- what the sort left, and the way upward
-abbrev sorted_to : tie.After-silk-insertion-sort-increasing-all-values-int16 → List ℤ
-sorted_to s = s.silk-insertion-sort-increasing-all-values-int16.new.0
+abbrev sorted_to : tie.After-silk_insertion_sort_increasing_all_values_int16 → List ℤ
+sorted_to s = s.silk_insertion_sort_increasing_all_values_int16.new.0
 
-sorted_is : (s : tie.After-silk-insertion-sort-increasing-all-values-int16) → sorted_to s ≡ sorted s.before.before.args.v.now
-sorted_is s = s.silk-insertion-sort-increasing-all-values-int16.ensures
+sorted_is : (s : tie.After-silk_insertion_sort_increasing_all_values_int16) → sorted_to s ≡ sorted s.before.before.args.v.now
+sorted_is s = s.silk_insertion_sort_increasing_all_values_int16.ensures
 
-sorted_long : (s : tie.After-silk-insertion-sort-increasing-all-values-int16)
+sorted_long : (s : tie.After-silk_insertion_sort_increasing_all_values_int16)
     → length (sorted_to s) ≡ length s.before.before.args.v.now
 sorted_long s = ap length (sorted_is s) ∙ length_sorted s.before.before.args.v.now
 
-go_up_requires : tie.Need-go-up-requires
+go_up_requires : tie.Need-go_up-requires
 go_up_requires c κs =
     let s = c.before.before in
     let b = s.before.before in
@@ -41,15 +41,15 @@ go_up_requires c κs =
       (b.requires.1.0 ∙ ap suc (sym n), none_below b.args.g.now (length b.args.v.now) b.requires.1.1 b.requires.1.0 b.requires.0),
     )
 
-go_down_requires : tie.Need-go-down-requires
+go_down_requires : tie.Need-go_down-requires
 go_down_requires c κs =
     let u = c.before.before in
     let s = u.before.before.before in
     let b = s.before.before in
     let g = b.args.g.now in
-    let f = u.go-up.ensures in
+    let f = u.go_up.ensures in
     let n = ap length f ∙ length_raised g (sorted_to s) ∙ sorted_long s in
-    (b.requires.1.0 ∙ ap suc (sym n), same_within g b.args.v.now (sorted_to s) u.go-up.new.0 (sorted_is s) f b.requires.1.1 b.requires.1.0)
+    (b.requires.1.0 ∙ ap suc (sym n), same_within g b.args.v.now (sorted_to s) u.go_up.new.0 (sorted_is s) f b.requires.1.1 b.requires.1.0)
 
 returns : tie.Need-returns
 unfolding fallback
@@ -57,7 +57,7 @@ returns c =
     let u = c.before.before.before.before in
     let s = u.before.before.before in
     let g = s.before.before.args.g.now in
-    c.before.go-down.ensures ∙ ap (lowered (drop 1 g)) (u.go-up.ensures ∙ ap (raised g) (sorted_is s))
+    c.before.go_down.ensures ∙ ap (lowered (drop 1 g)) (u.go_up.ensures ∙ ap (raised g) (sorted_is s))
 
 pub fall_back_run_spec : {M : Type 1} → statement M
 fall_back_run_spec =

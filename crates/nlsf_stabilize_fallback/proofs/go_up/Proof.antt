@@ -19,57 +19,57 @@ use Rattle.nlsf_stabilize_fallback.proofs.Upward.{raised_at}
 use Rattle.nlsf_stabilize_fallback.proofs.go_up.Statement.{statement}
 use Rattle.nlsf_stabilize_fallback.proofs.go_up.Tie as tie
 
-abbrev invariant_loop : tie.invariant_loop
+abbrev invariant_loop : tie.invariant-loop-i
 invariant_loop v₀ g prev₀ i₀ v prev i = (i ≤ length v₀) × (Up (raised g v₀) v₀ v i × (to_z w16 prev ≡ at (pos 0 ∷ raised g v₀) i))
 
-abbrev decreases_loop : tie.decreases_loop
+abbrev decreases_loop : tie.decreases-loop-i
 decreases_loop v₀ g prev₀ i₀ v prev i = length v₀ - i
 
-loop_holds : tie.Need-loop-init invariant_loop decreases_loop
+loop_holds : tie.Need-loop-i-init invariant_loop decreases_loop
 loop_holds c = (omega arith, (up_start (raised c.args.g.now c.args.v.now) c.args.v.now, refl))
 
-shared_slice_copy_out_raise_one : tie.Need-shared-slice-copy-out-raise-one invariant_loop decreases_loop
+shared_slice_copy_out_raise_one : tie.Need-bounds-g-i invariant_loop decreases_loop
 shared_slice_copy_out_raise_one c =
-    let b = c.before.before in omega (arith, b.loop.invariant.1.0.long, b.before.requires.1.0)
+    let b = c.before.before in omega (arith, b.loop-i.invariant.1.0.long, b.before.requires.1.0)
 
-raise_one_requires : tie.Need-raise-one-requires invariant_loop decreases_loop
+raise_one_requires : tie.Need-raise_one-x-requires invariant_loop decreases_loop
 raise_one_requires c κs =
     let b = c.before.before.before in
-    let k : SFits w16 (at b.before.args.g.now b.loop.i) = sfits_of c.raise-one-arg2.given in
-    rw (to_z-of_z k) (b.before.requires.1.1.none b.loop.i)
+    let k : SFits w16 (at b.before.args.g.now b.loop-i.i) = sfits_of c.raise_one-arg-in-loop-i-1.given in
+    rw (to_z-of_z k) (b.before.requires.1.1.none b.loop-i.i)
 
-loop_less : tie.Need-loop-smaller invariant_loop decreases_loop
+loop_less : tie.Need-loop-i-smaller invariant_loop decreases_loop
 loop_less c =
-    let b = c.before.before.before.before in omega (arith, b.loop.invariant.1.0.long)
+    let b = c.before.before.before.before in omega (arith, b.loop-i.invariant.1.0.long)
 
-loop_again : tie.Need-loop-preserved invariant_loop decreases_loop
+loop_again : tie.Need-loop-i-preserved invariant_loop decreases_loop
 loop_again c =
     let b = c.before.before.before.before in
     let g = b.before.args.g.now in
     let v = b.before.args.v.now in
-    let i = b.loop.i in
-    let u = b.loop.invariant.1.0 in
-    let x : SFits w16 (at b.loop.v i) = sfits_of c.before.before.raise-one-arg.given in
-    let k : SFits w16 (at g i) = sfits_of c.before.raise-one-arg2.given in
-    let r : SFits w16 c.raise-one.result = sfits_of c.raise-one.type-inv in
+    let i = b.loop-i.i in
+    let u = b.loop-i.invariant.1.0 in
+    let x : SFits w16 (at b.loop-i.v i) = sfits_of c.before.before.raise_one-arg-1.given in
+    let k : SFits w16 (at g i) = sfits_of c.before.raise_one-arg-in-loop-i-1.given in
+    let r : SFits w16 c.raise_one-x.result = sfits_of c.raise-one.type-inv in
     let h : i < length v = omega (arith, u.long) in
-    let e : c.raise-one.result ≡ max_z (at b.loop.v i) (sat16 (at (pos 0 ∷ raised g v) i +ℤ at g i)) =
-    rw (to_z-of_z x, to_z-of_z k, b.loop.invariant.1.1) at c.raise-one.ensures in
+    let e : c.raise_one-x.result ≡ max_z (at b.loop-i.v i) (sat16 (at (pos 0 ∷ raised g v) i +ℤ at g i)) =
+    rw (to_z-of_z x, to_z-of_z k, b.loop-i.invariant.1.1) at c.raise_one-x.ensures in
     let p = b.before.requires.1 in
-    let q : c.raise-one.result ≡ at (raised g v) i =
+    let q : c.raise_one-x.result ≡ at (raised g v) i =
     e ∙ ap (λ (z : ℤ). max_z z (sat16 (at (pos 0 ∷ raised g v) i +ℤ at g i))) (u.old i (omega arith))
     ∙ sym (raised_at g v i h p.0 (p.1.none 0) p.1.first) in
-    rw (to_z-of_z r) (omega arith, (up_step (raised g v) v b.loop.v i c.raise-one.result h q u, q ∙ ap (at (pos 0 ∷ raised g v)) (sym (add-one i))))
+    rw (to_z-of_z r) (omega arith, (up_step (raised g v) v b.loop-i.v i c.raise_one-x.result h q u, q ∙ ap (at (pos 0 ∷ raised g v)) (sym (add-one i))))
 
-same_length : tie.Need-same-length invariant_loop decreases_loop
-same_length c = c.before.loop.invariant.1.0.long
+same_length : tie.Need-shape_of-v invariant_loop decreases_loop
+same_length c = c.before.loop-i.invariant.1.0.long
 
 returns : tie.Need-returns invariant_loop decreases_loop
 returns c =
     let b = c.before in
     let g = b.before.args.g.now in
     let v = b.before.args.v.now in
-    up_end (raised g v) v b.loop.v b.loop.i (omega (arith, b.loop.invariant.1.0.long)) (length_raised g v) b.loop.invariant.1.0
+    up_end (raised g v) v b.loop-i.v b.loop-i.i (omega (arith, b.loop-i.invariant.1.0.long)) (length_raised g v) b.loop-i.invariant.1.0
 
 pub go_up_spec : {M : Type 1} → statement M
 go_up_spec =

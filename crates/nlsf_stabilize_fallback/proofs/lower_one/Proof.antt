@@ -31,39 +31,39 @@ module _ (x n g : ℤ) (fx : SFits w16 x) (fn : SFits w32 n) (fg : SFits w16 g)
   narrow e =
       parts_fit (n -ℤ g) (omega (arith, le_z_false x (n -ℤ g) e, fits_up x fx, parts_alone (n -ℤ g))) (omega (arith, b))
 
-cast_y : tie.Need-overflow-cast-y
+cast_y : tie.Need-overflow_cast-y
 cast_y c = rw (to_z-of_z c.ranges.gap) (wide c.ranges.gap)
 
-sub_y : tie.Need-overflow-sub-y
+sub_y : tie.Need-overflow_sub-y
 sub_y c =
     rw (takes _ _ _ c.ranges.x c.ranges.next c.ranges.gap c.requires)
     (y_fits _ _ _ c.ranges.x c.ranges.next c.ranges.gap c.requires)
 
-cast_if1 : tie.Need-overflow-cast-if1
+cast_if1 : tie.Need-overflow_cast-x
 cast_if1 c = rw (to_z-of_z c.ranges.x) (wide c.ranges.x)
 
-returns : tie.Need-returns
+returns : tie.Need-returns-then-x-y
 returns c =
     let s = c.before in
     let f = s.ranges in
     rw (to_z-of_z f.x)
     (sym (min_yes s.args.x (s.args.next -ℤ s.args.gap)
-    (rw (takes _ _ _ f.x f.next f.gap s.requires, to_z-of_z (y_fits _ _ _ f.x f.next f.gap s.requires), to_z-of_z f.x, to_z-of_z (wide f.x)) at c.if1.true)))
+    (rw (takes _ _ _ f.x f.next f.gap s.requires, to_z-of_z (y_fits _ _ _ f.x f.next f.gap s.requires), to_z-of_z f.x, to_z-of_z (wide f.x)) at c.if-x-y.true)))
 
-cast_result : tie.Need-overflow-cast-result
+cast_result : tie.Need-overflow_cast-result
 cast_result c =
     let s = c.before in
     let f = s.ranges in
     rw (takes _ _ _ f.x f.next f.gap s.requires, to_z-of_z (y_fits _ _ _ f.x f.next f.gap s.requires))
     (narrow _ _ _ f.x f.next f.gap s.requires
-    (rw (takes _ _ _ f.x f.next f.gap s.requires, to_z-of_z (y_fits _ _ _ f.x f.next f.gap s.requires), to_z-of_z f.x, to_z-of_z (wide f.x)) at c.if1.false))
+    (rw (takes _ _ _ f.x f.next f.gap s.requires, to_z-of_z (y_fits _ _ _ f.x f.next f.gap s.requires), to_z-of_z f.x, to_z-of_z (wide f.x)) at c.if-x-y.false))
 
-returns_2 : tie.Need-returns-2
+returns_2 : tie.Need-returns
 returns_2 c =
     let s = c.before in
     let f = s.ranges in
     let e : le_z s.args.x (s.args.next -ℤ s.args.gap) ≡ false =
-    rw (takes _ _ _ f.x f.next f.gap s.requires, to_z-of_z (y_fits _ _ _ f.x f.next f.gap s.requires), to_z-of_z f.x, to_z-of_z (wide f.x)) at c.if1.false in
+    rw (takes _ _ _ f.x f.next f.gap s.requires, to_z-of_z (y_fits _ _ _ f.x f.next f.gap s.requires), to_z-of_z f.x, to_z-of_z (wide f.x)) at c.if-x-y.false in
     rw (takes _ _ _ f.x f.next f.gap s.requires, to_z-of_z (y_fits _ _ _ f.x f.next f.gap s.requires), to_z-of_z (narrow _ _ _ f.x f.next f.gap s.requires e))
     (sym (min_no s.args.x (s.args.next -ℤ s.args.gap) e))
 

@@ -55,48 +55,48 @@ module _ (x p g : ℤ) (fx : SFits w16 x) (fp : SFits w16 p) (fg : SFits w16 g) 
   at_own : lt_z (pos 32767) (p +ℤ g) ≡ false → le_z x (p +ℤ g) ≡ false → x ≡ max_z x (sat16 (p +ℤ g))
   at_own e f = sym (ap (max_z x) (sat e) ∙ max_no x (p +ℤ g) f)
 
-cast_y : tie.Need-overflow-cast-y
+cast_y : tie.Need-overflow_cast-y
 cast_y c = rw (to_z-of_z c.ranges.prev) (wide c.ranges.prev)
 
-cast_y_2 : tie.Need-overflow-cast-y-2
+cast_y_2 : tie.Need-overflow_cast-y-2
 cast_y_2 c = rw (to_z-of_z c.ranges.gap) (wide c.ranges.gap)
 
-add_y : tie.Need-overflow-add-y
+add_y : tie.Need-overflow_add-y
 add_y c =
     let f = c.ranges in rw (adds _ _ _ f.x f.prev f.gap c.requires) (y_fits _ _ _ f.x f.prev f.gap c.requires)
 
-returns : tie.Need-returns
+returns : tie.Need-returns-then-y-gt32767
 returns c =
     let s = c.before in
     let f = s.ranges in
-    at_top _ _ _ f.x f.prev f.gap s.requires (rw (y_is _ _ _ f.x f.prev f.gap s.requires) at c.if1.true)
+    at_top _ _ _ f.x f.prev f.gap s.requires (rw (y_is _ _ _ f.x f.prev f.gap s.requires) at c.if-y-gt32767.true)
 
-cast_if2 : tie.Need-overflow-cast-if2
+cast_if2 : tie.Need-overflow_cast-x
 cast_if2 c = rw (to_z-of_z c.before.ranges.x) (wide c.before.ranges.x)
 
-cast_result : tie.Need-overflow-cast-result
+cast_result : tie.Need-overflow_cast-result
 cast_result c =
     let s = c.before.before in
     let f = s.ranges in
     let y = y_is _ _ _ f.x f.prev f.gap s.requires in
-    rw y (narrow _ _ _ f.x f.prev f.gap s.requires (rw y at c.before.if1.false))
+    rw y (narrow _ _ _ f.x f.prev f.gap s.requires (rw y at c.before.if-y-gt32767.false))
 
-returns_2 : tie.Need-returns-2
+returns_2 : tie.Need-returns-then-x-y
 returns_2 c =
     let s = c.before.before in
     let f = s.ranges in
     let y = y_is _ _ _ f.x f.prev f.gap s.requires in
-    let e : lt_z (pos 32767) (s.args.prev +ℤ s.args.gap) ≡ false = rw y at c.before.if1.false in
+    let e : lt_z (pos 32767) (s.args.prev +ℤ s.args.gap) ≡ false = rw y at c.before.if-y-gt32767.false in
     rw (y, to_z-of_z (narrow _ _ _ f.x f.prev f.gap s.requires e))
-    (at_sum _ _ _ f.x f.prev f.gap s.requires e (rw (y, x_is _ _ _ f.x f.prev f.gap s.requires) at c.if2.true))
+    (at_sum _ _ _ f.x f.prev f.gap s.requires e (rw (y, x_is _ _ _ f.x f.prev f.gap s.requires) at c.if-x-y.true))
 
-returns_3 : tie.Need-returns-3
+returns_3 : tie.Need-returns
 returns_3 c =
     let s = c.before.before in
     let f = s.ranges in
     let y = y_is _ _ _ f.x f.prev f.gap s.requires in
     rw (to_z-of_z f.x)
-    (at_own _ _ _ f.x f.prev f.gap s.requires (rw y at c.before.if1.false) (rw (y, x_is _ _ _ f.x f.prev f.gap s.requires) at c.if2.false))
+    (at_own _ _ _ f.x f.prev f.gap s.requires (rw y at c.before.if-y-gt32767.false) (rw (y, x_is _ _ _ f.x f.prev f.gap s.requires) at c.if-x-y.false))
 
 pub raise_one_spec : {M : Type 1} → statement M
 raise_one_spec = tie.close (tie.spec cast_y cast_y_2 add_y returns cast_if2 cast_result returns_2 returns_3)

@@ -62,35 +62,35 @@ module _ (c : tie.Start) where
   most_is : kept (kept r +ℤ kept d) ≡ r +ℤ d
   most_is = rw (to_z-of_z c.ranges.room, to_z-of_z c.ranges.odd, to_z-of_z most)
 
-add_c : tie.Need-overflow-add-c
+add_c : tie.Need-overflow_add-c
 add_c c = let f = c.ranges in rw (to_z-of_z f.a, to_z-of_z f.b) (two c)
 
-add_c_2 : tie.Need-overflow-add-c-2
+add_c_2 : tie.Need-overflow_add-c-2
 add_c_2 c = let f = c.ranges in rw (to_z-of_z f.a, to_z-of_z f.b, to_z-of_z (two c)) (three c)
 
-add_c_3 : tie.Need-overflow-add-c-3
+add_c_3 : tie.Need-overflow_add-c-3
 add_c_3 c =
     let f = c.ranges in rw (to_z-of_z f.a, to_z-of_z f.b, to_z-of_z f.odd, to_z-of_z (two c), to_z-of_z (three c)) (four c)
 
-add_most : tie.Need-overflow-add-most
+add_most : tie.Need-overflow_add-most
 add_most c = let f = c.ranges in rw (to_z-of_z f.odd, to_z-of_z f.room) (most c)
 
-returns : tie.Need-returns
+returns : tie.Need-returns-then-c-most
 unfolding meeting
-returns c = let s = c.before in rw (most_is s) (held_hi _ _ _ (rw (middle_is s, most_is s) at c.if1.true))
+returns c = let s = c.before in rw (most_is s) (held_hi _ _ _ (rw (middle_is s, most_is s) at c.if-c-most.true))
 
 -- past the first test
-not_above : (c : tie.Else1) → let s = c.before in lt_z (r s +ℤ d s) (half (a s +ℤ b s +ℤ pos 1 +ℤ d s)) ≡ false
-not_above c = let s = c.before in rw (middle_is s, most_is s) at c.if1.false
+not_above : (c : tie.Else-c-most) → let s = c.before in lt_z (r s +ℤ d s) (half (a s +ℤ b s +ℤ pos 1 +ℤ d s)) ≡ false
+not_above c = let s = c.before in rw (middle_is s, most_is s) at c.if-c-most.false
 
-returns_2 : tie.Need-returns-2
+returns_2 : tie.Need-returns-then-c-lt0
 unfolding meeting
-returns_2 c = held_lo _ _ _ (not_above c.before) (rw (middle_is c.before.before) at c.if2.true)
+returns_2 c = held_lo _ _ _ (not_above c.before) (rw (middle_is c.before.before) at c.if-c-lt0.true)
 
-returns_3 : tie.Need-returns-3
+returns_3 : tie.Need-returns
 unfolding meeting
 returns_3 c =
-    let e = middle_is c.before.before in rw e (held_own _ _ _ (not_above c.before) (rw e at c.if2.false))
+    let e = middle_is c.before.before in rw e (held_own _ _ _ (not_above c.before) (rw e at c.if-c-lt0.false))
 
 pub meet_spec : {M : Type 1} → statement M
 meet_spec = tie.close (tie.spec add_c add_c_2 add_c_3 add_most returns returns_2 returns_3)

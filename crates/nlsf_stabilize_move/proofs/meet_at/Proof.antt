@@ -18,21 +18,21 @@ slack_fits : (s : tie.Start) (k : ℕ) → SFits w32 (at s.args.w.now k)
 slack_fits s k = let m = s.requires.0.0.1 k in parts_fit (at s.args.w.now k) (omega (arith, m.0)) (omega (arith, m.1))
 
 -- the call's start, from behind the parity of the gap, and that parity
-abbrev start : tie.After-odd-of → tie.Start
+abbrev start : tie.After-odd_of → tie.Start
 start c = c.before.before.before.before
 
-odd_is : (c : tie.After-odd-of) → let s = start c in c.odd-of.result ≡ odd (at s.args.g.now s.args.i)
+odd_is : (c : tie.After-odd_of) → let s = start c in c.odd_of.result ≡ odd (at s.args.g.now s.args.i)
 odd_is c =
     let s = start c in
-    let k : SFits w16 (at s.args.g.now s.args.i) = sfits_of c.before.odd-of-arg.given in
-    rw (to_z-of_z k) at c.odd-of.ensures
+    let k : SFits w16 (at s.args.g.now s.args.i) = sfits_of c.before.odd_of-arg-1.given in
+    rw (to_z-of_z k) at c.odd_of.ensures
 
 meet_requires : tie.Need-meet-requires
 meet_requires c κs =
     let s = start c in
     let i = s.args.i in
     let m = s.pre.0.0.1 in
-    let f : SFits w32 c.odd-of.result = sfits_of c.odd-of.type-inv in
+    let f : SFits w32 c.odd_of.result = sfits_of c.odd-of.type-inv in
     rw (to_z-of_z (slack_fits s i), to_z-of_z (slack_fits s (i + 1)), to_z-of_z s.fits.room, to_z-of_z f) (
       (m i, m (i + 1)),
       (subst⁻¹ (Mag 1) (odd_is c) (odd_near (at s.args.g.now i) s.pre.1.1.1), s.pre.0.1),
@@ -43,9 +43,9 @@ returns c =
     let b = c.before in
     let s = start b in
     let i = s.args.i in
-    let f : SFits w32 b.odd-of.result = sfits_of b.odd-of.type-inv in
+    let f : SFits w32 b.odd_of.result = sfits_of b.odd-of.type-inv in
     let w = s.args.w.now in
-    let e : c.meet.result ≡ meeting (at w i) (at w (i + 1)) b.odd-of.result s.args.room =
+    let e : c.meet.result ≡ meeting (at w i) (at w (i + 1)) b.odd_of.result s.args.room =
     rw (to_z-of_z (slack_fits s i), to_z-of_z (slack_fits s (i + 1)), to_z-of_z s.fits.room, to_z-of_z f) at c.meet.ensures in
     to_z-of_z {w = w32} (sfits_of c.meet.type-inv) ∙ e ∙ ap (λ (d : ℤ). meeting (at w i) (at w (i + 1)) d s.args.room) (odd_is b)
 

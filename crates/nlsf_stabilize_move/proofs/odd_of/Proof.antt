@@ -30,16 +30,16 @@ module _ (g : ℤ) (f : SFits w16 g) (n : down g ≡ 0) where
       parts_fit (g -ℤ t) (omega (arith, up_diff g t, up_times (half g) 2, down_times (half g) 2, h, fits_up g f))
       (omega (arith, down_diff g t, up_times (half g) 2, down_times (half g) 2, h, n))
 
-cast_h : tie.Need-overflow-cast-h
+cast_h : tie.Need-overflow_cast-h
 cast_h c = rw (to_z-of_z c.ranges.gap) (wide c.ranges.gap)
 
-cast_result : tie.Need-overflow-cast-result
+cast_result : tie.Need-overflow_cast-result
 cast_result c = rw (to_z-of_z c.ranges.gap) (wide c.ranges.gap)
 
-mul_result : tie.Need-overflow-mul-result
+mul_result : tie.Need-overflow_mul-result
 mul_result c = let f = c.ranges.gap in rw (read16 f, to_z-of_z (half_fits _ f c.requires)) (twice_fits _ f c.requires)
 
-sub_result : tie.Need-overflow-sub-result
+sub_result : tie.Need-overflow_sub-result
 sub_result c =
     let f = c.ranges.gap in
     rw (read16 f, to_z-of_z (half_fits _ f c.requires), to_z-of_z (twice_fits _ f c.requires)) (odd_fits _ f c.requires)

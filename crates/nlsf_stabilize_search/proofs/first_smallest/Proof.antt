@@ -18,11 +18,11 @@ use Rattle.nlsf_stabilize_search.proofs.SearchLaws.{Best, best_one, best_newer, 
 use Rattle.nlsf_stabilize_search.proofs.first_smallest.Statement.{statement}
 use Rattle.nlsf_stabilize_search.proofs.first_smallest.Tie as tie
 
-abbrev invariant_loop : tie.invariant_loop
+abbrev invariant_loop : tie.invariant-loop-i
 invariant_loop w x₀ least₀ place₀ i₀ x least place i =
     (i < length w) × (to_z w32 x ≡ at w i) × Best (step w) i (to_z w32 least) place
 
-abbrev decreases_loop : tie.decreases_loop
+abbrev decreases_loop : tie.decreases-loop-i
 decreases_loop w x₀ least₀ place₀ i₀ x least place i = length w - i
 
 -- a value that the code reads is the list's
@@ -33,22 +33,22 @@ read c k = to_z-of_z (value_fits (at c.args.w.now k) (c.requires.1 k))
 fits : (c : tie.Start invariant_loop decreases_loop) (j k : ℕ) → SFits w32 (at c.args.w.now j -ℤ at c.args.w.now k)
 fits c j k = step_fits (at c.args.w.now j) (at c.args.w.now k) (c.requires.1 j) (c.requires.1 k)
 
-sub_least : tie.Need-overflow-sub-least invariant_loop decreases_loop
+sub_least : tie.Need-overflow_sub-least invariant_loop decreases_loop
 sub_least c = let s = c.before.before in rw (read s 1, read s 0) (fits s 1 0)
 
-loop_holds : tie.Need-loop-init invariant_loop decreases_loop
+loop_holds : tie.Need-loop-i-init invariant_loop decreases_loop
 loop_holds c =
     let s = c.before.before in
     (omega arith, read s 1, best_one (step s.args.w.now) _ (rw (read s 1, read s 0) (to_z-of_z (fits s 1 0))))
 
-sub_d : tie.Need-overflow-sub-d invariant_loop decreases_loop
+sub_d : tie.Need-overflow_sub-d invariant_loop decreases_loop
 sub_d c =
     let b = c.before.before in
     let s = b.before.before.before in
-    let i = b.loop.i in rw (read s (i + 1), b.loop.invariant.1) (fits s (i + 1) i)
+    let i = b.loop-i.i in rw (read s (i + 1), b.loop-i.invariant.1) (fits s (i + 1) i)
 
 -- Both tests' laws are listed, so that a test that takes an equal number fails at numbers.
-loop_again : tie.Need-loop-preserved invariant_loop decreases_loop
+loop_again : tie.Need-loop-i-preserved invariant_loop decreases_loop
 loop_again c =
     let b = c.before.before.before in
     let s = b.before.before.before in
@@ -63,14 +63,14 @@ loop_again c =
       ⊎_elim
           (λ t. best_newer f i l.place z d l.invariant.2 e (omega (arith, lt_z_true, le_z_true, t.0.taken)) (ap (to_z w32) t.1) t.2)
           (λ t. best_older f i l.place z d l.invariant.2 e (omega (arith, lt_z_false, le_z_false, t.0.left)) (ap (to_z w32) t.1) t.2)
-          c.if1.branch,
+          c.if-d-least.branch,
     )
 
 returns : tie.Need-returns invariant_loop decreases_loop
 returns c n e =
     let b = c.before in
-    let q : b.loop.i ≡ n = omega arith in
-    subst (λ (m : ℕ). First (step b.before.before.before.args.w.now) m b.loop.place) q b.loop.invariant.2.first
+    let q : b.loop-i.i ≡ n = omega arith in
+    subst (λ (m : ℕ). First (step b.before.before.before.args.w.now) m b.loop-i.place) q b.loop-i.invariant.2.first
 
 pub first_smallest_spec : {M : Type 1} → statement M
 first_smallest_spec =

@@ -5,21 +5,21 @@ use Rattle.nlsf_stabilize_search.proofs.SearchLaws.{part_near, part_searched}
 use Rattle.nlsf_stabilize_search.proofs.place_run.Statement.{statement}
 use Rattle.nlsf_stabilize_search.proofs.place_run.Tie as tie
 
-first_smallest_requires : tie.Need-first-smallest-requires
+first_smallest_requires : tie.Need-first_smallest-requires
 first_smallest_requires c κs =
     let s = c.before.before.before in (search rules, part_near 65536 12 s.args.w.now s.requires.1)
 
-returns : tie.Need-returns
+returns : tie.Need-returns-then-n-le10
 returns c =
     let a = c.before.before.before.before.args in
     let found = c.first-smallest in
     part_searched a.w.now a.n 11 found.result (omega arith) (omega arith) (omega arith) found.ensures
 
-first_smallest_requires_2 : tie.Need-first-smallest-requires-2
+first_smallest_requires_2 : tie.Need-first_smallest-requires-2
 first_smallest_requires_2 c κs =
     let s = c.before.before.before in (search rules, part_near 65536 18 s.args.w.now s.requires.1)
 
-returns_2 : tie.Need-returns-2
+returns_2 : tie.Need-returns
 returns_2 c =
     let a = c.before.before.before.before.args in
     let found = c.first-smallest2 in

@@ -16,50 +16,50 @@ use Rattle.nlsf_stabilize_slack.proofs.SlackLaws.{Filled, filled_start, filled_s
 use Rattle.nlsf_stabilize_slack.proofs.slacks_run.Statement.{statement}
 use Rattle.nlsf_stabilize_slack.proofs.slacks_run.Tie as tie
 
-abbrev invariant_loop : tie.invariant_loop
+abbrev invariant_loop : tie.invariant-loop-i
 invariant_loop w₀ s₀ v g sum₀ i₀ w s sum i = (i ≤ length v) × (Filled g v w s i × (to_z w32 sum ≡ total (take i g)))
 
-abbrev decreases_loop : tie.decreases_loop
+abbrev decreases_loop : tie.decreases-loop-i
 decreases_loop w₀ s₀ v g sum₀ i₀ w s sum i = length v - i
 
-loop_holds : tie.Need-loop-init invariant_loop decreases_loop
+loop_holds : tie.Need-loop-i-init invariant_loop decreases_loop
 unfolding total
 loop_holds c =
     let a = c.args in
-    (omega arith, (filled_start a.g.now a.v.now a.w.now a.s.now c.requires.0.0 c.requires.0.1, refl))
+    (omega arith, (filled_start a.g.now a.v.now a.w-1.now a.s.now c.requires.0.0 c.requires.0.1, refl))
 
 -- the gap read, and the sum with it
-gap : (c : tie.After-sum invariant_loop decreases_loop) → SFits w16 (at c.before.before.before.args.g.now c.before.before.loop.i)
-gap c = sfits_of c.sum.given
+gap : (c : tie.After-sum-1 invariant_loop decreases_loop) → SFits w16 (at c.before.before.before.args.g.now c.before.before.loop-i.i)
+gap c = sfits_of c.sum-1.given
 
-next : (c : tie.After-sum invariant_loop decreases_loop) → NextSum c.before.before.before.args.g.now c.before.before.loop.i
-    (to_z w32 c.before.before.loop.sum +ℤ at c.before.before.before.args.g.now c.before.before.loop.i)
+next : (c : tie.After-sum-1 invariant_loop decreases_loop) → NextSum c.before.before.before.args.g.now c.before.before.loop-i.i
+    (to_z w32 c.before.before.loop-i.sum +ℤ at c.before.before.before.args.g.now c.before.before.loop-i.i)
 next c =
     let b = c.before.before in
     let p = b.before.requires.1 in
-    next_sum b.before.args.g.now (length b.before.args.v.now) b.loop.i (to_z w32 b.loop.sum)
-    p.0.0 p.0.1 (omega arith) b.loop.invariant.1.1
+    next_sum b.before.args.g.now (length b.before.args.v.now) b.loop-i.i (to_z w32 b.loop-i.sum)
+    p.0.0 p.0.1 (omega arith) b.loop-i.invariant.1.1
 
-cast_sum : tie.Need-overflow-cast-sum invariant_loop decreases_loop
+cast_sum : tie.Need-overflow_cast-sum invariant_loop decreases_loop
 cast_sum c = rw (to_z-of_z (gap c)) (wide (gap c))
 
-add_sum : tie.Need-overflow-add-sum invariant_loop decreases_loop
+add_sum : tie.Need-overflow_add-sum invariant_loop decreases_loop
 add_sum c = rw (read16 (gap c)) (sum_fits _ (next c))
 
 -- the value read
-value : (c : tie.After-w invariant_loop decreases_loop)
-    → SFits w16 (at c.before.before.before.before.args.v.now c.before.before.before.loop.i)
-value c = sfits_of c.w.given
+value : (c : tie.After-w-1 invariant_loop decreases_loop)
+    → SFits w16 (at c.before.before.before.before.args.v.now c.before.before.before.loop-i.i)
+value c = sfits_of c.w-1.given
 
-cast_w : tie.Need-overflow-cast-w invariant_loop decreases_loop
+cast_w : tie.Need-overflow_cast-w invariant_loop decreases_loop
 cast_w c = rw (to_z-of_z (value c)) (wide (value c))
 
-sub_w : tie.Need-overflow-sub-w invariant_loop decreases_loop
+sub_w : tie.Need-overflow_sub-w invariant_loop decreases_loop
 sub_w c =
     let n = next c.before in
     rw (read16 (value c), read16 (gap c.before), to_z-of_z (sum_fits _ n)) (slack_fits _ _ (value c) n)
 
-loop_again : tie.Need-loop-preserved invariant_loop decreases_loop
+loop_again : tie.Need-loop-i-preserved invariant_loop decreases_loop
 loop_again c =
     let b = c.before.before.before in
     let n = next c.before in
@@ -75,8 +75,8 @@ returns : tie.Need-returns invariant_loop decreases_loop
 returns c =
     let b = c.before in
     let p = b.before.requires.1 in
-    filled_end b.before.args.g.now b.before.args.v.now b.loop.w b.loop.s b.loop.i (omega arith)
-    p.1.0 p.1.1 p.0.1 p.0.0 b.loop.invariant.1.0
+    filled_end b.before.args.g.now b.before.args.v.now b.loop-i.w b.loop-i.s b.loop-i.i (omega arith)
+    p.1.0 p.1.1 p.0.1 p.0.0 b.loop-i.invariant.1.0
 
 pub slacks_run_spec : {M : Type 1} → statement M
 slacks_run_spec =

@@ -4,10 +4,10 @@ use Rattle.spectrum.proofs.Widened.{wide, read16, more_fits}
 use Rattle.nlsf_stabilize_stays.proofs.lost.Statement.{statement}
 use Rattle.nlsf_stabilize_stays.proofs.lost.Tie as tie
 
-cast_result : tie.Need-overflow-cast-result
+cast_result : tie.Need-overflow_cast-result
 cast_result c = rw (to_z-of_z c.ranges.gap) (wide c.ranges.gap)
 
-add_result : tie.Need-overflow-add-result
+add_result : tie.Need-overflow_add-result
 add_result c = let f = c.ranges in rw (to_z-of_z f.p, read16 f.gap) (more_fits c.args.p c.args.gap c.requires f.gap)
 
 returns : tie.Need-returns

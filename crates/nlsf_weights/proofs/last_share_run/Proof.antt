@@ -8,8 +8,8 @@ use Rattle.nlsf_weights.proofs.Rising.{edge_before, edge_last, step_at}
 use Rattle.nlsf_weights.proofs.last_share_run.Statement.{statement}
 use Rattle.nlsf_weights.proofs.last_share_run.Tie as tie
 
-cast_share : tie.Need-overflow-cast-share
-cast_share c = omega (arith, c.shared-slice-known3.given (length c.before.before.before.args.values.now - 1))
+cast_share : tie.Need-overflow_cast-values
+cast_share c = omega (arith, c.shared_slice_known-3-1.given (length c.before.before.before.args.values.now - 1))
 
 share_requires : tie.Need-share-requires
 share_requires c κs =

@@ -6,11 +6,11 @@ use Rattle.nlsf_weights.proofs.RowLaws.{shares_long, share_in}
 use Rattle.nlsf_weights.proofs.share.Statement.{statement}
 use Rattle.nlsf_weights.proofs.share.Tie as tie
 
-inside : tie.Need-shared-slice-read-result
+inside : tie.Need-bounds-shares-x
 inside c = omega (arith, c.before.requires.1.1, shares_long c.before.requires.0)
 
-cast_result_2 : tie.Need-overflow-cast-result-2
-cast_result_2 c = omega (arith, c.shared-slice-known.given (c.before.args.x - c.before.args.a))
+cast_result_2 : tie.Need-overflow_cast-result-2
+cast_result_2 c = omega (arith, c.shared_slice_known-1.given (c.before.args.x - c.before.args.a))
 
 returns : tie.Need-returns
 returns c = let a = c.before.args in share_in c.before.requires.0 (a.x - a.a) c.before.requires.1.1

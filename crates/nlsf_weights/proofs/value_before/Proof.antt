@@ -9,10 +9,10 @@ use Rattle.nlsf_weights.proofs.Rising.{edge_value}
 use Rattle.nlsf_weights.proofs.value_before.Statement.{statement}
 use Rattle.nlsf_weights.proofs.value_before.Tie as tie
 
-cast_result : tie.Need-overflow-cast-result
-cast_result c = omega (arith, c.shared-slice-known.given (c.before.before.args.i - 1))
+cast_result : tie.Need-overflow_cast-result
+cast_result c = omega (arith, c.shared_slice_known-1.given (c.before.before.args.i - 1))
 
-returns : tie.Need-returns
+returns : tie.Need-returns-then-i-gt0
 returns c =
     let s = c.before.before in
     let v = s.args.values.now in
@@ -20,7 +20,7 @@ returns c =
     let e : suc k ≡ s.args.i = omega arith in
     sym (edge_value v k (omega (arith, s.requires))) ∙ ap (λ (n : ℕ). get_or (edges v) n 0) e
 
-returns_2 : tie.Need-returns-2
+returns_2 : tie.Need-returns-else-i-gt0
 returns_2 c =
     let s = c.before in
     let e : 0 ≡ s.args.i = omega arith in

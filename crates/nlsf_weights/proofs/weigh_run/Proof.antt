@@ -11,13 +11,13 @@ use Rattle.nlsf_weights.proofs.weigh_run.Statement.{statement}
 use Rattle.nlsf_weights.proofs.weigh_run.Tie as tie
 
 -- the start, behind the share
-abbrev start : tie.After-share → tie.Start
+abbrev start : tie.After-share-q → tie.Start
 start d = d.before.before.before.before.before.before
 
-cast_share : tie.Need-overflow-cast-share
-cast_share c = omega (arith, c.shared-slice-known4.given c.before.before.before.before.before.args.i)
+cast_share : tie.Need-overflow_cast-values
+cast_share c = omega (arith, c.shared_slice_known-4-1.given c.before.before.before.before.before.args.i)
 
-share_requires : tie.Need-share-requires
+share_requires : tie.Need-share-q-requires
 share_requires c κs =
     let s = c.before.before.before.before.before in
     let v = s.args.values.now in
@@ -27,19 +27,19 @@ share_requires c κs =
     let x = edge_value v k s.requires.inside in
     (s.requires.shares, (omega (arith, t.up, a, x), omega (arith, t.near, a, x)))
 
-share_is : (d : tie.After-share) → d.share.result ≡ share_at (start d).args.values.now (start d).args.i
+share_is : (d : tie.After-share-q) → d.share-q.result ≡ share_at (start d).args.values.now (start d).args.i
 share_is d =
     let s = start d in
-    d.share.ensures
+    d.share-q.ensures
     ∙ ap₂ (λ (x a : ℕ). 1024 / (x - a)) (sym (edge_value s.args.values.now s.args.i s.pre.inside))
     d.before.before.value_before.ensures
 
 -- both shares together
-record Sum (d : tie.After-share) : Type 0 where
-  some : 1 ≤ d.share.result + (start d).args.behind
-  few : d.share.result + (start d).args.behind ≤ 2048
+record Sum (d : tie.After-share-q) : Type 0 where
+  some : 1 ≤ d.share-q.result + (start d).args.behind
+  few : d.share-q.result + (start d).args.behind ≤ 2048
 
-sum : (d : tie.After-share) → Sum d
+sum : (d : tie.After-share-q) → Sum d
 sum d =
     let s = start d in
     let p = share_some s.args.values.now s.pre.rising in

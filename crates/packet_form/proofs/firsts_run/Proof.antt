@@ -8,12 +8,12 @@ use Rattle.framing.proofs.Kept.{head_varied, head_equal, firsts_varied, none_fir
 use Rattle.packet_form.proofs.firsts_run.Statement.{statement}
 use Rattle.packet_form.proofs.firsts_run.Tie as tie
 
-returns : tie.Need-returns
+returns : tie.Need-returns-then-f
 returns c =
     let b = c.before.before.before in
     let a = b.before.before.args in
-    let r = c.lengths-run.ensures in
-    let v = b.if1.true in (
+    let r = c.lengths_run.ensures in
+    let v = b.if-f.true in (
       (
         r.0.0 ∙ sym (ap total (firsts_varied a.f a.s.now v)),
         ap (λ (n : ℕ). a.f.own + a.f.lens + n) r.0.1
@@ -22,10 +22,10 @@ returns c =
       r.1,
     )
 
-returns_2 : tie.Need-returns-2
+returns_2 : tie.Need-returns
 returns_2 c =
     let a = c.before.before.args in
-    let v = c.if1.false in
+    let v = c.if-f.false in
     ((sym (none_first a.f a.s.now v), omega (arith, head_equal a.f a.s.now v)), (omega arith, omega arith))
 
 pub firsts_run_spec : {M : Type 1} → statement M

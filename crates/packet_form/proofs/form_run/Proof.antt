@@ -26,49 +26,49 @@ code_is s b n e h = ap (λ (x : ℕ). x % 4) (sym e) ∙ h
 code_three : (s : List ℕ) (b : ℕ) → b ≡ get_or s 0 0 → (b % 4 ≡ 0 → ⊥) → (b % 4 ≡ 1 → ⊥) → (b % 4 ≡ 2 → ⊥) → code_of s ≡ 3
 code_three s b e h i j = code_is s b 3 e (omega arith)
 
-returns : tie.Need-returns
+returns : tie.Need-returns-then-code-eq0
 returns c =
     let b = c.before.before in
     let s = b.before.before.args.s.now in
-    plainly s _ (plain_of 1 false) c.plain.ensures (form_0 s (code_is s _ 0 b.byte_at.ensures.0 c.before.if1.true))
+    plainly s _ (plain_of 1 false) c.plain.ensures (form_0 s (code_is s _ 0 b.byte_at-code.ensures.0 c.before.if-code-eq0.true))
     (omega arith)
 
-returns_2 : tie.Need-returns-2
+returns_2 : tie.Need-returns-then-code-eq1
 returns_2 c =
     let b = c.before.before.before in
     let s = b.before.before.args.s.now in
-    plainly s _ (plain_of 2 false) c.plain2.ensures (form_1 s (code_is s _ 1 b.byte_at.ensures.0 c.before.if2.true))
+    plainly s _ (plain_of 2 false) c.plain-then-code-eq1.ensures (form_1 s (code_is s _ 1 b.byte_at-code.ensures.0 c.before.if-code-eq1.true))
     (omega arith)
 
-returns_3 : tie.Need-returns-3
+returns_3 : tie.Need-returns-then-code-eq2
 returns_3 c =
     let b = c.before.before.before.before in
     let s = b.before.before.args.s.now in
-    plainly s _ (plain_of 2 true) c.plain3.ensures (form_2 s (code_is s _ 2 b.byte_at.ensures.0 c.before.if3.true))
+    plainly s _ (plain_of 2 true) c.plain-then-code-eq2.ensures (form_2 s (code_is s _ 2 b.byte_at-code.ensures.0 c.before.if-code-eq2.true))
     (omega arith)
 
-returns_4 : tie.Need-returns-4
+returns_4 : tie.Need-returns-then-b-eq1
 returns_4 c =
     let d = c.before.before in
     let b = d.before.before.before.before in
     let s = b.before.before.args.s.now in
-    let p = c.padding-run.ensures in
+    let p = c.padding_run-p.ensures in
     let t : code_of s ≡ 3 =
-    code_three s b.byte_at.result b.byte_at.ensures.0 d.before.before.before.if1.false d.before.before.if2.false
-    d.before.if3.false in (
-      form_padded s t d.byte-at2.result d.byte-at2.ensures.0 c.before.if4.true _ _ p.0.1 p.0.0,
+    code_three s b.byte_at-code.result b.byte_at-code.ensures.0 d.before.before.before.if-code-eq0.false d.before.before.if-code-eq1.false
+    d.before.if-code-eq2.false in (
+      form_padded s t d.byte_at-b.result d.byte_at-b.ensures.0 c.before.if-b-eq1.true _ _ p.0.1 p.0.0,
       record { count = omega arith; own = omega arith; lens = p.1.1; pad = p.1.0 },
     )
 
-returns_5 : tie.Need-returns-5
+returns_5 : tie.Need-returns
 returns_5 c =
     let d = c.before in
     let b = d.before.before.before.before in
     let s = b.before.before.args.s.now in
     let t : code_of s ≡ 3 =
-    code_three s b.byte_at.result b.byte_at.ensures.0 d.before.before.before.if1.false d.before.before.if2.false
-    d.before.if3.false in (
-      form_unpadded s t d.byte-at2.result d.byte-at2.ensures.0 c.if4.false,
+    code_three s b.byte_at-code.result b.byte_at-code.ensures.0 d.before.before.before.if-code-eq0.false d.before.before.if-code-eq1.false
+    d.before.if-code-eq2.false in (
+      form_unpadded s t d.byte_at-b.result d.byte_at-b.ensures.0 c.if-b-eq1.false,
       record { count = omega arith; own = omega arith; lens = omega arith; pad = omega arith },
     )
 

@@ -52,44 +52,44 @@ turn s at n value width k v w i h p q l m =
       short = omega (arith, i.short);
     }
 
-abbrev invariant_loop : tie.invariant_loop
+abbrev invariant_loop : tie.invariant-loop-k
 invariant_loop s at n value₀ width₀ k₀ value width k = Read s at n value width k
 
-abbrev decreases_loop : tie.decreases_loop
+abbrev decreases_loop : tie.decreases-loop-k
 decreases_loop s at n value₀ width₀ k₀ value width k = n - k
 
-loop_holds : tie.Need-loop-init invariant_loop decreases_loop
+loop_holds : tie.Need-loop-k-init invariant_loop decreases_loop
 loop_holds c = start c.before.args.s.now c.before.args.at c.before.args.n
 
-length_run_requires : tie.Need-length-run-requires invariant_loop decreases_loop
+length_run_requires : tie.Need-length_run-c-requires invariant_loop decreases_loop
 length_run_requires c κs = omega arith
 
-add_value : tie.Need-overflow-add-value invariant_loop decreases_loop
+add_value : tie.Need-overflow_add-value invariant_loop decreases_loop
 add_value c = omega arith
 
-add_width : tie.Need-overflow-add-width invariant_loop decreases_loop
+add_width : tie.Need-overflow_add-width invariant_loop decreases_loop
 add_width c = omega arith
 
-add_k : tie.Need-overflow-add-k invariant_loop decreases_loop
+add_k : tie.Need-overflow_add-k invariant_loop decreases_loop
 add_k c = omega arith
 
-loop_again : tie.Need-loop-preserved invariant_loop decreases_loop
+loop_again : tie.Need-loop-k-preserved invariant_loop decreases_loop
 loop_again c =
     let b = c.before.before.before.before in
     let a = b.before.before.args in
-    let r = c.before.before.length_run.ensures in
-    turn a.s.now a.at a.n b.loop.value b.loop.width b.loop.k _ _ b.loop.invariant
-    c.before.before.before.loop-test.true
+    let r = c.before.before.length_run-c.ensures in
+    turn a.s.now a.at a.n b.loop-k.value b.loop-k.width b.loop-k.k _ _ b.loop-k.invariant
+    c.before.before.before.loop-k-test.true
     r.0.0 r.0.1 r.1.0 r.1.1
 
 returns : tie.Need-returns invariant_loop decreases_loop
 unfolding lengths widths total
 returns c =
-    let i = c.before.loop.invariant in
+    let i = c.before.loop-k.invariant in
     let a = c.before.before.before.args in
-    let k = c.before.loop.k in
-    let e : a.n - k ≡ 0 = omega (arith, c.loop-test.false) in
-    let r = drop (a.at + c.before.loop.width) a.s.now in
+    let k = c.before.loop-k.k in
+    let e : a.n - k ≡ 0 = omega (arith, c.loop-k-test.false) in
+    let r = drop (a.at + c.before.loop-k.width) a.s.now in
     let x : total (lengths (a.n - k) r) ≡ 0 = ap (λ (m : ℕ). total (lengths m r)) e in
     let y : widths (a.n - k) r ≡ 0 = ap (λ (m : ℕ). widths m r) e in
     ((omega (arith, i.values), omega (arith, i.bytes)), (omega (arith, i.small), omega (arith, i.short)))

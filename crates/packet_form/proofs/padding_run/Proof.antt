@@ -30,55 +30,55 @@ turn s at n r e =
       bytes = omega (arith, r.bytes, p.1, ap (λ (i : ℕ). pad_bytes (drop i s)) q);
     }
 
-abbrev invariant_loop : tie.invariant_loop
+abbrev invariant_loop : tie.invariant-loop-n
 invariant_loop s at n₀ n = Runs s at n
 
-abbrev decreases_loop : tie.decreases_loop
+abbrev decreases_loop : tie.decreases-loop-n
 decreases_loop s at n₀ n = length s - n
 
-loop_holds : tie.Need-loop-init invariant_loop decreases_loop
+loop_holds : tie.Need-loop-n-init invariant_loop decreases_loop
 loop_holds c = start c.before.args.s.now c.before.args.at
 
-add_byte_at : tie.Need-overflow-add-byte-at invariant_loop decreases_loop
+add_byte_at : tie.Need-overflow_add-at invariant_loop decreases_loop
 add_byte_at c = omega arith
 
-add_n : tie.Need-overflow-add-n invariant_loop decreases_loop
+add_n : tie.Need-overflow_add-n invariant_loop decreases_loop
 add_n c = omega arith
 
-loop_less : tie.Need-loop-smaller invariant_loop decreases_loop
+loop_less : tie.Need-loop-n-smaller invariant_loop decreases_loop
 loop_less c =
     let a = c.before.before.before.before.args in
-    let n = c.before.before.loop.n in
+    let n = c.before.before.loop-n.n in
     let l : a.at + n < length a.s.now = inside a.s.now (a.at + n)
-    (omega (arith, c.before.byte_at.ensures.0, c.if1.true)) in
+    (omega (arith, c.before.byte_at.ensures.0, c.loop-n-test.true)) in
     omega arith
 
-loop_again : tie.Need-loop-preserved invariant_loop decreases_loop
+loop_again : tie.Need-loop-n-preserved invariant_loop decreases_loop
 loop_again c =
     let a = c.before.before.before.before.args in
-    let n = c.before.before.loop.n in
-    turn a.s.now a.at n c.before.before.loop.invariant (omega (arith, c.before.byte_at.ensures.0, c.if1.true))
+    let n = c.before.before.loop-n.n in
+    turn a.s.now a.at n c.before.before.loop-n.invariant (omega (arith, c.before.byte_at.ensures.0, c.loop-n-test.true))
 
-mul_value : tie.Need-overflow-mul-value invariant_loop decreases_loop
+mul_value : tie.Need-overflow_mul-value invariant_loop decreases_loop
 mul_value c = omega arith
 
-add_byte_at_2 : tie.Need-overflow-add-byte-at-2 invariant_loop decreases_loop
+add_byte_at_2 : tie.Need-overflow_add-at-2 invariant_loop decreases_loop
 add_byte_at_2 c = omega arith
 
-add_value : tie.Need-overflow-add-value invariant_loop decreases_loop
+add_value : tie.Need-overflow_add-value invariant_loop decreases_loop
 add_value c = omega arith
 
-add_t8 : tie.Need-overflow-add-t8 invariant_loop decreases_loop
+add_t8 : tie.Need-overflow_add-result invariant_loop decreases_loop
 add_t8 c = omega arith
 
 returns : tie.Need-returns invariant_loop decreases_loop
 returns c =
     let b = c.before.before in
     let a = b.before.before.before.args in
-    let n = b.before.loop.n in
-    let i = b.before.loop.invariant in
-    let p = pad_last a.s.now (a.at + n) (λ e. c.before.if1.false (b.byte_at.ensures.0 ∙ e)) in
-    let v = c.byte-at2.ensures in
+    let n = b.before.loop-n.n in
+    let i = b.before.loop-n.invariant in
+    let p = pad_last a.s.now (a.at + n) (λ e. c.before.loop-n-test.false (b.byte_at.ensures.0 ∙ e)) in
+    let v = c.byte_at-2.ensures in
     ((omega (arith, i.bytes, p.1, v.0), omega (arith, i.many, p.0)), (omega (arith, i.most, v.1), omega (arith, i.most)))
 
 pub padding_run_spec : {M : Type 1} → statement M

@@ -6,14 +6,14 @@ use Rattle.packet_frame.proofs.FrameLaws.{past_frames}
 use Rattle.packet_frame.proofs.packet_frame.Statement.{statement}
 use Rattle.packet_frame.proofs.packet_frame.Tie as tie
 
-returns : tie.Need-returns
+returns : tie.Need-returns-then-k-lt12
 unfolding frame_at
 returns c = c.part.ensures
 
-returns_2 : tie.Need-returns-2
+returns_2 : tie.Need-returns
 unfolding frame_at
 returns_2 c = let a = c.before.before.before.args in sym
-    (past_frames a.packet.now a.t2 a.k (search rules) (search rules) c.before.if1.false)
+    (past_frames a.packet.now a.t2 a.k (search rules) (search rules) c.before.if-k-lt12.false)
 
 pub packet_frame_spec : {M : Type 1} → statement M
 packet_frame_spec =

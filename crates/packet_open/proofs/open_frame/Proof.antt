@@ -13,9 +13,9 @@ returns c =
     let r = f.before in
     let a = r.before.before.args in
     let s = a.packet.now in
-    let part : f.packet-frame.result.now ≡ frame_at s r.packet-read.result a.k = f.packet-frame.ensures in
-    let opened : c.ec-dec-init.result ≡ dec_open f.packet-frame.result.now = c.ec-dec-init.ensures in
-    opened ∙ ap dec_open (part ∙ ap (λ (p : Packet). frame_at s p a.k) r.packet-read.ensures)
+    let part : f.packet_frame-frame.result.now ≡ frame_at s r.packet_read-a.result a.k = f.packet_frame-frame.ensures in
+    let opened : c.ec_dec_init.result ≡ dec_open f.packet_frame-frame.result.now = c.ec_dec_init.ensures in
+    opened ∙ ap dec_open (part ∙ ap (λ (p : Packet). frame_at s p a.k) r.packet_read-a.ensures)
 
 pub open_frame_spec : {M : Type 1} → statement M
 open_frame_spec = tie.close

@@ -10,32 +10,32 @@ use Rattle.packet_padding.proofs.PadLaws.{pad_none, pad_some, pad_some_length}
 use Rattle.packet_padding.proofs.put_padding_run.Statement.{statement}
 use Rattle.packet_padding.proofs.put_padding_run.Tie as tie
 
-abbrev start : tie.Else1 → tie.Start
+abbrev start : tie.Else-k-eq0 → tie.Start
 start e = e.before.before
 
-long : (e : tie.Else1) → ((start e).args.k - 1) / 255 + 1 ≡ length (pad_code (start e).args.k)
-long e = pad_some_length (start e).args.k e.if1.false
+long : (e : tie.Else-k-eq0) → ((start e).args.k - 1) / 255 + 1 ≡ length (pad_code (start e).args.k)
+long e = pad_some_length (start e).args.k e.if-k-eq0.false
 
-returns : tie.Need-returns
-returns c = put_as (put_none _ _) (pad_none c.before.before.args.k c.if1.true) (omega arith)
+returns : tie.Need-returns-then-k-eq0
+returns c = put_as (put_none _ _) (pad_none c.before.before.args.k c.if-k-eq0.true) (omega arith)
 
-put_byte_run_requires : tie.Need-put-byte-run-requires
+put_byte_run_requires : tie.Need-put_byte_run-requires
 put_byte_run_requires c κs =
     let s = c.before.before.before in
     let e = s.before.before in
     omega (
       arith,
-      s.put-same-run.ensures.behind,
+      s.put_same_run-place.ensures.behind,
       length-replicate {A = ℕ} (((start e).args.k - 1) / 255) 255,
       long e,
     )
 
-returns_2 : tie.Need-returns-2
+returns_2 : tie.Need-returns
 returns_2 c =
     let b = c.before.before in
     let s = b.before.before.before.before in
     let e = s.before.before in
-    put_as (put_then s.put-same-run.ensures b.put-byte-run.ensures) (pad_some (start e).args.k e.if1.false)
+    put_as (put_then s.put_same_run-place.ensures b.put_byte_run.ensures) (pad_some (start e).args.k e.if-k-eq0.false)
     (omega (arith, long e))
 
 pub put_padding_run_spec : {M : Type 1} → statement M

@@ -17,26 +17,26 @@ use Rattle.packet_pieces.proofs.put_lengths_run.Tie as tie
 none : [] ≡ length_codes []
 none = unfold length_codes in refl
 
-abbrev invariant_loop : tie.invariant_loop
+abbrev invariant_loop : tie.invariant-loop-k
 invariant_loop out₀ at sizes n place₀ k₀ out place k =
     (k ≤ n) × (length out ≡ length out₀) × Put (length (codes_of sizes k)) out₀ at (codes_of sizes k) out place
 
-abbrev decreases_loop : tie.decreases_loop
+abbrev decreases_loop : tie.decreases-loop-k
 decreases_loop out₀ at sizes n place₀ k₀ out place k = n - k
 
-loop_holds : tie.Need-loop-init invariant_loop decreases_loop
+loop_holds : tie.Need-loop-k-init invariant_loop decreases_loop
 loop_holds c = (search rules, search rules, put_as (put_none _ _) none (omega arith))
 
-cast_size : tie.Need-overflow-cast-size invariant_loop decreases_loop
-cast_size c = omega (arith, c.before.before.before.before.before.requires.1 c.before.before.loop.k)
+cast_size : tie.Need-overflow_cast-size invariant_loop decreases_loop
+cast_size c = omega (arith, c.before.before.before.before.before.requires.1 c.before.before.loop-k.k)
 
-put_length_run_requires : tie.Need-put-length-run-requires invariant_loop decreases_loop
+put_length_run_requires : tie.Need-put_length_run-place-requires invariant_loop decreases_loop
 put_length_run_requires c κs =
     let b = c.before.before.before in
     let a = b.before.before.before.args in
     let ns = a.sizes.now in
-    let k = b.loop.k in
-    let p = b.loop.invariant.2 in (
+    let k = b.loop-k.k in
+    let p = b.loop-k.invariant.2 in (
       b.before.before.before.requires.1 k,
       omega (
         arith,
@@ -48,16 +48,16 @@ put_length_run_requires c κs =
       ),
     )
 
-loop_again : tie.Need-loop-preserved invariant_loop decreases_loop
+loop_again : tie.Need-loop-k-preserved invariant_loop decreases_loop
 loop_again c =
     let b = c.before.before.before.before.before.before in
     let a = b.before.before.before.args in
     let ns = a.sizes.now in
-    let k = b.loop.k in
+    let k = b.loop-k.k in
     let e : codes_of ns k ++ length_code (get_or ns k 0) ≡ codes_of ns (k + 1) = codes_more ns k (omega arith) in (
       search rules,
       search rules,
-      put_as (put_then b.loop.invariant.2 c.before.before.put-length-run.ensures) e
+      put_as (put_then b.loop-k.invariant.2 c.before.before.put_length_run-place.ensures) e
           (omega (arith, ap length e, length-append (codes_of ns k) (length_code (get_or ns k 0)))),
     )
 
@@ -66,9 +66,9 @@ returns c =
     let b = c.before in
     let a = b.before.before.before.args in
     let ns = a.sizes.now in
-    let e : b.loop.k ≡ a.n = omega arith in
-    let f : codes_of ns b.loop.k ≡ codes_of ns a.n = ap (λ (k : ℕ). codes_of ns k) e in
-    put_as b.loop.invariant.2 f (omega (arith, ap length f))
+    let e : b.loop-k.k ≡ a.n = omega arith in
+    let f : codes_of ns b.loop-k.k ≡ codes_of ns a.n = ap (λ (k : ℕ). codes_of ns k) e in
+    put_as b.loop-k.invariant.2 f (omega (arith, ap length f))
 
 pub put_lengths_run_spec : {M : Type 1} → statement M
 put_lengths_run_spec =

@@ -11,28 +11,28 @@ use Rattle.packet_pieces.proofs.PieceLaws.{middle_some, middle_none}
 use Rattle.packet_pieces.proofs.put_middle_run.Statement.{statement}
 use Rattle.packet_pieces.proofs.put_middle_run.Tie as tie
 
-abbrev start : tie.Then1 → tie.Start
+abbrev start : tie.Then-varied → tie.Start
 start t = t.before.before.before
 
-written : (t : tie.Then1) → codes_of (start t).args.sizes.now (length (start t).args.sizes.now - 1)
+written : (t : tie.Then-varied) → codes_of (start t).args.sizes.now (length (start t).args.sizes.now - 1)
     ≡ middle_of (start t).args.varied (start t).args.sizes.now
-written t = middle_some (start t).args.varied (start t).args.sizes.now t.if1.true
+written t = middle_some (start t).args.varied (start t).args.sizes.now t.if-varied.true
 
-put_lengths_run_requires : tie.Need-put-lengths-run-requires
+put_lengths_run_requires : tie.Need-put_lengths_run-requires
 put_lengths_run_requires c κs =
     let t = c.before in
     (omega arith, (start t).requires.1, omega (arith, (start t).requires.2, ap length (written t)))
 
-returns : tie.Need-returns
+returns : tie.Need-returns-then-varied
 returns c =
     let r = c.before.before in
     let e = written r.before.before in
-    put_as r.put-lengths-run.ensures e (omega (arith, ap length e))
+    put_as r.put_lengths_run.ensures e (omega (arith, ap length e))
 
-returns_2 : tie.Need-returns-2
+returns_2 : tie.Need-returns
 returns_2 c =
     let a = c.before.before.before.args in
-    put_as (put_none _ _) (middle_none a.varied a.sizes.now c.if1.false) (omega arith)
+    put_as (put_none _ _) (middle_none a.varied a.sizes.now c.if-varied.false) (omega arith)
 
 pub put_middle_run_spec : {M : Type 1} → statement M
 put_middle_run_spec =

@@ -14,73 +14,73 @@ use Rattle.packet_pieces.proofs.put_whole_run.Tie as tie
 
 -- ---- places
 
-abbrev start : tie.After-tail-run → tie.Start
+abbrev start : tie.After-tail_run-zeros → tie.Start
 start t = t.before.before.before.before.before
 
-abbrev worked_out : tie.After-put-front-run → tie.After-tail-run
+abbrev worked_out : tie.After-put_front_run-first → tie.After-tail_run-zeros
 worked_out f = f.before.before
 
-abbrev by_front : tie.After-put-middle-run-arg → tie.After-put-front-run
+abbrev by_front : tie.After-put_middle_run-arg-1 → tie.After-put_front_run-first
 by_front c = c.before.before.before
 
-abbrev by_middle : tie.After-put-word-run-arg → tie.After-put-middle-run
+abbrev by_middle : tie.After-put_word_run-arg-1 → tie.After-put_middle_run-second
 by_middle c = c.before.before.before
 
-abbrev by_word : tie.After-put-same-run-arg → tie.After-put-word-run
+abbrev by_word : tie.After-put_same_run-arg-1 → tie.After-put_word_run-third
 by_word c = c.before.before.before
 
 -- ---- the pieces
 
-abbrev front : tie.After-tail-run → List ℕ
-front t = front_of (start t).args.toc (start t).args.three t.before.count-byte.result (start t).args.k
+abbrev front : tie.After-tail_run-zeros → List ℕ
+front t = front_of (start t).args.toc (start t).args.three t.before.count_byte-b.result (start t).args.k
 
-abbrev middle : tie.After-tail-run → List ℕ
+abbrev middle : tie.After-tail_run-zeros → List ℕ
 middle t = middle_of (start t).args.varied (start t).args.sizes.now
 
-abbrev frames : tie.After-tail-run → List ℕ
+abbrev frames : tie.After-tail_run-zeros → List ℕ
 frames t = (start t).args.frames.now
 
-abbrev zeros : tie.After-tail-run → List ℕ
-zeros t = replicate t.tail-run.result 0
+abbrev zeros : tie.After-tail_run-zeros → List ℕ
+zeros t = replicate t.tail_run-zeros.result 0
 
-whole : (t : tie.After-tail-run) → front t ++ (middle t ++ (frames t ++ zeros t))
+whole : (t : tie.After-tail_run-zeros) → front t ++ (middle t ++ (frames t ++ zeros t))
     ≡ whole_of (start t).args.toc (start t).args.three (start t).args.k (start t).args.varied (start t).args.sizes.now (frames t)
 whole t =
     let a = (start t).args in
-    ap (λ (b : ℕ). front_of a.toc a.three b a.k ++ (middle t ++ (frames t ++ zeros t))) t.before.count-byte.ensures.0
+    ap (λ (b : ℕ). front_of a.toc a.three b a.k ++ (middle t ++ (frames t ++ zeros t))) t.before.count_byte-b.ensures.0
     ∙ ap (λ (n : ℕ). front_of a.toc a.three (count_byte (length a.sizes.now) a.varied a.k) a.k
-    ++ (middle t ++ (frames t ++ replicate n 0))) t.tail-run.ensures
+    ++ (middle t ++ (frames t ++ replicate n 0))) t.tail_run-zeros.ensures
 
-all_long : (t : tie.After-tail-run) → length (front t ++ (middle t ++ (frames t ++ zeros t)))
-    ≡ length (front t) + length (middle t) + length (frames t) + t.tail-run.result
+all_long : (t : tie.After-tail_run-zeros) → length (front t ++ (middle t ++ (frames t ++ zeros t)))
+    ≡ length (front t) + length (middle t) + length (frames t) + t.tail_run-zeros.result
 all_long t =
     omega (
       arith,
       four_length (front t) (middle t) (frames t) (zeros t),
-      length-replicate {A = ℕ} t.tail-run.result 0,
+      length-replicate {A = ℕ} t.tail_run-zeros.result 0,
     )
 
-room : (t : tie.After-tail-run)
-    → length (front t) + length (middle t) + length (frames t) + t.tail-run.result ≤ length (start t).args.out.now
+room : (t : tie.After-tail_run-zeros)
+    → length (front t) + length (middle t) + length (frames t) + t.tail_run-zeros.result ≤ length (start t).args.out.now
 room t = omega (arith, ap length (whole t), all_long t, (start t).requires.1)
 
 -- ---- the needs
 
-put_front_run_requires : tie.Need-put-front-run-requires
+put_front_run_requires : tie.Need-put_front_run-first-requires
 put_front_run_requires c κs = ((start c.before).requires.0.0, omega (arith, room c.before))
 
-put_middle_run_requires : tie.Need-put-middle-run-requires
+put_middle_run_requires : tie.Need-put_middle_run-second-requires
 put_middle_run_requires c κs =
     let t = worked_out (by_front c) in
-    ((start t).pre.0.1, (start t).pre.0.3, omega (arith, room t, (by_front c).put-front-run.ensures.behind))
+    ((start t).pre.0.1, (start t).pre.0.3, omega (arith, room t, (by_front c).put_front_run-first.ensures.behind))
 
-put_word_run_requires : tie.Need-put-word-run-requires
+put_word_run_requires : tie.Need-put_word_run-third-requires
 put_word_run_requires c κs =
     let m = by_middle c in
     let f = by_front m.before in
-    omega (arith, room (worked_out f), f.put-front-run.ensures.behind, m.put-middle-run.ensures.behind)
+    omega (arith, room (worked_out f), f.put_front_run-first.ensures.behind, m.put_middle_run-second.ensures.behind)
 
-put_same_run_requires : tie.Need-put-same-run-requires
+put_same_run_requires : tie.Need-put_same_run-requires
 put_same_run_requires c κs =
     let w = by_word c in
     let m = by_middle w.before in
@@ -88,9 +88,9 @@ put_same_run_requires c κs =
     omega (
       arith,
       room (worked_out f),
-      f.put-front-run.ensures.behind,
-      m.put-middle-run.ensures.behind,
-      w.put-word-run.ensures.behind,
+      f.put_front_run-first.ensures.behind,
+      m.put_middle_run-second.ensures.behind,
+      w.put_word_run-third.ensures.behind,
     )
 
 returns : tie.Need-returns
@@ -101,8 +101,8 @@ returns c =
     let f = by_front m.before in
     let t = worked_out f in
     put_as
-    (put_then (put_then (put_then f.put-front-run.ensures m.put-middle-run.ensures) w.put-word-run.ensures)
-    s.put-same-run.ensures)
+    (put_then (put_then (put_then f.put_front_run-first.ensures m.put_middle_run-second.ensures) w.put_word_run-third.ensures)
+    s.put_same_run.ensures)
     (four (front t) (middle t) (frames t) (zeros t) ∙ whole t)
     (omega (arith, ap length (whole t), all_long t))
 

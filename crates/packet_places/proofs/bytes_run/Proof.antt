@@ -42,87 +42,87 @@ module _ (s : List ℕ) (at n last : ℕ) where
       let e : length (lengths n r) + 0 ≡ n = omega (arith, lengths_count n r) in
       sym (get_or-append-add (lengths n r) (last ∷ []) 0 0) ∙ ap (λ (i : ℕ). get_or (lengths n r ++ (last ∷ [])) i 0) e
 
-abbrev invariant_loop : tie.invariant_loop
+abbrev invariant_loop : tie.invariant-loop-k
 invariant_loop s at n head last start₀ size₀ place₀ k₀ start size place k = (k ≤ n) × First (listed s at n last) head start size place k
 
-abbrev decreases_loop : tie.decreases_loop
+abbrev decreases_loop : tie.decreases-loop-k
 decreases_loop s at n head last start₀ size₀ place₀ k₀ start size place k = 12 - k
 
-loop_holds : tie.Need-loop-init invariant_loop decreases_loop
+loop_holds : tie.Need-loop-k-init invariant_loop decreases_loop
 loop_holds c = let a = c.args in (omega arith, none_yet (listed a.s.now a.at a.n a.last) a.head)
 
-cast_start : tie.Need-overflow-cast-start invariant_loop decreases_loop
+cast_start : tie.Need-overflow_cast-start invariant_loop decreases_loop
 cast_start c = omega arith
 
-mul_start : tie.Need-overflow-mul-start invariant_loop decreases_loop
+mul_start : tie.Need-offset_bounds-start-k invariant_loop decreases_loop
 mul_start c = omega arith
 
-array_write_start : tie.Need-array-write-start invariant_loop decreases_loop
+array_write_start : tie.Need-bounds-start-k invariant_loop decreases_loop
 array_write_start c = omega arith
 
-cast_size : tie.Need-overflow-cast-size invariant_loop decreases_loop
+cast_size : tie.Need-overflow_cast-size invariant_loop decreases_loop
 cast_size c = omega arith
 
-mul_size : tie.Need-overflow-mul-size invariant_loop decreases_loop
+mul_size : tie.Need-offset_bounds-size-k invariant_loop decreases_loop
 mul_size c = omega arith
 
-array_write_size : tie.Need-array-write-size invariant_loop decreases_loop
+array_write_size : tie.Need-bounds-size-k invariant_loop decreases_loop
 array_write_size c = omega arith
 
-returns : tie.Need-returns invariant_loop decreases_loop
+returns : tie.Need-returns-then-n-k invariant_loop decreases_loop
 returns c =
     let b = c.before.before in
     let a = b.before.args in
     let ns = listed a.s.now a.at a.n a.last in
     let m = many a.s.now a.at a.n a.last in
-    let e : a.n ≡ b.loop.k = omega arith in
-    let v : a.last ≡ get_or ns b.loop.k 0 = behind a.s.now a.at a.n a.last ∙ ap (λ (i : ℕ). get_or ns i 0) e in
-    let i = one_more ns a.head _ _ _ _ _ b.loop.invariant.1 (omega (arith, m)) (omega (arith, m)) v (omega arith) in
+    let e : a.n ≡ b.loop-k.k = omega arith in
+    let v : a.last ≡ get_or ns b.loop-k.k 0 = behind a.s.now a.at a.n a.last ∙ ap (λ (i : ℕ). get_or ns i 0) e in
+    let i = one_more ns a.head _ _ _ _ _ b.loop-k.invariant.1 (omega (arith, m)) (omega (arith, m)) v (omega arith) in
     all_stand ns a.head _ _ _ i (omega (arith, m))
 
-add_length : tie.Need-overflow-add-length invariant_loop decreases_loop
+add_length : tie.Need-overflow_add-length invariant_loop decreases_loop
 add_length c = omega arith
 
-shared_slice_read_length : tie.Need-shared-slice-read-length invariant_loop decreases_loop
+shared_slice_read_length : tie.Need-bounds-s-at invariant_loop decreases_loop
 shared_slice_read_length c = omega arith
 
-cast_length : tie.Need-overflow-cast-length invariant_loop decreases_loop
-cast_length c = let b = c.before.before.before in omega (arith, c.shared-slice-known.given (b.before.args.at + b.loop.k))
+cast_length : tie.Need-overflow_cast-length invariant_loop decreases_loop
+cast_length c = let b = c.before.before.before in omega (arith, c.shared_slice_known-1.given (b.before.args.at + b.loop-k.k))
 
-cast_size_2 : tie.Need-overflow-cast-size-2 invariant_loop decreases_loop
-cast_size_2 c = let b = c.before.before.before in omega (arith, c.shared-slice-known.given (b.before.args.at + b.loop.k))
+cast_size_2 : tie.Need-overflow_cast-size-in-loop-k invariant_loop decreases_loop
+cast_size_2 c = let b = c.before.before.before in omega (arith, c.shared_slice_known-1.given (b.before.args.at + b.loop-k.k))
 
-mul_size_2 : tie.Need-overflow-mul-size-2 invariant_loop decreases_loop
+mul_size_2 : tie.Need-offset_bounds-size-k-in-loop-k invariant_loop decreases_loop
 mul_size_2 c = omega arith
 
-array_write_size_2 : tie.Need-array-write-size-2 invariant_loop decreases_loop
+array_write_size_2 : tie.Need-bounds-size-k-in-loop-k invariant_loop decreases_loop
 array_write_size_2 c = omega arith
 
-add_place : tie.Need-overflow-add-place invariant_loop decreases_loop
+add_place : tie.Need-overflow_add-place invariant_loop decreases_loop
 add_place c =
     let b = c.before.before.before in
-    omega (arith, b.loop.invariant.1.near, c.shared-slice-known.given (b.before.args.at + b.loop.k))
+    omega (arith, b.loop-k.invariant.1.near, c.shared_slice_known-1.given (b.before.args.at + b.loop-k.k))
 
-add_k : tie.Need-overflow-add-k invariant_loop decreases_loop
+add_k : tie.Need-overflow_add-k invariant_loop decreases_loop
 add_k c = omega arith
 
-loop_less : tie.Need-loop-smaller invariant_loop decreases_loop
+loop_less : tie.Need-loop-k-smaller invariant_loop decreases_loop
 loop_less c = omega arith
 
-loop_again : tie.Need-loop-preserved invariant_loop decreases_loop
+loop_again : tie.Need-loop-k-preserved invariant_loop decreases_loop
 loop_again c =
     let b = c.before.before.before in
     let a = b.before.args in
-    let k = b.loop.k in
+    let k = b.loop-k.k in
     let m = many a.s.now a.at a.n a.last in
-    let l : k < a.n = omega (arith, c.before.if1.false) in
+    let l : k < a.n = omega (arith, c.before.if-n-k.false) in
     let v = byte a.s.now a.at a.n a.last b.before.requires.4 k l in (
       omega arith,
-      one_more (listed a.s.now a.at a.n a.last) a.head _ _ _ _ _ b.loop.invariant.1 (omega (arith, m)) (omega (arith, m)) v
-          (omega (arith, c.shared-slice-known.given (a.at + k))),
+      one_more (listed a.s.now a.at a.n a.last) a.head _ _ _ _ _ b.loop-k.invariant.1 (omega (arith, m)) (omega (arith, m)) v
+          (omega (arith, c.shared_slice_known-1.given (a.at + k))),
     )
 
-returns_2 : tie.Need-returns-2 invariant_loop decreases_loop
+returns_2 : tie.Need-returns invariant_loop decreases_loop
 returns_2 c = absurd (omega arith)
 
 pub bytes_run_spec : {M : Type 1} → statement M

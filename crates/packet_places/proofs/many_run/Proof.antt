@@ -20,30 +20,30 @@ ones : (s : List ℕ) (f : Form) (head last : ℕ) → Spanned s f head last →
     → head ≡ f.own + f.lens + (f.count - 1) → widths (f.count - 1) (behind f s) ≡ f.count - 1
 ones s f head last p v e = omega (arith, head_is s f head last p, head_varied f s v)
 
-sub_n : tie.Need-overflow-sub-n
+sub_n : tie.Need-overflow_sub-n
 sub_n c =
     let z = c.before.before.before.before in
     let a = z.args in
     omega (arith, (by_form a.s.now a.f a.head a.last z.requires.0).some)
 
-bytes_run_requires : tie.Need-bytes-run-requires
+bytes_run_requires : tie.Need-bytes_run-requires
 bytes_run_requires c κs =
     let z = c.before.before.before.before.before in
     let a = z.args in
     let p = z.requires.0 in (
-      omega (arith, c.if2.true, inside a.s.now a.f a.head a.last p),
+      omega (arith, c.if-head-at.true, inside a.s.now a.f a.head a.last p),
       omega (arith, z.requires.1),
       start_near a.s.now a.f a.head a.last p,
       last_small a.s.now a.f a.head a.last p,
-      ones a.s.now a.f a.head a.last p c.before.before.before.if1.true c.if2.true,
+      ones a.s.now a.f a.head a.last p c.before.before.before.if-f.true c.if-head-at.true,
     )
 
-returns : tie.Need-returns
+returns : tie.Need-returns-then-head-at
 returns c =
     let z = c.before.before.before.before.before.before in
     let a = z.args in
     let p = z.requires.0 in
-    let e = sizes_read a.s.now a.f a.head a.last p c.before.before.before.before.if1.true in
+    let e = sizes_read a.s.now a.f a.head a.last p c.before.before.before.before.if-f.true in
     subst (λ (ns : List ℕ). Stands ns a.head c.bytes_run.result) e c.bytes_run.ensures
 
 pub many_run_spec : {M : Type 1} → statement M

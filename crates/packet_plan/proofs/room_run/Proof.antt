@@ -27,69 +27,69 @@ known ns l w n c x m e d h p q r =
     let s : x ≡ shortest ns = shortest_is ns c (w + n) x p b q in
     record { plain = b; least = s; wanted = r ∙ ap (λ (k : ℕ). cond (eqb l 0) k l) s }
 
-returns : tie.Need-returns
+returns : tie.Need-returns-then-n-gt-LONGEST_PACKET
 returns c =
     let z = c.before.before.before in
     let a = z.args in
     let s = a.sizes.now in
     too_long a.len a.config a.n s a.length _ z.requires.0 z.requires.1 c.stop.ensures
-    (omega (arith, z.requires.1, c.before.if1.true, total_bare s))
+    (omega (arith, z.requires.1, c.before.if-n-gt-LONGEST_PACKET.true, total_bare s))
 
-returns_2 : tie.Need-returns-2
+returns_2 : tie.Need-returns-then-width-gt40000
 returns_2 c =
     let w = c.before.before in
     let z = w.before.before.before.before in
     let a = z.args in
-    too_long a.len a.config a.n a.sizes.now a.length _ z.requires.0 z.requires.1 c.stop2.ensures
-    (w.widths-run.ensures.more c.before.if2.true)
+    too_long a.len a.config a.n a.sizes.now a.length _ z.requires.0 z.requires.1 c.stop-then-width-gt40000.ensures
+    (w.widths_run-width.ensures.more c.before.if-width-gt40000.true)
 
-own_run_requires : tie.Need-own-run-requires
-own_run_requires c κs = omega (arith, c.before.before.widths-run.ensures.most, c.before.before.before.before.if1.false)
+own_run_requires : tie.Need-own_run-shortest-requires
+own_run_requires c κs = omega (arith, c.before.before.widths_run-width.ensures.most, c.before.before.before.before.if-n-gt-LONGEST_PACKET.false)
 
-returns_3 : tie.Need-returns-3
+returns_3 : tie.Need-returns-then-m-shortest
 returns_3 c =
     let q = c.before.before in
     let w = q.before.before.before.before in
     let z = w.before.before.before.before in
     let a = z.args in
     let s = a.sizes.now in
-    let k = known s a.length w.widths-run.result a.n _ _ _ z.requires.1 w.widths-run.ensures
-    q.before.before.before.if2.false
-    q.before.before.code-run.ensures q.before.own-run.ensures q.asked.ensures in
-    no_room a.len a.config a.n s a.length _ z.requires.0 z.requires.1 c.stop3.ensures
-    (λ i j. omega (arith, c.before.if3.true, k.least, k.wanted))
+    let k = known s a.length w.widths_run-width.result a.n _ _ _ z.requires.1 w.widths_run-width.ensures
+    q.before.before.before.if-width-gt40000.false
+    q.before.before.code_run-code.ensures q.before.own_run-shortest.ensures q.asked-m.ensures in
+    no_room a.len a.config a.n s a.length _ z.requires.0 z.requires.1 c.stop-then-m-shortest.ensures
+    (λ i j. omega (arith, c.before.if-m-shortest.true, k.least, k.wanted))
 
-returns_4 : tie.Need-returns-4
+returns_4 : tie.Need-returns-then-len-m
 returns_4 c =
     let q = c.before.before.before in
     let w = q.before.before.before.before in
     let z = w.before.before.before.before in
     let a = z.args in
     let s = a.sizes.now in
-    let k = known s a.length w.widths-run.result a.n _ _ _ z.requires.1 w.widths-run.ensures
-    q.before.before.before.if2.false
-    q.before.before.code-run.ensures q.before.own-run.ensures q.asked.ensures in
-    no_room a.len a.config a.n s a.length _ z.requires.0 z.requires.1 c.stop4.ensures
-    (λ i j. omega (arith, c.before.if4.true, k.wanted))
+    let k = known s a.length w.widths_run-width.result a.n _ _ _ z.requires.1 w.widths_run-width.ensures
+    q.before.before.before.if-width-gt40000.false
+    q.before.before.code_run-code.ensures q.before.own_run-shortest.ensures q.asked-m.ensures in
+    no_room a.len a.config a.n s a.length _ z.requires.0 z.requires.1 c.stop-then-len-m.ensures
+    (λ i j. omega (arith, c.before.if-len-m.true, k.wanted))
 
-returns_5 : tie.Need-returns-5
+returns_5 : tie.Need-returns
 returns_5 c =
     let q = c.before.before.before in
     let w = q.before.before.before.before in
     let z = w.before.before.before.before in
     let a = z.args in
     let s = a.sizes.now in
-    let k = known s a.length w.widths-run.result a.n _ _ _ z.requires.1 w.widths-run.ensures
-    q.before.before.before.if2.false
-    q.before.before.code-run.ensures q.before.own-run.ensures q.asked.ensures in
-    let long : shortest s ≤ length_for s a.length = omega (arith, c.before.before.if3.false, k.least, k.wanted) in
-    let room : length_for s a.length ≤ a.len = omega (arith, c.before.if4.false, k.wanted) in
+    let k = known s a.length w.widths_run-width.result a.n _ _ _ z.requires.1 w.widths_run-width.ensures
+    q.before.before.before.if-width-gt40000.false
+    q.before.before.code_run-code.ensures q.before.own_run-shortest.ensures q.asked-m.ensures in
+    let long : shortest s ≤ length_for s a.length = omega (arith, c.before.before.if-m-shortest.false, k.least, k.wanted) in
+    let room : length_for s a.length ≤ a.len = omega (arith, c.before.if-len-m.false, k.wanted) in
     record {
-      rule = c.frames-rule.ensures ∙ by_frames a.len a.config a.n s a.length z.requires.0 z.requires.1 long room;
+      rule = c.frames_rule-refusal.ensures ∙ by_frames a.len a.config a.n s a.length z.requires.0 z.requires.1 long room;
       runs = λ e. record {
         length = k.wanted;
-        same = w.before.alike-run.ensures;
-        code = q.before.before.code-run.ensures;
+        same = w.before.alike_run-same.ensures;
+        code = q.before.before.code_run-code.ensures;
         bare = k.plain;
       };
     }

@@ -20,19 +20,19 @@ answer : (s : List ℕ) (f : Form) (head last toc : ℕ) (p : Places) (a : Packe
 answer s f head last toc p a r t q e =
     e ∙ answered s f r.form r.rules toc t head r.head p.start p.size q.size q.start
 
-returns : tie.Need-returns
+returns : tie.Need-returns-then-f-le4
 returns c =
     let z = c.before.before.before.before.before in
     let a = z.args in
-    answer a.s.now a.f a.head a.last a.toc _ _ z.requires.0 z.requires.2 c.before.few-run.ensures
-    c.answer-run.ensures
+    answer a.s.now a.f a.head a.last a.toc _ _ z.requires.0 z.requires.2 c.before.few_run-p.ensures
+    c.answer_run.ensures
 
-returns_2 : tie.Need-returns-2
+returns_2 : tie.Need-returns
 returns_2 c =
     let z = c.before.before.before.before.before in
     let a = z.args in
-    answer a.s.now a.f a.head a.last a.toc _ _ z.requires.0 z.requires.2 c.before.many-run.ensures
-    c.answer-run2.ensures
+    answer a.s.now a.f a.head a.last a.toc _ _ z.requires.0 z.requires.2 c.before.many_run-p.ensures
+    c.answer_run-2.ensures
 
 pub accepted_run_spec : {M : Type 1} → statement M
 accepted_run_spec =

@@ -18,46 +18,46 @@ mono : (s : List ℕ) (b : ℕ) → b ≡ get_or s 0 0 → (b / 4 % 2 ≡ 1 → 
 mono s b e h = let z : b / 4 % 2 ≡ 0 = omega arith in ap (λ (n : ℕ). n / 4 % 2) (sym e) ∙ z
 
 -- behind the tests of the rules: the packet, and what they say where they are kept
-abbrev packet : tie.After-span-run → List ℕ
+abbrev packet : tie.After-span_run-span → List ℕ
 packet d = d.before.before.before.before.args.packet.now
 
-short : (d : tie.After-span-run) → length (packet d) ≤ 16384
-short d = d.before.before.if1.false
+short : (d : tie.After-span_run-span) → length (packet d) ≤ 16384
+short d = d.before.before.if-packet-gt-LONGEST_PACKET.false
 
-abbrev spanned : tie.After-byte-at → tie.After-span-run
+abbrev spanned : tie.After-byte_at-toc → tie.After-span_run-span
 spanned b = b.before.before
 
-kept : (b : tie.After-byte-at) → Told (packet (spanned b)) (spanned b).Span-run.result
-kept b = told (packet (spanned b)) _ (spanned b).Span-run.ensures b.before.if2.true
+kept : (b : tie.After-byte_at-toc) → Told (packet (spanned b)) (spanned b).span_run-span.result
+kept b = told (packet (spanned b)) _ (spanned b).span_run-span.ensures b.before.if-span.true
 
-returns : tie.Need-returns
+returns : tie.Need-returns-then-packet-gt-LONGEST_PACKET
 returns c =
     let s = c.before.before.before.args.packet.now in
-    c.refused.ensures ∙ sym (refused_is s 1 (rule_one s c.before.if1.true) (omega arith))
+    c.refused.ensures ∙ sym (refused_is s 1 (rule_one s c.before.if-packet-gt-LONGEST_PACKET.true) (omega arith))
 
-returns_2 : tie.Need-returns-2
+returns_2 : tie.Need-returns-then-toc-gt11
 returns_2 c =
     let b = c.before.before in
     let s = packet (spanned b) in
-    let g : 11 < config_of s = omega (arith, c.before.if3.true, b.byte_at.ensures.0) in
-    c.refused2.ensures
+    let g : 11 < config_of s = omega (arith, c.before.if-toc-gt11.true, b.byte_at-toc.ensures.0) in
+    c.refused-then-toc-gt11.ensures
     ∙ sym (refused_is s 11 (rule_eleven s (short (spanned b)) (kept b).rules (not_speech s g)) (omega arith))
 
-returns_3 : tie.Need-returns-3
+returns_3 : tie.Need-returns-then-toc-eq1
 returns_3 c =
     let b = c.before.before.before in
     let s = packet (spanned b) in
-    let g : stereo_of s ≡ 1 = ap (λ (n : ℕ). n / 4 % 2) (sym b.byte_at.ensures.0) ∙ c.before.if4.true in
-    c.refused3.ensures
+    let g : stereo_of s ≡ 1 = ap (λ (n : ℕ). n / 4 % 2) (sym b.byte_at-toc.ensures.0) ∙ c.before.if-toc-eq1.true in
+    c.refused-then-toc-eq1.ensures
     ∙ sym (refused_is s 11 (rule_eleven s (short (spanned b)) (kept b).rules (stereo_not s g)) (omega arith))
 
-accepted_run_requires : tie.Need-accepted-run-requires
+accepted_run_requires : tie.Need-accepted_run-requires
 accepted_run_requires c κs =
     let b = c.before.before in
     let f = (spanned b).before.form-run in
     let s = packet (spanned b) in
     let t = kept b in
-    let g : config_of s ≤ 11 = omega (arith, c.before.if3.false, b.byte_at.ensures.0) in (
+    let g : config_of s ≤ 11 = omega (arith, c.before.if-toc-gt11.false, b.byte_at-toc.ensures.0) in (
       record {
         short = short (spanned b);
         rules = t.rules;
@@ -67,26 +67,26 @@ accepted_run_requires c κs =
         last = t.last ∙ ap (λ (x : Form). last_by x s) (sym f.ensures.0);
       },
       twelve_count s f.result f.ensures.0 t.rules g,
-      b.byte_at.ensures.0,
-      b.byte_at.ensures.1,
+      b.byte_at-toc.ensures.0,
+      b.byte_at-toc.ensures.1,
     )
 
-returns_4 : tie.Need-returns-4
+returns_4 : tie.Need-returns-then-span
 returns_4 c =
     let b = c.before.before.before in
     let s = packet (spanned b) in
-    let g : config_of s ≤ 11 = omega (arith, c.before.before.if3.false, b.byte_at.ensures.0) in
-    let m : stereo_of s ≡ 0 = mono s b.byte_at.result b.byte_at.ensures.0 c.before.if4.false in
-    c.accepted-run.ensures
+    let g : config_of s ≤ 11 = omega (arith, c.before.before.if-toc-gt11.false, b.byte_at-toc.ensures.0) in
+    let m : stereo_of s ≡ 0 = mono s b.byte_at-toc.result b.byte_at-toc.ensures.0 c.before.if-toc-eq1.false in
+    c.accepted_run.ensures
     ∙ sym (answer_is s (reads s (record { short = short (spanned b); rules = (kept b).rules; config = g; mono = m })))
 
-returns_5 : tie.Need-returns-5
+returns_5 : tie.Need-returns
 returns_5 c =
     let d = c.before.before in
     let s = packet d in
-    let ten : c.refused4.result ≡ refused 10 = c.refused4.ensures in
+    let ten : c.refused-2.result ≡ refused 10 = c.refused-2.ensures in
     ten
-    ∙ sym (refused_is s 10 (rule_ten s (short d) (broke s _ d.Span-run.ensures c.before.if2.false)) (omega arith))
+    ∙ sym (refused_is s 10 (rule_ten s (short d) (broke s _ d.span_run-span.ensures c.before.if-span.false)) (omega arith))
 
 pub packet_read_spec : {M : Type 1} → statement M
 packet_read_spec =

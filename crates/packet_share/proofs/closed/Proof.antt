@@ -4,11 +4,11 @@ use borrow.Author.Tests.{le-leb, lt-leb}
 use Rattle.packet_share.proofs.closed.Statement.{statement}
 use Rattle.packet_share.proofs.closed.Tie as tie
 
-returns : tie.Need-returns
-returns c = rw (lt-leb c.before.before.args.last 1275 c.before.if1.true) c.none.ensures
+returns : tie.Need-returns-then-last-gt-LONGEST_FRAME
+returns c = rw (lt-leb c.before.before.args.last 1275 c.before.if-last-gt-LONGEST_FRAME.true) c.none.ensures
 
-returns_2 : tie.Need-returns-2
-returns_2 c = rw (le-leb c.before.args.last 1275 c.if1.false)
+returns_2 : tie.Need-returns
+returns_2 c = rw (le-leb c.before.args.last 1275 c.if-last-gt-LONGEST_FRAME.false)
 
 pub closed_spec : {M : Type 1} → statement M
 closed_spec = tie.close

@@ -23,33 +23,33 @@ one h room a e = even_share h 1 room a (e ∙ ap (λ (m : ℕ). closedOf h m) (s
 of_count : (h m n room : ℕ) (a : Span) → n ≡ m → a ≡ sharedOf h m room → a ≡ sharedOf h n room
 of_count h m n room a q e = e ∙ ap (λ (i : ℕ). sharedOf h i room) (sym q)
 
-returns : tie.Need-returns
+returns : tie.Need-returns-then-n-eq1
 returns c =
     let a = c.before.before.args in
-    of_count a.head 1 a.n a.room _ c.before.if1.true (one a.head a.room _ c.closed.ensures)
+    of_count a.head 1 a.n a.room _ c.before.if-n-eq1.true (one a.head a.room _ c.closed.ensures)
 
-returns_2 : tie.Need-returns-2
+returns_2 : tie.Need-returns-then-room-eq0
 returns_2 c =
     let b = c.before.before in
     let a = b.before.before.args in
-    of_count a.head 2 a.n a.room _ b.if2.true
-    (even_share a.head 2 a.room _ c.closed2.ensures c.before.if3.true)
+    of_count a.head 2 a.n a.room _ b.if-n-eq2.true
+    (even_share a.head 2 a.room _ c.closed-then-room-eq0.ensures c.before.if-room-eq0.true)
 
-returns_3 : tie.Need-returns-3
+returns_3 : tie.Need-returns-then-n-eq2
 returns_3 c =
     let b = c.before.before in
     let a = b.before.before.args in
-    of_count a.head 2 a.n a.room _ b.if2.true (uneven a.head 2 a.room _ c.none.ensures c.before.if3.false)
+    of_count a.head 2 a.n a.room _ b.if-n-eq2.true (uneven a.head 2 a.room _ c.none.ensures c.before.if-room-eq0.false)
 
-returns_4 : tie.Need-returns-4
+returns_4 : tie.Need-returns-then-room-n-eq0
 returns_4 c =
     let a = c.before.before.before.before.args in
-    even_share a.head a.n a.room _ c.closed3.ensures c.before.if4.true
+    even_share a.head a.n a.room _ c.closed-then-room-n-eq0.ensures c.before.if-room-n-eq0.true
 
-returns_5 : tie.Need-returns-5
+returns_5 : tie.Need-returns
 returns_5 c =
     let a = c.before.before.before.before.args in
-    uneven a.head a.n a.room _ c.none2.ensures c.before.if4.false
+    uneven a.head a.n a.room _ c.none-2.ensures c.before.if-room-n-eq0.false
 
 pub shared_run_spec : {M : Type 1} → statement M
 shared_run_spec =

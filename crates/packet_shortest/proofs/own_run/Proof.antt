@@ -4,11 +4,11 @@ use borrow.Author.Tests.{lt-ltb, le-ltb}
 use Rattle.packet_shortest.proofs.own_run.Statement.{statement}
 use Rattle.packet_shortest.proofs.own_run.Tie as tie
 
-returns : tie.Need-returns
-returns c = rw (lt-ltb _ _ c.if1.true)
+returns : tie.Need-returns-then-code-lt3
+returns c = rw (lt-ltb _ _ c.if-code-lt3.true)
 
-returns_2 : tie.Need-returns-2
-returns_2 c = rw (le-ltb _ _ c.if1.false)
+returns_2 : tie.Need-returns
+returns_2 c = rw (le-ltb _ _ c.if-code-lt3.false)
 
 pub own_run_spec : {M : Type 1} → statement M
 own_run_spec = tie.close

@@ -14,42 +14,42 @@ none : (n : ℕ) → n + total [] ≡ n
 unfolding total
 none n = omega arith
 
-abbrev invariant_loop : tie.invariant_loop
+abbrev invariant_loop : tie.invariant-loop-k
 invariant_loop sizes n left₀ k₀ left k = (k ≤ length sizes) × (left + total (take k sizes) ≡ n)
 
-abbrev decreases_loop : tie.decreases_loop
+abbrev decreases_loop : tie.decreases-loop-k
 decreases_loop sizes n left₀ k₀ left k = length sizes - k
 
-loop_holds : tie.Need-loop-init invariant_loop decreases_loop
+loop_holds : tie.Need-loop-k-init invariant_loop decreases_loop
 loop_holds c = (omega arith, none c.before.args.n)
 
-returns : tie.Need-returns invariant_loop decreases_loop
+returns : tie.Need-returns-then-left-size invariant_loop decreases_loop
 returns c =
     let b = c.before.before.before.before in
     let a = b.before.before.args in
-    over a.sizes.now a.n b.loop.k b.loop.left c.before.before.before.loop-test.true b.loop.invariant.1
-    (omega (arith, c.if1.true, c.before.wide.ensures))
+    over a.sizes.now a.n b.loop-k.k b.loop-k.left c.before.before.before.loop-k-test.true b.loop-k.invariant.1
+    (omega (arith, c.if-left-size.true, c.before.wide-size.ensures))
 
-loop_again : tie.Need-loop-preserved invariant_loop decreases_loop
+loop_again : tie.Need-loop-k-preserved invariant_loop decreases_loop
 loop_again c =
     let b = c.before.before.before.before in
     let a = b.before.before.args in (
       omega arith,
       omega (
         arith,
-        b.loop.invariant.1,
-        c.before.wide.ensures,
-        c.if1.false,
-        total_more a.sizes.now b.loop.k
-            c.before.before.before.loop-test.true,
+        b.loop-k.invariant.1,
+        c.before.wide-size.ensures,
+        c.if-left-size.false,
+        total_more a.sizes.now b.loop-k.k
+            c.before.before.before.loop-k-test.true,
       ),
     )
 
-returns_2 : tie.Need-returns-2 invariant_loop decreases_loop
+returns_2 : tie.Need-returns invariant_loop decreases_loop
 returns_2 c =
     let b = c.before in
     let a = b.before.before.args in
-    left_is a.sizes.now a.n b.loop.k b.loop.left (omega arith) b.loop.invariant.1
+    left_is a.sizes.now a.n b.loop-k.k b.loop-k.left (omega arith) b.loop-k.invariant.1
 
 pub adds_up_spec : {M : Type 1} → statement M
 adds_up_spec =

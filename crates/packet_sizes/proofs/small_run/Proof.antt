@@ -7,30 +7,30 @@ use Rattle.packet_sizes.proofs.SizeLaws.{small_all, small_not, one_more}
 use Rattle.packet_sizes.proofs.small_run.Statement.{statement}
 use Rattle.packet_sizes.proofs.small_run.Tie as tie
 
-abbrev invariant_loop : tie.invariant_loop
+abbrev invariant_loop : tie.invariant-loop-k
 invariant_loop sizes k₀ k = (k ≤ length sizes) × ((j : ℕ) → j < k → get_or sizes j 0 ≤ 1275)
 
-abbrev decreases_loop : tie.decreases_loop
+abbrev decreases_loop : tie.decreases-loop-k
 decreases_loop sizes k₀ k = length sizes - k
 
-loop_holds : tie.Need-loop-init invariant_loop decreases_loop
+loop_holds : tie.Need-loop-k-init invariant_loop decreases_loop
 loop_holds c = (omega arith, λ j h. absurd (omega arith))
 
-returns : tie.Need-returns invariant_loop decreases_loop
+returns : tie.Need-returns-then-sizes-k-gt-LONGEST_FRAME invariant_loop decreases_loop
 returns c =
     let b = c.before.before.before in
-    small_not b.before.args.sizes.now b.loop.k c.before.before.loop-test.true c.if1.true
+    small_not b.before.args.sizes.now b.loop-k.k c.before.before.loop-k-test.true c.if-sizes-k-gt-LONGEST_FRAME.true
 
-loop_again : tie.Need-loop-preserved invariant_loop decreases_loop
+loop_again : tie.Need-loop-k-preserved invariant_loop decreases_loop
 loop_again c =
     let b = c.before.before.before in
     let s = b.before.args.sizes.now in
-    (omega arith, one_more (λ (j : ℕ). get_or s j 0 ≤ 1275) b.loop.k b.loop.invariant.1 c.if1.false)
+    (omega arith, one_more (λ (j : ℕ). get_or s j 0 ≤ 1275) b.loop-k.k b.loop-k.invariant.1 c.if-sizes-k-gt-LONGEST_FRAME.false)
 
-returns_2 : tie.Need-returns-2 invariant_loop decreases_loop
+returns_2 : tie.Need-returns invariant_loop decreases_loop
 returns_2 c =
     let b = c.before in
-    small_all b.before.args.sizes.now (λ j h. b.loop.invariant.1 j (omega arith))
+    small_all b.before.args.sizes.now (λ j h. b.loop-k.invariant.1 j (omega arith))
 
 pub small_run_spec : {M : Type 1} → statement M
 small_run_spec =

@@ -29,78 +29,78 @@ module _ (s : List ℕ) (f : Form) (e : f ≡ form_of s) (toc : ℕ) (p : toc �
 
 -- ---- places
 
-abbrev begun : tie.After-byte-at → tie.After-shared-slice-known
+abbrev begun : tie.After-byte_at-toc → tie.After-shared_slice_known-1
 begun b = b.before.before
 
-abbrev start : tie.After-byte-at → tie.Start
+abbrev start : tie.After-byte_at-toc → tie.Start
 start b = (begun b).before
 
-abbrev first_byte : tie.After-firsts-run → tie.After-byte-at
+abbrev first_byte : tie.After-firsts_run-c → tie.After-byte_at-toc
 first_byte g = g.before.before.before
 
 -- the sums are worked out
-abbrev lengths_read : tie.After-struct-known4 → tie.After-firsts-run
+abbrev lengths_read : tie.After-struct_known-then-in_time-3-1 → tie.After-firsts_run-c
 lengths_read d = d.before.before.before.before
 
 -- ---- behind the written lengths
 
-abbrev packet : tie.After-firsts-run → List ℕ
+abbrev packet : tie.After-firsts_run-c → List ℕ
 packet g = (start (first_byte g)).args.s.now
 
-abbrev form : tie.After-firsts-run → Form
+abbrev form : tie.After-firsts_run-c → Form
 form g = (start (first_byte g)).args.f
 
-formed : (g : tie.After-firsts-run) → form g ≡ form_of (packet g)
+formed : (g : tie.After-firsts_run-c) → form g ≡ form_of (packet g)
 formed g = (start (first_byte g)).requires.1.0
 
-bytes : (g : tie.After-firsts-run) → AtMost 255 (packet g)
-bytes g i = omega (arith, (begun (first_byte g)).shared-slice-known.given i)
+bytes : (g : tie.After-firsts_run-c) → AtMost 255 (packet g)
+bytes g i = omega (arith, (begun (first_byte g)).shared_slice_known-1.given i)
 
-known : (g : tie.After-firsts-run)
-    → (form g).own + (form g).lens + g.firsts-run.result.width + (form g).pad + g.firsts-run.result.value ≤ length (packet g)
-    → Reached (packet g) (form g) (formed g) ((form g).own + (form g).lens + g.firsts-run.result.width) g.firsts-run.result.value
+known : (g : tie.After-firsts_run-c)
+    → (form g).own + (form g).lens + g.firsts_run-c.result.width + (form g).pad + g.firsts_run-c.result.value ≤ length (packet g)
+    → Reached (packet g) (form g) (formed g) ((form g).own + (form g).lens + g.firsts_run-c.result.width) g.firsts_run-c.result.value
 known g fits =
     let b = first_byte g in
     let t = g.before.before.in-time in
-    let r = g.firsts-run.ensures.0 in
-    reached (packet g) (form g) (formed g) b.byte_at.result b.byte_at.ensures.0 _ _ t.result t.ensures
-    g.before.if2.true b.before.if1.left r.0 r.1 fits
+    let r = g.firsts_run-c.ensures.0 in
+    reached (packet g) (form g) (formed g) b.byte_at-toc.result b.byte_at-toc.ensures.0 _ _ t.result t.ensures
+    g.before.if-in_time.true b.before.if1.left r.0 r.1 fits
 
 -- ---- the returns
 
-returns : tie.Need-returns
+returns : tie.Need-returns-then-n-eq0
 returns c =
     let z = c.before.before.before in
-    c.none.ensures ∙ broken z.args.s.now z.args.f z.requires.1.0 (λ k. omega (arith, k.some, c.before.if1.true))
+    c.none.ensures ∙ broken z.args.s.now z.args.f z.requires.1.0 (λ k. omega (arith, k.some, c.before.if-n-eq0.true))
 
-returns_2 : tie.Need-returns-2
+returns_2 : tie.Need-returns-then-s-used
 returns_2 c =
     let g = lengths_read c.before.before in
-    let r = g.firsts-run.ensures.0 in
-    c.none2.ensures
-    ∙ broken (packet g) (form g) (formed g) (λ k. omega (arith, k.fits, c.before.if3.true, r.0, r.1))
+    let r = g.firsts_run-c.ensures.0 in
+    c.none-then-s-used.ensures
+    ∙ broken (packet g) (form g) (formed g) (λ k. omega (arith, k.fits, c.before.if-s-used.true, r.0, r.1))
 
-returns_3 : tie.Need-returns-3
+returns_3 : tie.Need-returns-then-f
 returns_3 c =
     let t = c.before.before in
     let g = lengths_read t.before.before in
     c.closed.ensures
-    ∙ closes_varied (packet g) (form g) (formed g) (bytes g) _ _ (known g t.before.if3.false) t.if4.true
+    ∙ closes_varied (packet g) (form g) (formed g) (bytes g) _ _ (known g t.before.if-s-used.false) t.if-f.true
 
-returns_4 : tie.Need-returns-4
+returns_4 : tie.Need-returns-then-in_time
 returns_4 c =
     let t = c.before in
     let g = lengths_read t.before.before in
-    c.shared-run.ensures
-    ∙ closes_shared (packet g) (form g) (formed g) (bytes g) _ _ (known g t.before.if3.false) t.if4.false
+    c.shared_run.ensures
+    ∙ closes_shared (packet g) (form g) (formed g) (bytes g) _ _ (known g t.before.if-s-used.false) t.if-f.false
 
-returns_5 : tie.Need-returns-5
+returns_5 : tie.Need-returns
 returns_5 c =
     let b = c.before.before.before in
     let a = (start b).args in
-    let q = timed a.s.now a.f.count b.byte_at.result _ b.byte_at.ensures.0 c.before.before.in-time.ensures in
-    let l = leb-false (a.f.count * duration (config_of a.s.now)) 1200 (sym q ∙ c.before.if2.false) in
-    c.none3.ensures ∙ broken a.s.now a.f (start b).requires.1.0 (λ k. omega (arith, k.time, l))
+    let q = timed a.s.now a.f.count b.byte_at-toc.result _ b.byte_at-toc.ensures.0 c.before.before.in_time.ensures in
+    let l = leb-false (a.f.count * duration (config_of a.s.now)) 1200 (sym q ∙ c.before.if-in_time.false) in
+    c.none-2.ensures ∙ broken a.s.now a.f (start b).requires.1.0 (λ k. omega (arith, k.time, l))
 
 pub span_run_spec : {M : Type 1} → statement M
 span_run_spec =

@@ -29,33 +29,33 @@ module _ (s : List ℕ) (a : Packet) (read : a ≡ packet_read s) where
   unfolding packet_text
   refused h = ap refused_text number ∙ rw (ne_eqb (packet_read s).refusal 0 (λ e. h (number ∙ e)))
 
-put_accepted_run_requires : tie.Need-put-accepted-run-requires
+put_accepted_run_requires : tie.Need-put_accepted_run-requires
 put_accepted_run_requires c κs =
     let r = c.before.before.before in
     let s = r.before.before.args.input.now in
-    let h : Accepted s = omega (arith, number s _ r.packet-read.ensures) in
-    (search rules, rw r.packet-read.ensures (small s h))
+    let h : Accepted s = omega (arith, number s _ r.packet_read-a.ensures) in
+    (search rules, rw r.packet_read-a.ensures (small s h))
 
-returns : tie.Need-returns
+returns : tie.Need-returns-then-a-eq0
 returns c =
     let t = c.before.before in
     let r = t.before.before in
     let s = r.before.before.args.input.now in
-    printed_put (rw (accepted s _ r.packet-read.ensures (omega arith)) at c.put-accepted-run.ensures) (search rules)
+    printed_put (rw (accepted s _ r.packet_read-a.ensures (omega arith)) at c.put_accepted_run.ensures) (search rules)
 
-put_one_run_requires : tie.Need-put-one-run-requires
+put_one_run_requires : tie.Need-put_one_run-requires
 put_one_run_requires c κs =
     let r = c.before.before.before.before in
     let s = r.before.before.args.input.now in
-    (search rules, omega (arith, number s _ r.packet-read.ensures, refusal_most s))
+    (search rules, omega (arith, number s _ r.packet_read-a.ensures, refusal_most s))
 
-returns_2 : tie.Need-returns-2
+returns_2 : tie.Need-returns
 unfolding ascii refused_text
 returns_2 c =
     let t = c.before.before.before in
     let r = t.before.before in
     let s = r.before.before.args.input.now in
-    printed_put (rw (refused s _ r.packet-read.ensures (λ e. omega arith)) at c.put-one-run.ensures) (search rules)
+    printed_put (rw (refused s _ r.packet_read-a.ensures (λ e. omega arith)) at c.put_one_run.ensures) (search rules)
 
 pub packet_text_spec : {M : Type 1} → statement M
 packet_text_spec =

@@ -14,8 +14,8 @@ returns c =
     let f = w.before.before.before.before.before in
     let n = f.before.before.before.before in
     let g = n.before.before.before.before.before in
-    put_then (put_then (put_then g.put-one-run.ensures n.put-one-run2.ensures) f.put-frames-run.ensures)
-    w.put-word-run.ensures
+    put_then (put_then (put_then g.put_one_run-place.ensures n.put_one_run-place-2.ensures) f.put_frames_run-place.ensures)
+    w.put_word_run.ensures
 
 pub put_accepted_run_spec : {M : Type 1} → statement M
 put_accepted_run_spec =

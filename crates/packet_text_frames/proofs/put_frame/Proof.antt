@@ -12,7 +12,7 @@ returns : tie.Need-returns
 unfolding ascii
 returns c =
     let a = c.before.before.before.before.before.before.before.args in
-    put_as c.before.before.put-line-run.ensures
+    put_as c.before.before.put_line_run.ensures
     (rw (to_z_pos w16 {n = a.start} (omega arith), to_z_pos w16 {n = a.size} (omega arith)))
     (omega arith)
 

@@ -43,22 +43,22 @@ first v = has_key short v || second v
 each : every_below (λ v. has_key shortest v || first v) 32 ≡ true
 each = unfold durations in refl
 
-returns : tie.Need-returns
+returns : tie.Need-returns-in-16
 returns c = arm shortest 25 _ (unfold durations in refl) c.match.keys1
 
-returns_2 : tie.Need-returns-2
+returns_2 : tie.Need-returns-in-17
 returns_2 c = arm short 50 _ (unfold durations in refl) c.match.keys2
 
-returns_3 : tie.Need-returns-3
+returns_3 : tie.Need-returns-in-1
 returns_3 c = arm usual 200 _ (unfold durations in refl) c.match.keys3
 
-returns_4 : tie.Need-returns-4
+returns_4 : tie.Need-returns-in-2
 returns_4 c = arm long 400 _ (unfold durations in refl) c.match.keys4
 
-returns_5 : tie.Need-returns-5
+returns_5 : tie.Need-returns-in-3
 returns_5 c = arm longest 600 _ (unfold durations in refl) c.match.keys5
 
-returns_6 : tie.Need-returns-6
+returns_6 : tie.Need-returns-in_default
 returns_6 c =
     let v = c.before.args.config in
     let o = c.match.rest in

@@ -21,42 +21,42 @@ module _ (len c n : ℕ) (ns : List ℕ) (l : ℕ) (p : Plan) (d : Planned len c
   planned : Writable len c n ns p.length
   planned = subst (λ (m : ℕ). Writable len c n ns m) (sym (d.runs z).length) (writable len c n ns l accepted)
 
-abbrev plan : tie.Then1 → tie.After-plan-run
+abbrev plan : tie.Then-p-eq0 → tie.After-plan_run-p
 plan t = t.before.before
 
-abbrev start : tie.After-plan-run → tie.Start
+abbrev start : tie.After-plan_run-p → tie.Start
 start p = p.before.before.before.before
 
-fits : (t : tie.Then1)
+fits : (t : tie.Then-p-eq0)
     → Writable (length (start (plan t)).args.buf.now) (start (plan t)).args.config (length (start (plan t)).args.frames.now)
-    (start (plan t)).args.sizes.now (plan t).plan_run.result.length
+    (start (plan t)).args.sizes.now (plan t).plan_run-p.result.length
 fits t =
     let a = (start (plan t)).args in
-    planned (length a.buf.now) a.config (length a.frames.now) a.sizes.now a.length _ (plan t).plan_run.ensures
-    t.if1.true
+    planned (length a.buf-1.now) a.config (length a.frames.now) a.sizes.now a.length _ (plan t).plan_run-p.ensures
+    t.if-p-eq0.true
 
-write_run_requires : tie.Need-write-run-requires
+write_run_requires : tie.Need-write_run-requires
 write_run_requires c κs =
     let t = c.before.before in
-    let f = (plan t).plan_run.ensures.runs t.if1.true in
+    let f = (plan t).plan_run-p.ensures.runs t.if-p-eq0.true in
     (fits t, (f.same, f.code, f.bare))
 
-returns : tie.Need-returns
+returns : tie.Need-returns-then-p-eq0
 returns c =
     let w = c.before.before in
     let t = w.before.before.before in
     let a = (start (plan t)).args in
-    let p = (plan t).plan_run.result in
-    let d = (plan t).plan_run.ensures in
-    wrote_is a.buf.now _ a.config a.frames.now a.sizes.now a.length p.length w.write-run.ensures
-    (accepted (length a.buf.now) a.config (length a.frames.now) a.sizes.now a.length p d t.if1.true)
-    (d.runs t.if1.true).length
+    let p = (plan t).plan_run-p.result in
+    let d = (plan t).plan_run-p.ensures in
+    wrote_is a.buf-1.now _ a.config a.frames.now a.sizes.now a.length p.length w.write_run.ensures
+    (accepted (length a.buf-1.now) a.config (length a.frames.now) a.sizes.now a.length p d t.if-p-eq0.true)
+    (d.runs t.if-p-eq0.true).length
 
-returns_2 : tie.Need-returns-2
+returns_2 : tie.Need-returns
 returns_2 c =
     let p = c.before.before in
     let a = (start p).args in
-    kept_is a.buf.now a.config a.frames.now a.sizes.now a.length _ p.plan_run.ensures.rule c.if1.false
+    kept_is a.buf-1.now a.config a.frames.now a.sizes.now a.length _ p.plan_run-p.ensures.rule c.if-p-eq0.false
 
 pub packet_write_spec : {M : Type 1} → statement M
 packet_write_spec =

@@ -16,48 +16,48 @@ use Rattle.packet_write.proofs.WholeLaws.{Worked, code_four, whole_is, small_mos
 use Rattle.packet_write.proofs.write_run.Statement.{statement}
 use Rattle.packet_write.proofs.write_run.Tie as tie
 
-abbrev start : tie.After-struct-known → tie.Start
+abbrev start : tie.After-struct_known-1 → tie.Start
 start c = c.before.before.before.before
 
 -- behind the calls that work the numbers out
-abbrev begun : tie.After-final-code → tie.Start
+abbrev begun : tie.After-final_code-code → tie.Start
 begun f = start f.before.before.before
 
-short : (c : tie.After-struct-known) → (start c).args.p.bare ≤ 16384
+short : (c : tie.After-struct_known-1) → (start c).args.p.bare ≤ 16384
 short c =
     let w = (start c).requires.0 in
     omega (arith, w.long, w.room, w.buffer, (shortest_range (start c).args.sizes.now).0, (start c).requires.1.2)
 
-worked : (f : tie.After-final-code)
-    → Worked (begun f).args.p f.before.before.less.result f.before.own-run.result f.final-code.result
+worked : (f : tie.After-final_code-code)
+    → Worked (begun f).args.p f.before.before.less-k.result f.before.own_run-shortest.result f.final_code-code.result
 worked f =
-    record { pads = f.before.before.less.ensures; least = f.before.own-run.ensures; coded = f.final-code.ensures }
+    record { pads = f.before.before.less-k.ensures; least = f.before.own_run-shortest.ensures; coded = f.final_code-code.ensures }
 
-first_byte : (f : tie.After-final-code) → 8 * (begun f).args.c + f.final-code.result < 256
+first_byte : (f : tie.After-final_code-code) → 8 * (begun f).args.c + f.final_code-code.result < 256
 first_byte f =
     let z = begun f in
     omega (arith, z.pre.0.config, code_four z.args.sizes.now z.args.p z.pre.1 (worked f))
 
-abbrev whole : tie.After-final-code → List ℕ
+abbrev whole : tie.After-final_code-code → List ℕ
 whole f =
     let a = (begun f).args in
-    let code = f.final-code.result in
-    whole_of (8 * a.c + code) (eqb code 3) f.before.before.less.result (not a.p.same) a.sizes.now a.frames.now
+    let code = f.final_code-code.result in
+    whole_of (8 * a.c + code) (eqb code 3) f.before.before.less-k.result (not a.p.same) a.sizes.now a.frames.now
 
-packet : (f : tie.After-final-code)
+packet : (f : tie.After-final_code-code)
     → whole f ≡ packet_of (begun f).args.c (begun f).args.sizes.now (begun f).args.frames.now (begun f).args.p.length
 packet f =
     let a = (begun f).args in
     whole_is a.sizes.now a.p (begun f).requires.1 a.c a.frames.now (worked f)
 
-put_whole_run_requires : tie.Need-put-whole-run-requires
+put_whole_run_requires : tie.Need-put_whole_run-requires
 put_whole_run_requires c κs =
     let f = c.before.before in
     let a = (begun f).args in
     let s = a.sizes.now in
     let w = (begun f).requires.0 in (
       (
-        omega (arith, f.before.before.less.ensures, w.room, w.buffer),
+        omega (arith, f.before.before.less-k.ensures, w.room, w.buffer),
         w.some,
         at_most_twelve (length s) a.c w.config w.time,
         small_most s w.small,
@@ -70,7 +70,7 @@ returns c =
     let r = c.before.before in
     let f = r.before.before.before in
     let buf = (begun f).args.buf.now in
-    ◌∙◌ {b = sets buf 0 (whole f)} r.put-whole-run.ensures.is (ap (λ (t : List ℕ). sets buf 0 t) (packet f))
+    ◌∙◌ {b = sets buf 0 (whole f)} r.put_whole_run.ensures.is (ap (λ (t : List ℕ). sets buf 0 t) (packet f))
 
 pub write_run_spec : {M : Type 1} → statement M
 write_run_spec =

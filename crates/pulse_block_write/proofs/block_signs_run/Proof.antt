@@ -14,13 +14,13 @@ use Rattle.pulse_block_write.proofs.Empty.{signs_untold}
 use Rattle.pulse_block_write.proofs.block_signs_run.Statement.{statement}
 use Rattle.pulse_block_write.proofs.block_signs_run.Tie as tie
 
-abbrev start : tie.After-sign-row-at-run → tie.Start
+abbrev start : tie.After-sign_row_at_run-row → tie.Start
 start c = c.before.before.before.before.before
 
 -- the row that is lent is the block's
-row_is : (c : tie.After-sign-row-at-run)
+row_is : (c : tie.After-sign_row_at_run-row)
     → let a = (start c).args in
-    let r = c.sign-row-at-run.result in
+    let r = c.sign_row_at_run-row.result in
     take (r + 2 - r) (drop r a.rows.now) ≡ sign_row_of a.f.signal a.f.offset a.c
 row_is c =
     let a = (start c).args in
@@ -28,7 +28,7 @@ row_is c =
     let r = c.sign-row-at-run in
     sign_lent a.f.signal a.f.offset a.c p.1.2 p.1.3 r.result r.ensures a.rows.now p.0
 
-silk_encode_signs_run_requires : tie.Need-silk-encode-signs-run-requires
+silk_encode_signs_run_requires : tie.Need-silk_encode_signs_run-requires
 silk_encode_signs_run_requires c κs =
     let s = c.before.before in
     let b = start s in
@@ -39,7 +39,7 @@ silk_encode_signs_run_requires c κs =
     let good = sign_good f.signal f.offset b.args.c p.2 p.3 in
     (b.pre.0, (b.pre.1.0, (rw e good, ((rw e (w 0 (omega arith)), rw e (w 1 (omega arith))), p.0))))
 
-returns : tie.Need-returns
+returns : tie.Need-returns-then-some_pulses
 returns c =
     let s = c.before.before.before.before.before in
     let b = start s in
@@ -48,10 +48,10 @@ returns c =
     subst (λ (q : List ℕ). Told (out b.args.buf.now b.args.w) v (each (pos 0) (sign q) (map nat_abs v)) 256 (out a.new.0 a.result))
     (row_is s) a.ensures
 
-returns_2 : tie.Need-returns-2
+returns_2 : tie.Need-returns
 returns_2 c =
     let b = c.before.before.before.before in
-    let e = c.before.some-pulses.ensures c.if1.false in
+    let e = c.before.some_pulses.ensures c.if-some_pulses.false in
     signs_untold _ b.args.c b.args.j b.args.part.now b.requires.1.1.1.1 e.0 e.1 b.requires.0
 
 pub block_signs_run_spec : {M : Type 1} → statement M

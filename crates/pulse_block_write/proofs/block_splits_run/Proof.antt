@@ -10,7 +10,7 @@ use Rattle.silk.specs.PulseWriting.{shifted_by}
 use Rattle.pulse_block_write.proofs.block_splits_run.Statement.{statement}
 use Rattle.pulse_block_write.proofs.block_splits_run.Tie as tie
 
-silk_shell_encoder_run_requires : tie.Need-silk-shell-encoder-run-requires
+silk_shell_encoder_run_requires : tie.Need-silk_shell_encoder_run-requires
 silk_shell_encoder_run_requires c κs =
     let b = c.before.before.before.before.before.before.before in
     let s = c.before.before.before.shrink-run in

@@ -36,25 +36,25 @@ record Going (b : List ℕ) (d₀ : state.Dec) (v₀ : ℕ) (d : state.Dec) (v j
   pub least : d₀.total ≤ d.total
   pub most : d.total ≤ d₀.total + 16 * j
 
-abbrev invariant_loop : tie.invariant_loop
+abbrev invariant_loop : tie.invariant-loop-v
 invariant_loop packet rows level start end d₀ v₀ j₀ d v j = Going packet d₀ v₀ d v j
 
-abbrev decreases_loop : tie.decreases_loop
+abbrev decreases_loop : tie.decreases-loop-v
 decreases_loop packet rows level start end d₀ v₀ j₀ d v j = 10 - j
 
-abbrev start : tie.At-loop invariant_loop decreases_loop → tie.Start invariant_loop decreases_loop
+abbrev start : tie.At-loop-v invariant_loop decreases_loop → tie.Start invariant_loop decreases_loop
 start l = l.before.before.before.before.before.before
 
-ec_dec_icdf8_run_requires : tie.Need-ec-dec-icdf8-run-requires invariant_loop decreases_loop
+ec_dec_icdf8_run_requires : tie.Need-ec_dec_icdf8_run-a-requires invariant_loop decreases_loop
 ec_dec_icdf8_run_requires c κs =
     let z = c.before.before.before in
     let e = count_in z.args.rows.now z.args.level z.requires.1.1.0 (omega arith) in
     (z.requires.0, (omega (arith, z.requires.1.0), rw e (row_good (48 + z.args.level) (omega arith))))
 
-loop_holds : tie.Need-loop-init invariant_loop decreases_loop
+loop_holds : tie.Need-loop-v-init invariant_loop decreases_loop
 loop_holds c =
     let z = c.before.before.before.before.before in
-    let a = c.before.ec-dec-icdf8-run.ensures in
+    let a = c.before.ec_dec_icdf8_run-a.ensures in
     let e = count_in z.args.rows.now z.args.level z.requires.1.1.0 (omega arith) in
     record {
       rest = refl;
@@ -66,31 +66,31 @@ loop_holds c =
       most = omega arith;
     }
 
-sub_ec_dec_icdf8_run_2 : tie.Need-overflow-sub-ec-dec-icdf8-run-2 invariant_loop decreases_loop
-sub_ec_dec_icdf8_run_2 c = later_within (c.before.before.loop.j + 1) c.later-at.result c.later-at.ensures
+sub_ec_dec_icdf8_run_2 : tie.Need-slice_bounds-ec_dec_icdf8_run-count-in-loop-v invariant_loop decreases_loop
+sub_ec_dec_icdf8_run_2 c = later_within (c.before.before.loop-v.j + 1) c.later_at-at.result c.later_at-at.ensures
 
-part_ec_dec_icdf8_run_start_2 : tie.Need-slice-bounds-ec-dec-icdf8-run-start-2 invariant_loop decreases_loop
+part_ec_dec_icdf8_run_start_2 : tie.Need-slice_bounds-ec_dec_icdf8_run-start-in-loop-v invariant_loop decreases_loop
 part_ec_dec_icdf8_run_start_2 c =
-    let h = later_within (c.before.before.loop.j + 1) c.later-at.result c.later-at.ensures in search rules
+    let h = later_within (c.before.before.loop-v.j + 1) c.later_at-at.result c.later_at-at.ensures in search rules
 
-ec_dec_icdf8_run_requires_2 : tie.Need-ec-dec-icdf8-run-requires-2 invariant_loop decreases_loop
+ec_dec_icdf8_run_requires_2 : tie.Need-ec_dec_icdf8_run-b-requires invariant_loop decreases_loop
 ec_dec_icdf8_run_requires_2 c κs =
     let z = start c.before.before.before in
     let l = c.before.before.before.loop in
-    let e = later_in z.args.rows.now (l.j + 1) c.before.later-at.result z.pre.1.1.0 c.before.later-at.ensures in
+    let e = later_in z.args.rows.now (l.j + 1) c.before.later_at-at.result z.pre.1.1.0 c.before.later_at-at.ensures in
     (l.invariant.core, (omega (arith, l.invariant.most, z.pre.1.0), rw e (later (l.j + 1)).good))
 
-loop_less : tie.Need-loop-smaller invariant_loop decreases_loop
+loop_less : tie.Need-loop-v-smaller invariant_loop decreases_loop
 loop_less c =
     let l = c.before.before.before.before.before.loop in
-    let p = not_tenth l.j l.v l.invariant.to l.invariant.tenth c.before.before.before.before.loop-test.true in
+    let p = not_tenth l.j l.v l.invariant.to l.invariant.tenth c.before.before.before.before.loop-v-test.true in
     omega arith
 
-loop_again : tie.Need-loop-preserved invariant_loop decreases_loop
+loop_again : tie.Need-loop-v-preserved invariant_loop decreases_loop
 loop_again c =
     let z = start c.before.before.before.before.before in
     let l = c.before.before.before.before.before.loop in
-    let t = c.before.before.before.before.loop-test.true in
+    let t = c.before.before.before.before.loop-v-test.true in
     let p : l.j < 10 = not_tenth l.j l.v l.invariant.to l.invariant.tenth t in
     let at = c.before.before.before.later-at in
     let e = later_in z.args.rows.now (l.j + 1) at.result z.pre.1.1.0 at.ensures in
@@ -113,7 +113,7 @@ returns c =
     let l = c.before.loop in
     let i = l.invariant in
     let a = c.before.before.before.ec-dec-icdf8-run in
-    let n : l.v ≡ 17 → ⊥ = c.loop-test.false in
+    let n : l.v ≡ 17 → ⊥ = c.loop-v-test.false in
     let e = count_in z.args.rows.now z.args.level z.pre.1.1.0 (omega arith) in (
       record {
         is = sym (asked _ z.args.from _ (count_row z.args.level) (count_said 0) (λ v. low_counts 10 0 v) a.result e a.ensures)

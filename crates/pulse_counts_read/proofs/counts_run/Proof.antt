@@ -33,16 +33,16 @@ finish b level n d₀ c l d i g h m =
     let r = through_end g.through (counts_end b d level n i h) in
     ran_within (omega arith) (subst (λ (k : ℕ). Ran b d₀ (counts level n) (176 * i) (blocks_from c l 0 k) d) e r)
 
-abbrev invariant_loop : tie.invariant_loop
+abbrev invariant_loop : tie.invariant-loop-i
 invariant_loop packet rows level n counts₀ lows₀ d₀ i₀ counts lows d i = Counting packet level n d₀ counts lows d i
 
-abbrev decreases_loop : tie.decreases_loop
+abbrev decreases_loop : tie.decreases-loop-i
 decreases_loop packet rows level n counts₀ lows₀ d₀ i₀ counts lows d i = n - i
 
-abbrev start : tie.At-loop invariant_loop decreases_loop → tie.Start invariant_loop decreases_loop
+abbrev start : tie.At-loop-i invariant_loop decreases_loop → tie.Start invariant_loop decreases_loop
 start l = l.before.before.before
 
-loop_holds : tie.Need-loop-init invariant_loop decreases_loop
+loop_holds : tie.Need-loop-i-init invariant_loop decreases_loop
 unfolding blocks_from
 loop_holds c =
     let z = c.before.before in
@@ -55,13 +55,13 @@ loop_holds c =
       small2 = at_most_zeros 10 20;
     }
 
-count_run_requires : tie.Need-count-run-requires invariant_loop decreases_loop
+count_run_requires : tie.Need-count_run-b-requires invariant_loop decreases_loop
 count_run_requires c κs =
     let z = c.before.before.before.before in
-    let i = c.before.loop.invariant in
+    let i = c.before.loop-i.invariant in
     (i.through.core, (omega (arith, i.through.most, z.requires.1.0, z.requires.1.1.1.1), (z.requires.1.1.0, z.requires.1.1.1.0)))
 
-loop_again : tie.Need-loop-preserved invariant_loop decreases_loop
+loop_again : tie.Need-loop-i-preserved invariant_loop decreases_loop
 loop_again c =
     let z = start c.before.before.before.before.before in
     let l = c.before.before.before.before.before.loop in

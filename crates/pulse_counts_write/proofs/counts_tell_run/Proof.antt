@@ -37,55 +37,55 @@ count_told {p = p} {q = q} level b e f h t = told_ask e f h (subst (λ (n : ℕ)
 lows_untold : {o : Out} (b : Block) → b.lows ≤ 0 → b.count ≤ 16 → Core o → Told o b (low_counts 10 0 (count_said 0 b)) 160 o
 lows_untold b l h k = midway_end (midway_start k) (lows_said b 10 0 l h)
 
-abbrev invariant_loop : tie.invariant_loop
+abbrev invariant_loop : tie.invariant-loop-i
 invariant_loop buf₀ rows level n sums lows start end w₀ i₀ buf w i = Telling (out buf₀ w₀) level n sums lows (out buf w) i
 
-abbrev decreases_loop : tie.decreases_loop
+abbrev decreases_loop : tie.decreases-loop-i
 decreases_loop buf₀ rows level n sums lows start end w₀ i₀ buf w i = n - i
 
-abbrev start : tie.At-loop invariant_loop decreases_loop → tie.Start invariant_loop decreases_loop
+abbrev start : tie.At-loop-i invariant_loop decreases_loop → tie.Start invariant_loop decreases_loop
 start l = l.before.before.before
 
-loop_holds : tie.Need-loop-init invariant_loop decreases_loop
+loop_holds : tie.Need-loop-i-init invariant_loop decreases_loop
 loop_holds c =
     let z = c.before.before in
     record { midway = rw (sub-zero z.args.n) (midway_start z.requires.0); to = omega arith; kept = refl }
 
-cast_count_said : tie.Need-overflow-cast-count-said invariant_loop decreases_loop
-cast_count_said c = omega (arith, (start c.before).pre.1.1.1.1.0 c.before.loop.i)
+cast_count_said : tie.Need-overflow_cast-sum invariant_loop decreases_loop
+cast_count_said c = omega (arith, (start c.before).pre.1.1.1.1.0 c.before.loop-i.i)
 
-cast_count_said_2 : tie.Need-overflow-cast-count-said-2 invariant_loop decreases_loop
-cast_count_said_2 c = omega (arith, (start c.before).pre.1.1.1.1.1 c.before.loop.i)
+cast_count_said_2 : tie.Need-overflow_cast-shift invariant_loop decreases_loop
+cast_count_said_2 c = omega (arith, (start c.before).pre.1.1.1.1.1 c.before.loop-i.i)
 
-ec_enc_icdf_run_requires : tie.Need-ec-enc-icdf-run-requires invariant_loop decreases_loop
+ec_enc_icdf_run_requires : tie.Need-ec_enc_icdf_run-w-requires invariant_loop decreases_loop
 ec_enc_icdf_run_requires c κs =
     let l = c.before.before.before.before.loop in
     let z = start c.before.before.before.before in
     let m = l.invariant.midway in
     let p = z.pre.1.1 in
     let e = count_in z.args.rows.now z.args.level p.0 (omega arith) in
-    let v = c.before.before.count-said.ensures in
+    let v = c.before.before.count_said-first.ensures in
     let h = first_writable (block_at z.args.t5 z.args.t6 l.i) z.args.level (p.1.1.0 l.i) (omega arith) in
     (m.core, (omega (arith, m.most, z.pre.1.0, p.1.0.1), rw (e, v) (row_good (48 + z.args.level) (omega arith), h)))
 
-cast_later_tell : tie.Need-overflow-cast-later-tell invariant_loop decreases_loop
+cast_later_tell : tie.Need-overflow_cast-sum-then-shift-ne0 invariant_loop decreases_loop
 cast_later_tell c =
-    let l = c.before.before.before.before.before.before.before.before.before in omega (arith, (start l).requires.1.1.1.1.0 l.loop.i)
+    let l = c.before.before.before.before.before.before.before.before.before in omega (arith, (start l).requires.1.1.1.1.0 l.loop-i.i)
 
-cast_later_tell_2 : tie.Need-overflow-cast-later-tell-2 invariant_loop decreases_loop
+cast_later_tell_2 : tie.Need-overflow_cast-shift-then-shift-ne0 invariant_loop decreases_loop
 cast_later_tell_2 c =
-    let l = c.before.before.before.before.before.before.before.before.before in omega (arith, (start l).requires.1.1.1.1.1 l.loop.i)
+    let l = c.before.before.before.before.before.before.before.before.before in omega (arith, (start l).requires.1.1.1.1.1 l.loop-i.i)
 
-later_tell_requires : tie.Need-later-tell-requires invariant_loop decreases_loop
+later_tell_requires : tie.Need-later_tell-w-requires invariant_loop decreases_loop
 later_tell_requires c κs =
     let l = c.before.before.before.before.before.before.before.before.before in
     let z = start l in
-    let i = l.loop.i in
+    let i = l.loop-i.i in
     let p = z.pre.1.1 in
-    let a = c.before.before.before.before.ec-enc-icdf-run.ensures in
-    (a.core, (omega (arith, a.most, l.loop.invariant.midway.most, z.pre.1.0, p.1.0.1), (p.0, (p.1.1.0 i, p.1.1.1 i))))
+    let a = c.before.before.before.before.ec_enc_icdf_run-w.ensures in
+    (a.core, (omega (arith, a.most, l.loop-i.invariant.midway.most, z.pre.1.0, p.1.0.1), (p.0, (p.1.1.0 i, p.1.1.1 i))))
 
-loop_again : tie.Need-loop-preserved invariant_loop decreases_loop
+loop_again : tie.Need-loop-i-preserved invariant_loop decreases_loop
 loop_again c =
     let h = c.before.before.before.before.before.before.before in
     let z = start h.before in
@@ -94,8 +94,8 @@ loop_again c =
     let p = z.pre.1.1 in
     let b = block_at z.args.t5 z.args.t6 l.i in
     let e = count_in z.args.rows.now z.args.level p.0 (omega arith) in
-    let v = c.before.before.before.before.before.before.count-said.ensures in
-    let s = counts_said z.args.t5 z.args.t6 z.args.level z.args.n l.i h.loop-test.true in
+    let v = c.before.before.before.before.before.before.count_said-first.ensures in
+    let s = counts_said z.args.t5 z.args.t6 z.args.level z.args.n l.i h.loop-i-test.true in
     ⊎_elim
     (λ w.
     rw (w.5, w.6)
@@ -113,10 +113,10 @@ loop_again c =
       to = omega arith;
       kept = a.auto.0 ∙ l.invariant.kept;
     }))
-    c.if1.branch
+    c.if-shift-ne0.branch
 
-same_length : tie.Need-same-length invariant_loop decreases_loop
-same_length c = c.before.loop.invariant.kept
+same_length : tie.Need-shape_of-buf invariant_loop decreases_loop
+same_length c = c.before.loop-i.invariant.kept
 
 returns : tie.Need-returns invariant_loop decreases_loop
 returns c =

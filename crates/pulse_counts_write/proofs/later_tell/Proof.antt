@@ -18,45 +18,45 @@ record Telling (o : Out) (b : Block) (p : Out) (j : ℕ) : Type 0 where
   pub to : j ≤ b.lows
   pub kept : length p.buf ≡ length o.buf
 
-abbrev invariant_loop : tie.invariant_loop
+abbrev invariant_loop : tie.invariant-loop-j
 invariant_loop buf₀ rows sum lows w₀ j₀ buf w j = Telling (out buf₀ w₀) (record { count = sum; lows = lows }) (out buf w) j
 
-abbrev decreases_loop : tie.decreases_loop
+abbrev decreases_loop : tie.decreases-loop-j
 decreases_loop buf₀ rows sum lows w₀ j₀ buf w j = lows - j
 
 abbrev said : (c : tie.Start invariant_loop decreases_loop) → Block
 said c = record { count = c.args.sum; lows = c.args.lows }
 
-abbrev start : tie.At-loop invariant_loop decreases_loop → tie.Start invariant_loop decreases_loop
+abbrev start : tie.At-loop-j invariant_loop decreases_loop → tie.Start invariant_loop decreases_loop
 start l = l.before.before.before
 
-loop_holds : tie.Need-loop-init invariant_loop decreases_loop
+loop_holds : tie.Need-loop-j-init invariant_loop decreases_loop
 loop_holds c = record { midway = midway_start c.before.before.requires.0; to = omega arith; kept = refl }
 
-sub_ec_enc_icdf_run : tie.Need-overflow-sub-ec-enc-icdf-run invariant_loop decreases_loop
+sub_ec_enc_icdf_run : tie.Need-slice_bounds-ec_enc_icdf_run-count invariant_loop decreases_loop
 sub_ec_enc_icdf_run c =
     let at = c.before.before.later-at in
-    later_within (c.before.before.before.before.loop.j + 1) at.result at.ensures
+    later_within (c.before.before.before.before.loop-j.j + 1) at.result at.ensures
 
-part_ec_enc_icdf_run_start : tie.Need-slice-bounds-ec-enc-icdf-run-start invariant_loop decreases_loop
+part_ec_enc_icdf_run_start : tie.Need-slice_bounds-ec_enc_icdf_run-start invariant_loop decreases_loop
 part_ec_enc_icdf_run_start c =
     let at = c.before.before.later-at in
-    let h = later_within (c.before.before.before.before.loop.j + 1) at.result at.ensures in
+    let h = later_within (c.before.before.before.before.loop-j.j + 1) at.result at.ensures in
     search rules
 
-ec_enc_icdf_run_requires : tie.Need-ec-enc-icdf-run-requires invariant_loop decreases_loop
+ec_enc_icdf_run_requires : tie.Need-ec_enc_icdf_run-w-requires invariant_loop decreases_loop
 ec_enc_icdf_run_requires c κs =
     let z = start c.before.before.before.before.before in
     let l = c.before.before.before.before.before.loop in
     let at = c.before.before.before.later-at in
     let p = z.pre.1.1 in
     let e = later_in z.args.rows.now (l.j + 1) at.result p.0 at.ensures in
-    let v = c.before.before.count-said.ensures in (
+    let v = c.before.before.count_said-v.ensures in (
       l.invariant.midway.core,
       (omega (arith, l.invariant.midway.most, z.pre.1.0), rw (e, v) ((later (l.j + 1)).good, said_writable (said z) (l.j + 1) p.1.0 p.1.1)),
     )
 
-loop_again : tie.Need-loop-preserved invariant_loop decreases_loop
+loop_again : tie.Need-loop-j-preserved invariant_loop decreases_loop
 loop_again c =
     let h = c.before.before.before.before.before.before.before in
     let z = start h.before in
@@ -64,15 +64,15 @@ loop_again c =
     let at = c.before.before.before.before.before.before.later-at in
     let a = c.before.before.ec-enc-icdf-run in
     let e = later_in z.args.rows.now (l.j + 1) at.result z.pre.1.1.0 at.ensures in
-    let v = c.before.before.before.before.before.count-said.ensures in
+    let v = c.before.before.before.before.before.count_said-v.ensures in
     record {
-      midway = midway_asked (rw (lows_left (said z) 10 l.j (omega arith) h.loop-test.true) at l.invariant.midway) e v a.ensures (omega arith);
+      midway = midway_asked (rw (lows_left (said z) 10 l.j (omega arith) h.loop-j-test.true) at l.invariant.midway) e v a.ensures (omega arith);
       to = omega arith;
       kept = a.auto.0 ∙ l.invariant.kept;
     }
 
-same_length : tie.Need-same-length invariant_loop decreases_loop
-same_length c = c.before.loop.invariant.kept
+same_length : tie.Need-shape_of-buf invariant_loop decreases_loop
+same_length c = c.before.loop-j.invariant.kept
 
 returns : tie.Need-returns invariant_loop decreases_loop
 returns c =

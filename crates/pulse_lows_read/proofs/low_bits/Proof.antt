@@ -25,20 +25,20 @@ record Going (b : List ℕ) (m n : ℕ) (d₀ : Dec) (v : ℕ) (d : Dec) (j : �
   pub least : d₀.total ≤ d.total
   pub most : d.total ≤ d₀.total + 16 * j
 
-abbrev invariant_loop : tie.invariant_loop
+abbrev invariant_loop : tie.invariant-loop-j
 invariant_loop packet row m n v₀ d₀ j₀ v d j = Going packet m n d₀ v d j
 
-abbrev decreases_loop : tie.decreases_loop
+abbrev decreases_loop : tie.decreases-loop-j
 decreases_loop packet row m n v₀ d₀ j₀ v d j = n - j
 
 -- after at most ten low bits
 within : {b : List ℕ} {m n : ℕ} {d₀ : Dec} {v : ℕ} {d : Dec} {j : ℕ} → Going b m n d₀ v d j → n ≤ 10 → v ≤ 17407
 within {j = j} g h = omega (arith, g.small, pow_mono {i = j} {j = 10} (omega (arith, g.to)))
 
-abbrev start : tie.At-loop invariant_loop decreases_loop → tie.Start invariant_loop decreases_loop
+abbrev start : tie.At-loop-j invariant_loop decreases_loop → tie.Start invariant_loop decreases_loop
 start l = l.before.before.before
 
-loop_holds : tie.Need-loop-init invariant_loop decreases_loop
+loop_holds : tie.Need-loop-j-init invariant_loop decreases_loop
 loop_holds c =
     let z = c.before.before in
     record {
@@ -50,27 +50,27 @@ loop_holds c =
       most = omega arith;
     }
 
-ec_dec_icdf8_run_requires : tie.Need-ec-dec-icdf8-run-requires invariant_loop decreases_loop
+ec_dec_icdf8_run_requires : tie.Need-ec_dec_icdf8_run-a-requires invariant_loop decreases_loop
 ec_dec_icdf8_run_requires c κs =
     let z = c.before.before.before.before in
-    let i = c.before.loop.invariant in
+    let i = c.before.loop-j.invariant in
     (i.core, (omega (arith, i.most, z.requires.1.0, z.requires.1.1.1.1), rw z.requires.1.1.0 (row_good 123 (omega arith))))
 
 -- the value so far, and the bit read
-small_values : (c : tie.After-ec-dec-icdf8-run invariant_loop decreases_loop)
-    → (c.before.before.loop.v ≤ 17407) × (c.ec-dec-icdf8-run.result.value ≤ 1)
+small_values : (c : tie.After-ec_dec_icdf8_run-a invariant_loop decreases_loop)
+    → (c.before.before.loop-j.v ≤ 17407) × (c.ec_dec_icdf8_run-a.result.value ≤ 1)
 small_values c =
     let l = c.before.before in
     let p = (start l).requires.1.1 in
-    (within l.loop.invariant p.1.1, omega (arith, c.ec-dec-icdf8-run.ensures.inside, ap length p.0, low_bit_size))
+    (within l.loop-j.invariant p.1.1, omega (arith, c.ec_dec_icdf8_run-a.ensures.inside, ap length p.0, low_bit_size))
 
-mul_v : tie.Need-overflow-mul-v invariant_loop decreases_loop
+mul_v : tie.Need-overflow_mul-v invariant_loop decreases_loop
 mul_v c = omega (arith, small_values c)
 
-add_v : tie.Need-overflow-add-v invariant_loop decreases_loop
+add_v : tie.Need-overflow_add-v invariant_loop decreases_loop
 add_v c = omega (arith, small_values c)
 
-loop_again : tie.Need-loop-preserved invariant_loop decreases_loop
+loop_again : tie.Need-loop-j-preserved invariant_loop decreases_loop
 loop_again c =
     let z = start c.before.before.before in
     let l = c.before.before.before.loop in

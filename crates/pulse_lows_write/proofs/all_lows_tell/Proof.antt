@@ -21,34 +21,34 @@ record Telling (n : ℕ) (s : List ℤ) (o p : Out) (k : ℕ) : Type 0 where
   pub to : k ≤ 16
   pub kept : length p.buf ≡ length o.buf
 
-abbrev invariant_loop : tie.invariant_loop
+abbrev invariant_loop : tie.invariant-loop-k
 invariant_loop buf₀ row pulses n w₀ k₀ buf w k = Telling n pulses (out buf₀ w₀) (out buf w) k
 
-abbrev decreases_loop : tie.decreases_loop
+abbrev decreases_loop : tie.decreases-loop-k
 decreases_loop buf₀ row pulses n w₀ k₀ buf w k = 16 - k
 
 counted : (c : tie.Start invariant_loop decreases_loop) → length (map nat_abs c.args.pulses.now) ≡ 16
 counted c = length-map c.args.pulses.now nat_abs ∙ c.requires.1.1.1
 
-abbrev start : tie.At-loop invariant_loop decreases_loop → tie.Start invariant_loop decreases_loop
+abbrev start : tie.At-loop-k invariant_loop decreases_loop → tie.Start invariant_loop decreases_loop
 start l = l.before.before.before
 
-loop_holds : tie.Need-loop-init invariant_loop decreases_loop
+loop_holds : tie.Need-loop-k-init invariant_loop decreases_loop
 loop_holds c = record { told = midway_start c.before.before.requires.0; to = omega arith; kept = refl }
 
-low_bits_tell_requires : tie.Need-low-bits-tell-requires invariant_loop decreases_loop
+low_bits_tell_requires : tie.Need-low_bits_tell-w-requires invariant_loop decreases_loop
 low_bits_tell_requires c κs =
     let z = c.before.before.before.before.before.before.before in
-    let t = c.before.before.before.before.loop.invariant.told in
+    let t = c.before.before.before.before.loop-k.invariant.told in
     (t.core, (omega (arith, t.most, z.requires.1.0), z.requires.1.1.0))
 
-loop_again : tie.Need-loop-preserved invariant_loop decreases_loop
+loop_again : tie.Need-loop-k-preserved invariant_loop decreases_loop
 loop_again c =
     let z = start c.before.before.before.before.before.before.before in
     let s = z.args.pulses.now in
     let l = c.before.before.before.before.before.before.before.loop in
-    let f : SFits w16 (get_or s l.k (pos 0)) = sfits_of c.before.before.before.before.before.pulse.given in
-    let m = rw (to_z-of_z f) at c.before.before.before.before.magnitude.ensures in
+    let f : SFits w16 (get_or s l.k (pos 0)) = sfits_of c.before.before.before.before.before.pulse-1.given in
+    let m = rw (to_z-of_z f) at c.before.before.before.before.magnitude-m.ensures in
     let e = m ∙ sym (get_or-map nat_abs s l.k (pos 0)) in
     let a = c.before.before.low-bits-tell in
     record {
@@ -57,8 +57,8 @@ loop_again c =
       kept = a.auto.0 ∙ l.invariant.kept;
     }
 
-same_length : tie.Need-same-length invariant_loop decreases_loop
-same_length c = c.before.loop.invariant.kept
+same_length : tie.Need-shape_of-buf invariant_loop decreases_loop
+same_length c = c.before.loop-k.invariant.kept
 
 returns : tie.Need-returns invariant_loop decreases_loop
 returns c =

@@ -19,22 +19,22 @@ record Telling (o : Out) (m n : ℕ) (p : Out) (k : ℕ) : Type 0 where
   pub to : k ≤ n
   pub kept : length p.buf ≡ length o.buf
 
-abbrev invariant_loop : tie.invariant_loop
+abbrev invariant_loop : tie.invariant-loop-k
 invariant_loop buf₀ row m n w₀ k₀ buf w k = Telling (out buf₀ w₀) m n (out buf w) k
 
-abbrev decreases_loop : tie.decreases_loop
+abbrev decreases_loop : tie.decreases-loop-k
 decreases_loop buf₀ row m n w₀ k₀ buf w k = k
 
-abbrev start : tie.At-loop invariant_loop decreases_loop → tie.Start invariant_loop decreases_loop
+abbrev start : tie.At-loop-k invariant_loop decreases_loop → tie.Start invariant_loop decreases_loop
 start l = l.before.before.before
 
-loop_holds : tie.Need-loop-init invariant_loop decreases_loop
+loop_holds : tie.Need-loop-k-init invariant_loop decreases_loop
 loop_holds c = record { midway = midway_start c.before.before.requires.0; to = omega arith; kept = refl }
 
-shr_bit : tie.Need-overflow-shr-bit invariant_loop decreases_loop
-shr_bit c = omega (arith, c.before.loop.invariant.to, c.before.before.before.before.requires.1.1.1)
+shr_bit : tie.Need-overflow_shr-bit invariant_loop decreases_loop
+shr_bit c = omega (arith, c.before.loop-k.invariant.to, c.before.before.before.before.requires.1.1.1)
 
-ec_enc_icdf_run_requires : tie.Need-ec-enc-icdf-run-requires invariant_loop decreases_loop
+ec_enc_icdf_run_requires : tie.Need-ec_enc_icdf_run-w-requires invariant_loop decreases_loop
 ec_enc_icdf_run_requires c κs =
     let z = start c.before.before in
     let l = c.before.before.loop in
@@ -47,7 +47,7 @@ ec_enc_icdf_run_requires c κs =
       ),
     )
 
-loop_again : tie.Need-loop-preserved invariant_loop decreases_loop
+loop_again : tie.Need-loop-k-preserved invariant_loop decreases_loop
 loop_again c =
     let z = start c.before.before.before.before.before in
     let l = c.before.before.before.before.before.loop in
@@ -58,8 +58,8 @@ loop_again c =
       kept = a.auto.0 ∙ l.invariant.kept;
     }
 
-same_length : tie.Need-same-length invariant_loop decreases_loop
-same_length c = c.before.loop.invariant.kept
+same_length : tie.Need-shape_of-buf invariant_loop decreases_loop
+same_length c = c.before.loop-k.invariant.kept
 
 returns : tie.Need-returns invariant_loop decreases_loop
 returns c =

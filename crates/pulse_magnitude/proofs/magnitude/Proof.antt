@@ -27,38 +27,38 @@ most z f = nat_abs-le z f.sfits
 turned_fits : (z : ℤ) → SFits w16 z → SFits w32 (pos (nat_abs z))
 turned_fits z f = record { sfits = omega (arith, most z f) }
 
-cast_wide : tie.Need-overflow-cast-wide
+cast_wide : tie.Need-overflow_cast-wide
 cast_wide c = rw (to_z-of_z c.ranges.pulse) (sfits_widen tt c.ranges.pulse)
 
-sub_other : tie.Need-overflow-sub-other
+sub_other : tie.Need-overflow_sub-other
 sub_other c =
     let z = c.before.args.pulse in
     let f = c.before.ranges.pulse in
     let g : SFits w32 z = sfits_widen tt f in
-    rw (to_z-of_z f, to_z-of_z g, negated z (rw (to_z-of_z f, to_z-of_z g) at c.if1.true)) (turned_fits z f)
+    rw (to_z-of_z f, to_z-of_z g, negated z (rw (to_z-of_z f, to_z-of_z g) at c.if-wide-lt0.true)) (turned_fits z f)
 
-cast_result : tie.Need-overflow-cast-result
+cast_result : tie.Need-overflow_cast-result
 cast_result c =
     let z = c.before.args.pulse in
     let f = c.before.ranges.pulse in
     let g : SFits w32 z = sfits_widen tt f in
-    rw (to_z-of_z f, to_z-of_z g, negated z (rw (to_z-of_z f, to_z-of_z g) at c.if1.true), to_z-of_z (turned_fits z f)) (tt, omega (arith, most z f))
+    rw (to_z-of_z f, to_z-of_z g, negated z (rw (to_z-of_z f, to_z-of_z g) at c.if-wide-lt0.true), to_z-of_z (turned_fits z f)) (tt, omega (arith, most z f))
 
-cast_result_2 : tie.Need-overflow-cast-result-2
+cast_result_2 : tie.Need-overflow_cast-result-else-wide-lt0
 cast_result_2 c =
     let z = c.before.args.pulse in
     let f = c.before.ranges.pulse in
     let g : SFits w32 z = sfits_widen tt f in
-    rw (to_z-of_z f, to_z-of_z g) (natural z (rw (to_z-of_z f, to_z-of_z g) at c.if1.false), omega (arith, most z f))
+    rw (to_z-of_z f, to_z-of_z g) (natural z (rw (to_z-of_z f, to_z-of_z g) at c.if-wide-lt0.false), omega (arith, most z f))
 
-returns : tie.Need-returns
+returns : tie.Need-returns-then-wide-lt0
 returns c =
     let z = c.before.args.pulse in
     let f = c.before.ranges.pulse in
     let g : SFits w32 z = sfits_widen tt f in
-    rw (to_z-of_z f, to_z-of_z g, negated z (rw (to_z-of_z f, to_z-of_z g) at c.if1.true), to_z-of_z (turned_fits z f))
+    rw (to_z-of_z f, to_z-of_z g, negated z (rw (to_z-of_z f, to_z-of_z g) at c.if-wide-lt0.true), to_z-of_z (turned_fits z f))
 
-returns_2 : tie.Need-returns-2
+returns_2 : tie.Need-returns-else-wide-lt0
 returns_2 c =
     let z = c.before.args.pulse in
     let f = c.before.ranges.pulse in

@@ -12,10 +12,10 @@ use Rattle.pulse_row_places.proofs.split_start_run.Tie as tie
 most : (c : tie.Start) → c.args.n * (c.args.n + 1) ≤ 272
 most c = mul-le-mul {n₁ = c.args.n} {m₁ = c.args.n + 1} {n₂ = 16} {m₂ = 17} c.requires.1 (omega (arith, c.requires.1))
 
-mul_result_2 : tie.Need-overflow-mul-result-2
+mul_result_2 : tie.Need-overflow_mul-result-2
 mul_result_2 c = omega (arith, most c)
 
-add_result_3 : tie.Need-overflow-add-result-3
+add_result_3 : tie.Need-overflow_add-result-3
 add_result_3 c = omega (arith, most c)
 
 returns : tie.Need-returns

@@ -10,37 +10,37 @@ use Rattle.pulse_shell_empty.proofs.Empty.{cleared, cleared_next, all_cleared}
 use Rattle.pulse_shell_empty.proofs.clear.Statement.{statement}
 use Rattle.pulse_shell_empty.proofs.clear.Tie as tie
 
-abbrev invariant_loop : tie.invariant_loop
+abbrev invariant_loop : tie.invariant-loop-k
 invariant_loop places₀ k₀ k-end places k = (k ≤ k-end) × (places ≡ cleared k places₀) × (length places ≡ length places₀)
 
-abbrev decreases_loop : tie.decreases_loop
+abbrev decreases_loop : tie.decreases-loop-k
 decreases_loop places₀ k₀ k-end places k = k-end - k
 
-loop_holds : tie.Need-loop-init invariant_loop decreases_loop
+loop_holds : tie.Need-loop-k-init invariant_loop decreases_loop
 loop_holds c = (omega arith, refl, refl)
 
-add_k : tie.Need-overflow-add-k invariant_loop decreases_loop
+add_k : tie.Need-overflow_step-k invariant_loop decreases_loop
 add_k c = omega arith
 
-loop_less : tie.Need-loop-smaller invariant_loop decreases_loop
+loop_less : tie.Need-loop-k-smaller invariant_loop decreases_loop
 loop_less c = omega arith
 
-loop_again : tie.Need-loop-preserved invariant_loop decreases_loop
+loop_again : tie.Need-loop-k-preserved invariant_loop decreases_loop
 loop_again c =
     let l = c.before.loop in (
       omega arith,
-      ap (λ (s : List ℤ). set s l.k (pos 0)) l.invariant.1 ∙ cleared_next l.k c.before.before.args.places.now c.loop-test.true,
+      ap (λ (s : List ℤ). set s l.k (pos 0)) l.invariant.1 ∙ cleared_next l.k c.before.before.args.places.now c.loop-k-test.true,
       length-set l.places l.k (pos 0) ∙ l.invariant.2,
     )
 
-same_length : tie.Need-same-length invariant_loop decreases_loop
-same_length c = c.before.loop.invariant.2
+same_length : tie.Need-shape_of-places invariant_loop decreases_loop
+same_length c = c.before.loop-k.invariant.2
 
 returns : tie.Need-returns invariant_loop decreases_loop
 returns c =
     let l = c.before.loop in
     let s = c.before.before.args.places.now in
-    let e : l.k ≡ length s = omega (arith, l.invariant.0, c.loop-test.false) in
+    let e : l.k ≡ length s = omega (arith, l.invariant.0, c.loop-k-test.false) in
     l.invariant.1 ∙ ap (λ (n : ℕ). cleared n s) e ∙ all_cleared s
 
 pub clear_spec : {M : Type 1} → statement M

@@ -11,34 +11,34 @@ use Rattle.silk.proofs.PulseSteps.{split_none, split_some}
 use Rattle.pulse_shell_halves.proofs.decode_split_run.Statement.{statement}
 use Rattle.pulse_shell_halves.proofs.decode_split_run.Tie as tie
 
-abbrev start : tie.After-split-start-run → tie.Start
+abbrev start : tie.After-split_start_run-start → tie.Start
 start c = c.before.before.before.before
 
 -- where the row of p pulses stands in what is lent
-place : (c : tie.After-split-start-run)
+place : (c : tie.After-split_start_run-start)
     → let a = (start c).args in
-    Stands (58 + a.table * 16 + a.p) a.rows.now c.split-start-run.result (a.p + 1)
-place c = stands_in (start c).requires.1.1.0.is (c.split-start-run.ensures (omega arith))
+    Stands (58 + a.table * 16 + a.p) a.rows.now c.split_start_run-start.result (a.p + 1)
+place c = stands_in (start c).requires.1.1.0.is (c.split_start_run-start.ensures (omega arith))
 
-returns : tie.Need-returns
-returns c = let b = c.before.before.before in (split_none b.args.table b.args.p c.if1.true b.requires.0, omega arith)
+returns : tie.Need-returns-then-p-eq0
+returns c = let b = c.before.before.before in (split_none b.args.table b.args.p c.if-p-eq0.true b.requires.0, omega arith)
 
-add_end_2 : tie.Need-overflow-add-end-2
+add_end_2 : tie.Need-overflow_add-end-2
 add_end_2 c = omega (arith, (place c).within, (start c).requires.1.1.0.size)
 
-part_ec_dec_icdf8_run_end : tie.Need-slice-bounds-ec-dec-icdf8-run-end
+part_ec_dec_icdf8_run_end : tie.Need-slice_bounds-ec_dec_icdf8_run-end
 part_ec_dec_icdf8_run_end c = (place c).within
 
-ec_dec_icdf8_run_requires : tie.Need-ec-dec-icdf8-run-requires
+ec_dec_icdf8_run_requires : tie.Need-ec_dec_icdf8_run-requires
 ec_dec_icdf8_run_requires c κs =
     let b = start c.before in
     (b.pre.0, (b.pre.1.0, rw (lent _ (place c.before) refl) (row_good (58 + b.args.table * 16 + b.args.p) (omega arith))))
 
-returns_2 : tie.Need-returns-2
+returns_2 : tie.Need-returns
 returns_2 c =
     let b = start c.before.before in
     let s = place c.before.before in
-    let a = c.ec-dec-icdf8-run.ensures in
+    let a = c.ec_dec_icdf8_run.ensures in
     let e = lent _ s refl in
     (split_some b.args.table b.args.p (omega arith) e a, omega (arith, a.inside, ap length e ∙ s.size))
 

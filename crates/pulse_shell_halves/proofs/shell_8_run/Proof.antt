@@ -6,30 +6,30 @@ use Rattle.pulse_shell_halves.proofs.Halves.{Halving, halving_start, halving_fit
 use Rattle.pulse_shell_halves.proofs.shell_8_run.Statement.{statement}
 use Rattle.pulse_shell_halves.proofs.shell_8_run.Tie as tie
 
-abbrev invariant_loop : tie.invariant_loop
+abbrev invariant_loop : tie.invariant-loop-h
 invariant_loop packet rows places₀ p left q₀ h₀ places q h = Halving packet 2 4 48 left p q₀ places₀ places q h
 
-abbrev decreases_loop : tie.decreases_loop
+abbrev decreases_loop : tie.decreases-loop-h
 decreases_loop packet rows places₀ p left q₀ h₀ places q h = 2 - h
 
-abbrev start : tie.After-decode-split-run invariant_loop decreases_loop → tie.Start invariant_loop decreases_loop
+abbrev start : tie.After-decode_split_run-a invariant_loop decreases_loop → tie.Start invariant_loop decreases_loop
 start a = a.before.before.before
 
-loop_holds : tie.Need-loop-init invariant_loop decreases_loop
-loop_holds c = let a = c.before.decode-split-run.ensures in halving_start a.0.core a.1 (start c.before).pre.1.1.1.1
+loop_holds : tie.Need-loop-h-init invariant_loop decreases_loop
+loop_holds c = let a = c.before.decode_split_run-a.ensures in halving_start a.0.core a.1 (start c.before).pre.1.1.1.1
 
-shell_4_requires : tie.Need-shell-4-requires invariant_loop decreases_loop
+shell_4_requires : tie.Need-shell_4-q-requires invariant_loop decreases_loop
 shell_4_requires c κs =
     let a = c.before.before.before.before.before in
     let p = (start a).requires.1 in
-    halving_asks c.before.before.before.loop.invariant c.before.before.loop-test.true c.before.half-count-run.ensures
-    (omega (arith, a.decode-split-run.ensures.0.most, p.0)) p.1.0 p.1.1.0
+    halving_asks c.before.before.before.loop-h.invariant c.before.before.loop-h-test.true c.before.half_count_run-c.ensures
+    (omega (arith, a.decode_split_run-a.ensures.0.most, p.0)) p.1.0 p.1.1.0
 
-loop_again : tie.Need-loop-preserved invariant_loop decreases_loop
+loop_again : tie.Need-loop-h-preserved invariant_loop decreases_loop
 loop_again c =
     let i = c.before.before.before.before in
     let r = c.before.shell-4 in
-    halving_next i.before.loop.invariant i.loop-test.true c.before.before.before.half-count-run.ensures r.auto.1.1.1.0 r.ensures
+    halving_next i.before.loop-h.invariant i.loop-h-test.true c.before.before.before.half_count_run-c.ensures r.auto.1.1.1.0 r.ensures
 
 pub shell_8_run_spec : {M : Type 1} → statement M
 shell_8_run_spec =
@@ -37,9 +37,9 @@ shell_8_run_spec =
     (tie.spec invariant_loop decreases_loop
     (λ c κs. let p = c.before.before.requires in (p.0, (omega (arith, p.1.0), (p.1.1.0, (omega arith, p.1.1.1.0)))))
     loop_holds (λ c. search rules) (λ c. search rules)
-    (λ c κs. c.before.loop.invariant.fewer)
+    (λ c κs. c.before.loop-h.invariant.fewer)
     (λ c. search rules) (λ c. search rules) (λ c. search rules)
-    (λ c. halving_fits c.before.before.loop.invariant c.before.loop-test.true)
+    (λ c. halving_fits c.before.before.loop-h.invariant c.before.loop-h-test.true)
     shell_4_requires (λ c. search rules) (λ c. search rules) loop_again
-    (λ c. halving_kept c.before.loop.invariant)
-    (λ c. halving_end c.before.loop.invariant c.loop-test.false c.before.before.before.decode-split-run.ensures.0))
+    (λ c. halving_kept c.before.loop-h.invariant)
+    (λ c. halving_end c.before.loop-h.invariant c.loop-h-test.false c.before.before.before.decode_split_run-a.ensures.0))

@@ -23,76 +23,76 @@ record Telling (y : List ℕ) (o p : Out) (k : ℕ) : Type 0 where
   pub to : k ≤ 15
   pub kept : length p.buf ≡ length o.buf
 
-abbrev invariant_loop : tie.invariant_loop
+abbrev invariant_loop : tie.invariant-loop-k
 invariant_loop buf₀ rows places p starts alls lefts count q₀ k₀ buf q k = Telling places (out buf₀ q₀) (out buf q) k
 
-abbrev decreases_loop : tie.decreases_loop
+abbrev decreases_loop : tie.decreases-loop-k
 decreases_loop buf₀ rows places p starts alls lefts count q₀ k₀ buf q k = count - k
 
-spoken_of_run_requires : tie.Need-spoken-of-run-requires invariant_loop decreases_loop
+spoken_of_run_requires : tie.Need-spoken_of_run-count-requires invariant_loop decreases_loop
 spoken_of_run_requires c κs =
     let b = c.before.before.before.before.before.before in
     (record { start_size = refl; all_size = refl; left_size = refl }, (b.requires.1.1.1.1, b.requires.1.1.1.0, b.requires.1.1.1.2))
 
-abbrev spoke : tie.At-loop invariant_loop decreases_loop → tie.After-spoken-of-run invariant_loop decreases_loop
+abbrev spoke : tie.At-loop-k invariant_loop decreases_loop → tie.After-spoken_of_run-count invariant_loop decreases_loop
 spoke l = l.before.before.before.before
 
-abbrev start : tie.After-spoken-of-run invariant_loop decreases_loop → tie.Start invariant_loop decreases_loop
+abbrev start : tie.After-spoken_of_run-count invariant_loop decreases_loop → tie.Start invariant_loop decreases_loop
 start s = s.before.before.before.before.before.before.before
 
 -- the parts that have pulses
-abbrev parts : tie.At-loop invariant_loop decreases_loop → List Part
+abbrev parts : tie.At-loop-k invariant_loop decreases_loop → List Part
 parts l = spoken (parts_of 4 (start (spoke l)).args.places.now)
 
-loop_holds : tie.Need-loop-init invariant_loop decreases_loop
+loop_holds : tie.Need-loop-k-init invariant_loop decreases_loop
 loop_holds c = record { told = midway_start (start c.before.before.before).pre.0; to = omega arith; kept = refl }
 
 -- the part at hand
-part : (c : tie.In-loop invariant_loop decreases_loop)
+part : (c : tie.In-loop-k invariant_loop decreases_loop)
     → let s = (spoke c.before).spoken-of-run.last in
-    let k = c.before.loop.k in
+    let k = c.before.loop-k.k in
     Stored (get_or s.0 k 0) (get_or s.1.0 k 0) (get_or s.1.1.0 k 0) (get_or (parts c.before) k no_part)
-part c = (spoke c.before).spoken-of-run.ensures.at c.before.loop.k c.loop-test.true
+part c = (spoke c.before).spoken_of_run-count.ensures.at c.before.loop-k.k c.loop-k-test.true
 
-inside : (c : tie.In-loop invariant_loop decreases_loop) → c.before.loop.k < 15
-inside c = omega (arith, (spoke c.before).spoken-of-run.ensures.most, c.loop-test.true)
+inside : (c : tie.In-loop-k invariant_loop decreases_loop) → c.before.loop-k.k < 15
+inside c = omega (arith, (spoke c.before).spoken_of_run-count.ensures.most, c.loop-k-test.true)
 
 -- where its row stands in what is lent
-place : (c : tie.In-loop invariant_loop decreases_loop)
+place : (c : tie.In-loop-k invariant_loop decreases_loop)
     → let s = spoke c.before in
-    let k = c.before.loop.k in
+    let k = c.before.loop-k.k in
     let q = get_or (parts c.before) k no_part in
     Stands (58 + q.table * 16 + all_of q) (start s).args.rows.now (get_or s.spoken-of-run.last.0 k 0) (get_or s.spoken-of-run.last.1.0 k 0 + 1)
 place c = let a = part c in rw a.all_is (stands_in (start (spoke c.before)).pre.1.1.0.is a.stands)
 
-mul_start : tie.Need-overflow-mul-start invariant_loop decreases_loop
+mul_start : tie.Need-offset_bounds-starts-k invariant_loop decreases_loop
 mul_start c = omega (arith, inside c)
 
-array_read_start : tie.Need-array-read-start invariant_loop decreases_loop
+array_read_start : tie.Need-bounds-starts-k invariant_loop decreases_loop
 array_read_start c = inside c
 
-array_read_n : tie.Need-array-read-n invariant_loop decreases_loop
+array_read_n : tie.Need-bounds-alls-k invariant_loop decreases_loop
 array_read_n c = inside c
 
-cast_n : tie.Need-overflow-cast-n invariant_loop decreases_loop
+cast_n : tie.Need-overflow_cast-n invariant_loop decreases_loop
 cast_n c = let a = part c in omega (arith, a.all_is, a.within.most)
 
-add_end : tie.Need-overflow-add-end invariant_loop decreases_loop
+add_end : tie.Need-overflow_add-end invariant_loop decreases_loop
 add_end c = let a = part c in omega (arith, a.all_is, a.within.most)
 
-add_end_2 : tie.Need-overflow-add-end-2 invariant_loop decreases_loop
+add_end_2 : tie.Need-overflow_add-end-in-loop-k invariant_loop decreases_loop
 add_end_2 c = omega (arith, (place c).within, (start (spoke c.before)).pre.1.1.0.size)
 
-array_read_left : tie.Need-array-read-left invariant_loop decreases_loop
+array_read_left : tie.Need-bounds-lefts-k invariant_loop decreases_loop
 array_read_left c = inside c
 
-cast_left : tie.Need-overflow-cast-left invariant_loop decreases_loop
+cast_left : tie.Need-overflow_cast-left invariant_loop decreases_loop
 cast_left c = let a = part c in omega (arith, a.left_is, a.left_most, a.within.most)
 
-part_ec_enc_icdf_run_end : tie.Need-slice-bounds-ec-enc-icdf-run-end invariant_loop decreases_loop
+part_ec_enc_icdf_run_end : tie.Need-slice_bounds-ec_enc_icdf_run-end invariant_loop decreases_loop
 part_ec_enc_icdf_run_end c = (place c.before).within
 
-ec_enc_icdf_run_requires : tie.Need-ec-enc-icdf-run-requires invariant_loop decreases_loop
+ec_enc_icdf_run_requires : tie.Need-ec_enc_icdf_run-q-requires invariant_loop decreases_loop
 ec_enc_icdf_run_requires c κs =
     let d = c.before.before in
     let b = start (spoke d.before) in
@@ -110,7 +110,7 @@ ec_enc_icdf_run_requires c κs =
       ),
     )
 
-loop_again : tie.Need-loop-preserved invariant_loop decreases_loop
+loop_again : tie.Need-loop-k-preserved invariant_loop decreases_loop
 loop_again c =
     let d = c.before.before.before.before.before in
     let l = d.before.loop in
@@ -120,14 +120,14 @@ loop_again c =
     let q = get_or qs l.k no_part in
     let t = split_told {y = q.places} q.table (all_of q) a.some (lent _ (place d) refl) a.left_is w.ensures in
     record {
-      told = place_told _ _ _ _ _ qs l.k l.invariant.told (omega (arith, (spoke d.before).spoken-of-run.ensures.count, d.loop-test.true)) refl
+      told = place_told _ _ _ _ _ qs l.k l.invariant.told (omega (arith, (spoke d.before).spoken_of_run-count.ensures.count, d.loop-k-test.true)) refl
           (told_of (λ r. r.places) t);
       to = omega (arith, inside d);
       kept = w.auto.0 ∙ l.invariant.kept;
     }
 
-same_length : tie.Need-same-length invariant_loop decreases_loop
-same_length c = c.before.loop.invariant.kept
+same_length : tie.Need-shape_of-buf invariant_loop decreases_loop
+same_length c = c.before.loop-k.invariant.kept
 
 returns : tie.Need-returns invariant_loop decreases_loop
 returns c =
@@ -136,7 +136,7 @@ returns c =
     let l = c.before.loop in
     shell_told 4 b.args.p b.args.places.now b.pre.1.1.1.2
     (told_within (omega (arith, l.invariant.to))
-    (places_told _ _ _ _ _ (parts c.before) l.k l.invariant.told (omega (arith, s.spoken-of-run.ensures.count, c.loop-test.false))))
+    (places_told _ _ _ _ _ (parts c.before) l.k l.invariant.told (omega (arith, s.spoken_of_run-count.ensures.count, c.loop-k-test.false))))
 
 pub silk_shell_encoder_run_spec : {M : Type 1} → statement M
 silk_shell_encoder_run_spec =

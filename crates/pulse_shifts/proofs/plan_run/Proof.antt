@@ -14,17 +14,17 @@ use Rattle.silk.proofs.PulsePlans.{rows_snoc, planned_start, planned_next}
 use Rattle.pulse_shifts.proofs.plan_run.Statement.{statement}
 use Rattle.pulse_shifts.proofs.plan_run.Tie as tie
 
-abbrev invariant_loop : tie.invariant_loop
+abbrev invariant_loop : tie.invariant-loop-i
 invariant_loop pulses n counts₀ lows₀ fits₀ i₀ counts lows fits i = (i ≤ n) × (length counts ≡ 20) × (length lows ≡ 20) × Planned (rows16 i pulses) counts lows fits
 
-abbrev decreases_loop : tie.decreases_loop
+abbrev decreases_loop : tie.decreases-loop-i
 decreases_loop pulses n counts₀ lows₀ fits₀ i₀ counts lows fits i = n - i
 
-loop_holds : tie.Need-loop-init invariant_loop decreases_loop
+loop_holds : tie.Need-loop-i-init invariant_loop decreases_loop
 unfolding rows16
 loop_holds c = (omega arith, refl, refl, planned_start _ _ (at_most_zeros 16 20) (at_most_zeros 10 20))
 
-loop_again : tie.Need-loop-preserved invariant_loop decreases_loop
+loop_again : tie.Need-loop-i-preserved invariant_loop decreases_loop
 loop_again c =
     let b = c.before.before.before.before.before.before.before in
     let l = c.before.before.before.before.before.before.loop in

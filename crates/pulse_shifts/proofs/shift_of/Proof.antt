@@ -18,20 +18,20 @@ use Rattle.pulse_shifts.proofs.shift_of.Tie as tie
 abbrev small : List ℤ → ℕ → Bool
 small p j = leb (total (shifted_by j p)) 16
 
-abbrev invariant_loop : tie.invariant_loop
+abbrev invariant_loop : tie.invariant-loop-j
 invariant_loop part j₀ j = (j ≤ 11) × (first_from (small part) (11 - j) j ≡ least_shift part)
 
-abbrev decreases_loop : tie.decreases_loop
+abbrev decreases_loop : tie.decreases-loop-j
 decreases_loop part j₀ j = 11 - j
 
-loop_holds : tie.Need-loop-init invariant_loop decreases_loop
+loop_holds : tie.Need-loop-j-init invariant_loop decreases_loop
 loop_holds c = (omega arith, refl)
 
-returns : tie.Need-returns invariant_loop decreases_loop
+returns : tie.Need-returns-then-count-le16 invariant_loop decreases_loop
 returns c =
     let p = c.before.before.before.before.args.part.now in
     let l = c.before.before.before.loop in
-    let e = c.before.total-at.ensures in
+    let e = c.before.total_at-count.ensures in
     let m : total (shifted_by l.j p) ≤ 16 = omega (arith, e) in
     record {
       is = sym (first_here (small p) 11 l.j (omega arith) (le-leb _ _ m)) ∙ l.invariant.1;
@@ -40,14 +40,14 @@ returns c =
       upto = omega arith;
     }
 
-loop_again : tie.Need-loop-preserved invariant_loop decreases_loop
+loop_again : tie.Need-loop-j-preserved invariant_loop decreases_loop
 loop_again c =
     let p = c.before.before.before.before.args.part.now in
     let l = c.before.before.before.loop in
-    let m : 16 < total (shifted_by l.j p) = omega (arith, c.before.total-at.ensures) in
+    let m : 16 < total (shifted_by l.j p) = omega (arith, c.before.total_at-count.ensures) in
     (omega arith, first_next (small p) 11 l.j (omega arith) (lt-leb _ _ m) ∙ l.invariant.1)
 
-returns_2 : tie.Need-returns-2 invariant_loop decreases_loop
+returns_2 : tie.Need-returns invariant_loop decreases_loop
 returns_2 c =
     let p = c.before.before.args.part.now in
     let l = c.before.loop in

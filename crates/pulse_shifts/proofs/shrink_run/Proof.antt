@@ -17,31 +17,31 @@ use Rattle.pulse_shifts.proofs.Shifted.{shifted_size, shifted_at}
 use Rattle.pulse_shifts.proofs.shrink_run.Statement.{statement}
 use Rattle.pulse_shifts.proofs.shrink_run.Tie as tie
 
-abbrev invariant_loop : tie.invariant_loop
+abbrev invariant_loop : tie.invariant-loop-k
 invariant_loop places₀ part j k₀ places k = (k ≤ 16) × (length places ≡ 16) × (take k places ≡ take k (shifted_by j part))
 
-abbrev decreases_loop : tie.decreases_loop
+abbrev decreases_loop : tie.decreases-loop-k
 decreases_loop places₀ part j k₀ places k = 16 - k
 
 -- the value of this turn
 value : (c : tie.After-magnitude invariant_loop decreases_loop)
     → let b = c.before.before.before.before.before in
-    c.magnitude.result / 2 ^ b.args.j ≡ get_or (shifted_by b.args.j b.args.part.now) c.before.before.before.loop.k 0
+    c.magnitude.result / 2 ^ b.args.j ≡ get_or (shifted_by b.args.j b.args.part.now) c.before.before.before.loop-k.k 0
 value c =
     let b = c.before.before.before.before.before in
-    let k = c.before.before.before.loop.k in
-    let f : SFits w16 (get_or b.args.part.now k (pos 0)) = sfits_of c.before.magnitude-arg.given in
+    let k = c.before.before.before.loop-k.k in
+    let f : SFits w16 (get_or b.args.part.now k (pos 0)) = sfits_of c.before.magnitude-arg-1.given in
     ap (λ (m : ℕ). m / 2 ^ b.args.j) (c.magnitude.ensures ∙ ap nat_abs (to_z-of_z f)) ∙ sym (shifted_at b.args.j b.args.part.now k)
 
-loop_holds : tie.Need-loop-init invariant_loop decreases_loop
+loop_holds : tie.Need-loop-k-init invariant_loop decreases_loop
 loop_holds c = (omega arith, c.before.requires.0, refl)
 
-cast_places : tie.Need-overflow-cast-places invariant_loop decreases_loop
+cast_places : tie.Need-overflow_cast-places invariant_loop decreases_loop
 cast_places c =
     let b = c.before.before.before.before.before in
-    omega (arith, value c, at_most_total (shifted_by b.args.j b.args.part.now) c.before.before.before.loop.k, b.requires.3)
+    omega (arith, value c, at_most_total (shifted_by b.args.j b.args.part.now) c.before.before.before.loop-k.k, b.requires.3)
 
-loop_again : tie.Need-loop-preserved invariant_loop decreases_loop
+loop_again : tie.Need-loop-k-preserved invariant_loop decreases_loop
 loop_again c =
     let b = c.before.before.before.before.before in
     let l = c.before.before.before.loop in

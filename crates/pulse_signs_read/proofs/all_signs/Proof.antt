@@ -31,41 +31,41 @@ reached packet row s₀ at n d₀ s d t i l z =
     let p = i.gathered.next t l in
     signing_bare packet row s₀ d₀ s d (behind at t) (get_or at t 0) p.from (omega (arith, i.gathered.below t l)) p.bare i.going
 
-abbrev invariant_loop : tie.invariant_loop
+abbrev invariant_loop : tie.invariant-loop-t
 invariant_loop packet row places₀ at n d₀ t₀ places d t = Turn packet row places₀ at n d₀ places d t
 
-abbrev decreases_loop : tie.decreases_loop
+abbrev decreases_loop : tie.decreases-loop-t
 decreases_loop packet row places₀ at n d₀ t₀ places d t = n - t
 
-loop_holds : tie.Need-loop-init invariant_loop decreases_loop
+loop_holds : tie.Need-loop-t-init invariant_loop decreases_loop
 loop_holds c =
     let b = c.before.before.before.before.before in
     record {
-      gathered = c.pulse-places.ensures;
+      gathered = c.pulse_places-n.ensures;
       going = going_start _ _ _ _ _ _ _ _ b.requires.1.1.1.0 b.requires.0;
       to = omega arith;
       size = b.requires.1.1.1.1;
     }
 
-abbrev start : tie.At-loop invariant_loop decreases_loop → tie.Start invariant_loop decreases_loop
+abbrev start : tie.At-loop-t invariant_loop decreases_loop → tie.Start invariant_loop decreases_loop
 start l = l.before.before.before.before.before.before
 
 -- the place at hand
-abbrev place : tie.At-loop invariant_loop decreases_loop → ℕ
-place l = get_or l.before.pulse-places.new.1.0 l.loop.t 0
+abbrev place : tie.At-loop-t invariant_loop decreases_loop → ℕ
+place l = get_or l.before.pulse_places-n.new.1.0 l.loop-t.t 0
 
-below : (c : tie.In-loop invariant_loop decreases_loop) → place c.before < length c.before.loop.places
-below c = let l = c.before.loop in omega (arith, l.invariant.gathered.below l.t c.loop-test.true, l.invariant.size)
+below : (c : tie.In-loop-t invariant_loop decreases_loop) → place c.before < length c.before.loop-t.places
+below c = let l = c.before.loop in omega (arith, l.invariant.gathered.below l.t c.loop-t-test.true, l.invariant.size)
 
-decode_sign_requires : tie.Need-decode-sign-requires invariant_loop decreases_loop
+decode_sign_requires : tie.Need-decode_sign-a-requires invariant_loop decreases_loop
 decode_sign_requires c κs =
     let b = start c.before.before in
     let l = c.before.before.loop in
-    let h = c.before.loop-test.true in
+    let h = c.before.loop-t-test.true in
     let k = place c.before.before in
     let g = reached _ _ _ _ _ _ l.places l.d l.t l.invariant h b.pre.1.1.1.1 in
     let m : k < length b.args.places.now = omega (arith, l.invariant.gathered.below l.t h, b.pre.1.1.1.1) in
-    let f : SFits w16 (get_or l.places k (pos 0)) = sfits_of c.m.given in
+    let f : SFits w16 (get_or l.places k (pos 0)) = sfits_of c.m-1.given in
     let n = (l.invariant.gathered.next l.t h).some in (
       g.through.core,
       (
@@ -80,16 +80,16 @@ decode_sign_requires c κs =
       ),
     )
 
-loop_again : tie.Need-loop-preserved invariant_loop decreases_loop
+loop_again : tie.Need-loop-t-preserved invariant_loop decreases_loop
 loop_again c =
     let i = c.before.before.before.before in
     let b = start i.before in
     let l = i.before.loop in
-    let h = i.loop-test.true in
+    let h = i.loop-t-test.true in
     let k = place i.before in
     let g = reached _ _ _ _ _ _ l.places l.d l.t l.invariant h b.pre.1.1.1.1 in
     let a = c.before.before.decode-sign in
-    let f : SFits w16 (get_or l.places k (pos 0)) = sfits_of c.before.before.before.m.given in
+    let f : SFits w16 (get_or l.places k (pos 0)) = sfits_of c.before.before.before.m-1.given in
     let p : SFits w16 a.result.pulse = search rules in
     let s = b.args.places.now in
     let m : k < length (mags s) = omega (arith, l.invariant.gathered.below l.t h, b.pre.1.1.1.1, length-map s nat_abs) in
@@ -108,7 +108,7 @@ returns c =
     let b = start c.before in
     let l = c.before.loop in
     let i = l.invariant in
-    let e : l.t ≡ c.before.before.pulse-places.result = omega (arith, i.to) in
+    let e : l.t ≡ c.before.before.pulse_places-n.result = omega (arith, i.to) in
     let r = i.gathered in
     let s = b.args.places.now in
     let n = b.pre.1.1.1.1 in

@@ -17,10 +17,10 @@ use Rattle.pulse_magnitude.proofs.Bits.{zero_of}
 use Rattle.pulse_signs_read.proofs.pulse_places.Statement.{statement}
 use Rattle.pulse_signs_read.proofs.pulse_places.Tie as tie
 
-abbrev invariant_loop : tie.invariant_loop
+abbrev invariant_loop : tie.invariant-loop-k
 invariant_loop places at₀ n₀ k₀ at n k = (k ≤ 16) × ((length at ≡ 16) × Gathered places at n k)
 
-abbrev decreases_loop : tie.decreases_loop
+abbrev decreases_loop : tie.decreases-loop-k
 decreases_loop places at₀ n₀ k₀ at n k = 16 - k
 
 some : (m : ℤ) → (m ≡ pos 0 → ⊥) → 1 ≤ nat_abs m
@@ -38,16 +38,16 @@ stepped : (s : List ℤ) (at : List ℕ) (n k : ℕ) → Gathered s at n k → n
 stepped s at n k g l true f h = let e : n + 0 ≡ n = omega arith in rw e (gathered_none s at n k g (f refl))
 stepped s at n k g l false f h = gathered_some s at n k g l (h refl)
 
-loop_holds : tie.Need-loop-init invariant_loop decreases_loop
+loop_holds : tie.Need-loop-k-init invariant_loop decreases_loop
 loop_holds c = (omega arith, (c.requires.1, gathered_start c.args.places.now c.args.at.now))
 
-loop_again : tie.Need-loop-preserved invariant_loop decreases_loop
+loop_again : tie.Need-loop-k-preserved invariant_loop decreases_loop
 loop_again c =
     let b = c.before.before in
     let l = b.loop in
     let s = b.before.args.places.now in
     let x = get_or s l.k (pos 0) in
-    let f : SFits w16 x = sfits_of c.m.given in (
+    let f : SFits w16 x = sfits_of c.m-1.given in (
       omega arith,
       (
         length-set l.at l.n l.k ∙ l.invariant.1.0,
@@ -57,10 +57,10 @@ loop_again c =
       ),
     )
 
-add_n : tie.Need-overflow-add-n invariant_loop decreases_loop
+add_n : tie.Need-overflow_add-n invariant_loop decreases_loop
 add_n c =
     let b = c.before.before in
-    omega (arith, b.loop.invariant.1.1.count, one (not (eqb (of_z w16 (get_or b.before.args.places.now b.loop.k (pos 0))) 0)))
+    omega (arith, b.loop-k.invariant.1.1.count, one (not (eqb (of_z w16 (get_or b.before.args.places.now b.loop-k.k (pos 0))) 0)))
 
 returns : tie.Need-returns invariant_loop decreases_loop
 returns c = let l = c.before.loop in let e : l.k ≡ 16 = omega arith in rw e at l.invariant.1.1

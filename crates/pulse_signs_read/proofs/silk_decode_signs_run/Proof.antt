@@ -26,10 +26,10 @@ no_signs b d r (suc n) =
 none : (b : List ℕ) (d : Dec) (r : List ℕ) (s : List ℤ) → s ≡ replicate (length s) (pos 0) → Core b d → Ran b d (each (pos 0) (sign r) (mags s)) 256 s d
 none b d r s e c = rw e (record { is = no_signs b d r (length s); core = c; least = omega arith; most = omega arith })
 
-returns : tie.Need-returns
+returns : tie.Need-returns-then-no_pulse
 returns c =
     let b = c.before.before.before.before.before.before in
-    none _ _ _ b.args.places.now (c.before.no-pulse.ensures c.if2.true) b.requires.0
+    none _ _ _ b.args.places.now (c.before.no_pulse.ensures c.if-no_pulse.true) b.requires.0
 
 pub silk_decode_signs_run_spec : {M : Type 1} → statement M
 silk_decode_signs_run_spec = tie.close (tie.spec (λ c κs. search rules) (λ c. search rules) returns (λ c κs. search rules) (λ c. search rules) (λ c. search rules))

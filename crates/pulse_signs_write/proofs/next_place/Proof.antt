@@ -10,15 +10,15 @@ use Rattle.pulse_magnitude.proofs.Bits.{zero_of}
 use Rattle.pulse_signs_write.proofs.next_place.Statement.{statement}
 use Rattle.pulse_signs_write.proofs.next_place.Tie as tie
 
-returns : tie.Need-returns
+returns : tie.Need-returns-then-pulse-eq0
 returns c =
     let z = c.before.args.pulse in
-    omega (arith, none_said z (zero_of z c.before.ranges.pulse c.if1.true))
+    omega (arith, none_said z (zero_of z c.before.ranges.pulse c.if-pulse-eq0.true))
 
-returns_2 : tie.Need-returns-2
+returns_2 : tie.Need-returns-else-pulse-eq0
 returns_2 c =
     let z = c.before.args.pulse in
-    let n : z ≡ pos 0 → ⊥ = λ q. c.if1.false (ap (of_z w16) q) in
+    let n : z ≡ pos 0 → ⊥ = λ q. c.if-pulse-eq0.false (ap (of_z w16) q) in
     omega (arith, one_said z n)
 
 pub next_place_spec : {M : Type 1} → statement M

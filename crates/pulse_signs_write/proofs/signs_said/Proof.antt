@@ -23,32 +23,32 @@ record Gathering (symbols : List ℕ) (pulses : List ℤ) (n k : ℕ) : Type 0 w
   pub size : length symbols ≡ 16
   pub are : take n symbols ≡ signs_said (take k pulses)
 
-abbrev invariant_loop : tie.invariant_loop
+abbrev invariant_loop : tie.invariant-loop-k
 invariant_loop symbols₀ pulses n₀ k₀ symbols n k = Gathering symbols pulses n k
 
-abbrev decreases_loop : tie.decreases_loop
+abbrev decreases_loop : tie.decreases-loop-k
 decreases_loop symbols₀ pulses n₀ k₀ symbols n k = 16 - k
 
-loop_holds : tie.Need-loop-init invariant_loop decreases_loop
+loop_holds : tie.Need-loop-k-init invariant_loop decreases_loop
 unfolding signs_said
 loop_holds c = record { few = omega arith; to = omega arith; size = c.before.requires.0; are = refl }
 
-slice_write_symbols : tie.Need-slice-write-symbols invariant_loop decreases_loop
-slice_write_symbols c = omega (arith, c.before.before.before.loop.invariant.few, c.before.before.before.loop.invariant.size)
+slice_write_symbols : tie.Need-bounds-symbols-n invariant_loop decreases_loop
+slice_write_symbols c = omega (arith, c.before.before.before.loop-k.invariant.few, c.before.before.before.loop-k.invariant.size)
 
-next_place_requires : tie.Need-next-place-requires invariant_loop decreases_loop
-next_place_requires c κs = omega (arith, c.before.before.before.loop.invariant.few)
+next_place_requires : tie.Need-next_place-n-requires invariant_loop decreases_loop
+next_place_requires c κs = omega (arith, c.before.before.before.loop-k.invariant.few)
 
-loop_again : tie.Need-loop-preserved invariant_loop decreases_loop
+loop_again : tie.Need-loop-k-preserved invariant_loop decreases_loop
 loop_again c =
     let b = c.before.before.before.before.before.before in
     let zs = b.args.pulses.now in
     let l = c.before.before.before.before.loop in
     let z = get_or zs l.k (pos 0) in
-    let f : SFits w16 z = sfits_of c.before.before.pulse.given in
+    let f : SFits w16 z = sfits_of c.before.before.pulse-1.given in
     let s = c.before.sign-said in
     let e : s.result ≡ cond (lt_z z (pos 0)) 0 1 = rw (to_z-of_z f) at s.ensures in
-    let n : c.next_place.result ≡ l.n + length (sign_of z) = rw (to_z-of_z f) at c.next_place.ensures in
+    let n : c.next_place-n.result ≡ l.n + length (sign_of z) = rw (to_z-of_z f) at c.next_place-n.ensures in
     record {
       few = omega (arith, n, few_said z, l.invariant.few);
       to = omega arith;
@@ -58,8 +58,8 @@ loop_again c =
           ∙ gathered l.symbols l.n s.result zs l.k (omega (arith, l.invariant.few, l.invariant.size)) (omega (arith, b.requires.1)) e l.invariant.are;
     }
 
-same_length : tie.Need-same-length invariant_loop decreases_loop
-same_length c = omega (arith, c.before.loop.invariant.size, c.before.before.before.requires.0)
+same_length : tie.Need-shape_of-symbols invariant_loop decreases_loop
+same_length c = omega (arith, c.before.loop-k.invariant.size, c.before.before.before.requires.0)
 
 returns : tie.Need-returns invariant_loop decreases_loop
 returns c =

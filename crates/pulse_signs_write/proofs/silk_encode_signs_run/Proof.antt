@@ -20,10 +20,10 @@ record Telling (row : List ℕ) (s : List ℤ) (n : ℕ) (o p : Out) (k : ℕ) :
   pub to : k ≤ n
   pub kept : length p.buf ≡ length o.buf
 
-abbrev invariant_loop : tie.invariant_loop
+abbrev invariant_loop : tie.invariant-loop-k
 invariant_loop buf₀ row pulses symbols count w₀ k₀ buf w k = Telling row pulses count (out buf₀ w₀) (out buf w) k
 
-abbrev decreases_loop : tie.decreases_loop
+abbrev decreases_loop : tie.decreases-loop-k
 decreases_loop buf₀ row pulses symbols count w₀ k₀ buf w k = count - k
 
 bit_writable : {r : List ℕ} (v : ℕ) → v ≤ 1 → Writable 8 r 0 × Writable 8 r 1 → Writable 8 r v
@@ -32,32 +32,32 @@ bit_writable (suc zero) l h = h.1
 bit_writable (suc (suc v)) l h = absurd (omega arith)
 
 -- what was gathered
-counted : (c : tie.After-signs-said invariant_loop decreases_loop) → length (signs_said c.before.before.before.before.args.pulses.now) ≡ c.signs-said.result
+counted : (c : tie.After-signs_said-count invariant_loop decreases_loop) → length (signs_said c.before.before.before.before.args.pulses.now) ≡ c.signs_said-count.result
 counted c =
     let s = c.signs-said in
     ap length (sym s.ensures.1) ∙ length-take-le s.result s.new.0 (omega (arith, s.ensures.0, s.auto.0))
 
-symbol : (c : tie.After-signs-said invariant_loop decreases_loop) (k : ℕ) → k < c.signs-said.result
-    → get_or c.signs-said.new.0 k 0 ≡ get_or (signs_said c.before.before.before.before.args.pulses.now) k 0
+symbol : (c : tie.After-signs_said-count invariant_loop decreases_loop) (k : ℕ) → k < c.signs_said-count.result
+    → get_or c.signs_said-count.new.0 k 0 ≡ get_or (signs_said c.before.before.before.before.args.pulses.now) k 0
 symbol c k h =
     let s = c.signs-said in
     sym (get_or-take s.result s.new.0 k 0 h) ∙ ap (λ (l : List ℕ). get_or l k 0) s.ensures.1
 
-loop_holds : tie.Need-loop-init invariant_loop decreases_loop
+loop_holds : tie.Need-loop-k-init invariant_loop decreases_loop
 loop_holds c =
     let b = c.before.before.before.before.before in
     record { told = signs_start _ _ _ b.requires.0; to = omega arith; kept = refl }
 
-array_read_ec_enc_icdf_run : tie.Need-array-read-ec-enc-icdf-run invariant_loop decreases_loop
-array_read_ec_enc_icdf_run c = omega (arith, c.before.before.before.before.signs-said.ensures.0)
+array_read_ec_enc_icdf_run : tie.Need-bounds-symbols-k invariant_loop decreases_loop
+array_read_ec_enc_icdf_run c = omega (arith, c.before.before.before.before.signs_said-count.ensures.0)
 
-cast_ec_enc_icdf_run : tie.Need-overflow-cast-ec-enc-icdf-run invariant_loop decreases_loop
+cast_ec_enc_icdf_run : tie.Need-overflow_cast-symbols invariant_loop decreases_loop
 cast_ec_enc_icdf_run c =
     let l = c.before.before.loop in
     let s = c.before.before.before.before in
     omega (arith, symbol s l.k (omega arith), signs_bits s.before.before.before.before.args.pulses.now l.k)
 
-ec_enc_icdf_run_requires : tie.Need-ec-enc-icdf-run-requires invariant_loop decreases_loop
+ec_enc_icdf_run_requires : tie.Need-ec_enc_icdf_run-w-requires invariant_loop decreases_loop
 ec_enc_icdf_run_requires c κs =
     let l = c.before.before.loop in
     let s = c.before.before.before.before in
@@ -66,15 +66,15 @@ ec_enc_icdf_run_requires c κs =
     let few = signs_bits b.args.pulses.now l.k in (
       t.core,
       (
-        omega (arith, t.most, b.requires.1.0, s.signs-said.ensures.0),
+        omega (arith, t.most, b.requires.1.0, s.signs_said-count.ensures.0),
         (b.requires.1.1.0, bit_writable _ (omega (arith, symbol s l.k (omega arith), few)) b.requires.1.1.1.0),
       ),
     )
 
-add_k : tie.Need-overflow-add-k invariant_loop decreases_loop
-add_k c = omega (arith, c.before.before.before.before.before.before.before.signs-said.ensures.0)
+add_k : tie.Need-overflow_add-k invariant_loop decreases_loop
+add_k c = omega (arith, c.before.before.before.before.before.before.before.signs_said-count.ensures.0)
 
-loop_again : tie.Need-loop-preserved invariant_loop decreases_loop
+loop_again : tie.Need-loop-k-preserved invariant_loop decreases_loop
 loop_again c =
     let l = c.before.before.before.before.before.loop in
     let s = c.before.before.before.before.before.before.before in
@@ -85,14 +85,14 @@ loop_again c =
       kept = a.auto.0 ∙ l.invariant.kept;
     }
 
-same_length : tie.Need-same-length invariant_loop decreases_loop
-same_length c = c.before.loop.invariant.kept
+same_length : tie.Need-shape_of-buf invariant_loop decreases_loop
+same_length c = c.before.loop-k.invariant.kept
 
 returns : tie.Need-returns invariant_loop decreases_loop
 returns c =
     let l = c.before.loop in
     let s = c.before.before.before in
-    told_within (omega (arith, l.invariant.to, s.signs-said.ensures.0)) (signs_end _ _ _ l.k l.invariant.told (omega (arith, counted s)))
+    told_within (omega (arith, l.invariant.to, s.signs_said-count.ensures.0)) (signs_end _ _ _ l.k l.invariant.told (omega (arith, counted s)))
 
 pub silk_encode_signs_run_spec : {M : Type 1} → statement M
 silk_encode_signs_run_spec =

@@ -15,29 +15,29 @@ use Rattle.sections.proofs.ValuesLaws.{values_more}
 use Rattle.sections.proofs.fill_run.Statement.{statement}
 use Rattle.sections.proofs.fill_run.Tie as tie
 
-abbrev invariant_loop : tie.invariant_loop
+abbrev invariant_loop : tie.invariant-loop-i
 invariant_loop values₀ s at i₀ values i =
     (i ≤ length values₀) × (length values ≡ length values₀) × (take i values ≡ values_at s at i)
 
-abbrev decreases_loop : tie.decreases_loop
+abbrev decreases_loop : tie.decreases-loop-i
 decreases_loop values₀ s at i₀ values i = length values₀ - i
 
-loop_holds : tie.Need-loop-init invariant_loop decreases_loop
+loop_holds : tie.Need-loop-i-init invariant_loop decreases_loop
 unfolding values_at
 loop_holds c = (search rules, search rules, refl)
 
-loop_again : tie.Need-loop-preserved invariant_loop decreases_loop
+loop_again : tie.Need-loop-i-preserved invariant_loop decreases_loop
 loop_again c =
     let b = c.before.before in
     let a = b.before.before.args in
-    let i = b.loop.i in
-    let v = b.loop.values in
-    let x = to_z-of_z {w = w16} (sfits_of c.value-at-run.type-inv) ∙ c.value-at-run.ensures in (
+    let i = b.loop-i.i in
+    let v = b.loop-i.values in
+    let x = to_z-of_z {w = w16} (sfits_of c.value-at-run.type-inv) ∙ c.value_at_run-x.ensures in (
       search rules,
-      length-set v i _ ∙ b.loop.invariant.1,
+      length-set v i _ ∙ b.loop-i.invariant.1,
       rw add-one
           (take-suc-set v i _ (search rules)
-          ∙ ap₂ (λ (l : List ℤ) (y : ℤ). l ++ (y ∷ [])) b.loop.invariant.2 x
+          ∙ ap₂ (λ (l : List ℤ) (y : ℤ). l ++ (y ∷ [])) b.loop-i.invariant.2 x
           ∙ values_more a.s.now a.at i),
     )
 
@@ -45,8 +45,8 @@ returns : tie.Need-returns invariant_loop decreases_loop
 returns c =
     let b = c.before in
     let a = b.before.before.args in
-    let e : b.loop.i ≡ length a.values.now = omega arith in
-    sym (take_all b.loop.i b.loop.values (omega arith)) ∙ b.loop.invariant.2 ∙ ap (values_at a.s.now a.at) e
+    let e : b.loop-i.i ≡ length a.values.now = omega arith in
+    sym (take_all b.loop-i.i b.loop-i.values (omega arith)) ∙ b.loop-i.invariant.2 ∙ ap (values_at a.s.now a.at) e
 
 pub fill_run_spec : {M : Type 1} → statement M
 fill_run_spec =

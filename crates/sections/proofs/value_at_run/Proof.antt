@@ -12,10 +12,10 @@ use Rattle.sections.specs.Values.{value_at}
 use Rattle.sections.proofs.value_at_run.Statement.{statement}
 use Rattle.sections.proofs.value_at_run.Tie as tie
 
-fold16_run_requires : tie.Need-fold16-run-requires
+fold16_run_requires : tie.Need-fold16_run-requires
 fold16_run_requires c κs =
     let h = c.before.byte_at.result in
-    let l = c.byte-at2.result in
+    let l = c.byte_at-2.result in
     rw (to_z_pos w32 {n = 256 * h + l} (search rules)) (omega arith, omega arith)
 
 returns : tie.Need-returns
@@ -25,7 +25,7 @@ returns c =
     let l = c.before.byte-at2 in
     let e : to_z w32 (256 * h.result + l.result) ≡ pos (256 * h.result + l.result) = to_z_pos w32 (search rules) in
     to_z-of_z {w = w16} (sfits_of c.fold16-run.type-inv)
-    ∙ c.fold16-run.ensures
+    ∙ c.fold16_run.ensures
     ∙ ap wrap16 e
     ∙ ap₂ (λ (a b : ℕ). wrap16 (pos (256 * a + b))) h.ensures.0 l.ensures.0
 

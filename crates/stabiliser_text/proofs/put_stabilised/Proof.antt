@@ -11,14 +11,14 @@ use Rattle.stabiliser_text.proofs.put_stabilised.Statement.{statement}
 use Rattle.stabiliser_text.proofs.put_stabilised.Tie as tie
 use Rattle.nlsf_stabilize.proofs.silk_NLSF_stabilize.Reads as silk-NLSF-stabilize-reads
 
-put_answer_run_requires : tie.Need-put-answer-run-requires
+put_answer_run_requires : tie.Need-put_answer_run-requires
 put_answer_run_requires c κs =
     let s = c.before.before.before in
     let f = s.before.before.before.before.before.before.before in
     let r = s.silk-NLSF-stabilize in
-    let v = f.fill-run.new.0 in
+    let v = f.fill_run.new.0 in
     let k : length r.new.0 ≡ length v = r.auto.0 in
-    let a : r.result ≡ (stabilise_call v s.before.before.before.before.fill-run2.new.0).answer = ap (λ (x : Called). x.answer) r.ensures in
+    let a : r.result ≡ (stabilise_call v s.before.before.before.before.fill_run-2.new.0).answer = ap (λ (x : Called). x.answer) r.ensures in
     (search rules, rw (k, a) (small v _))
 
 returns : tie.Need-returns
@@ -26,8 +26,8 @@ returns c =
     let s = c.before.before.before.before.before.before in
     let g = s.before.before.before.before in
     let f = g.before.before.before in
-    put_as c.before.before.put-answer-run.ensures
-    (ap answer_text (s.silk-NLSF-stabilize.ensures ∙ ap₂ stabilise_call f.fill-run.ensures g.fill-run2.ensures))
+    put_as c.before.before.put_answer_run.ensures
+    (ap answer_text (s.silk_NLSF_stabilize-a.ensures ∙ ap₂ stabilise_call f.fill_run.ensures g.fill_run-2.ensures))
     (omega arith)
 
 pub put_stabilised_spec : {M : Type 1} → statement M

@@ -36,29 +36,29 @@ module _ (s : List ℕ) (n m : ℕ) (first : n ≡ byte_at s 0) (second : m ≡ 
       let f : 1 + 2 * n + 1 + 2 * m ≡ gaps_at s + 1 + 2 * byte_at s (gaps_at s) = omega (arith, place, gap_count) in
       rw (ne_eqb (length s) (gaps_at s + 1 + 2 * byte_at s (gaps_at s)) (λ e. h (e ∙ sym f))) t
 
-slice_aggregate_put_stabilised : tie.Need-slice-aggregate-put-stabilised
+slice_aggregate_put_stabilised : tie.Need-slice_bounds-put_stabilised-end-then-input-second
 slice_aggregate_put_stabilised c =
     let n = c.before.before.before.before.before.before.byte_at in
     let v = c.before.before.before.values in
     sym (length-take-le n.result v.result (omega (arith, v.ensures)))
 
-slice_aggregate_put_stabilised_2 : tie.Need-slice-aggregate-put-stabilised-2
+slice_aggregate_put_stabilised_2 : tie.Need-slice_bounds-put_stabilised-end-then-input-second-2
 slice_aggregate_put_stabilised_2 c =
     let n = c.before.before.before.before.before.before.byte-at2 in
     let v = c.before.before.before.values2 in
     sym (length-take-le n.result v.result (omega (arith, v.ensures)))
 
-put_stabilised_requires : tie.Need-put-stabilised-requires
+put_stabilised_requires : tie.Need-put_stabilised-requires
 put_stabilised_requires c κs =
     let v = c.before.before.before.before.values in
     let w = c.before.before.before.values2 in
-    let n = c.before.before.before.before.before.before.before.byte_at.result in
-    let m = c.before.before.before.before.before.before.byte-at2.result in
+    let n = c.before.before.before.before.before.before.before.byte_at-n.result in
+    let m = c.before.before.before.before.before.before.byte_at-m.result in
     let e = length-take-le n v.result (omega (arith, v.ensures)) in
     let f = length-take-le m w.result (omega (arith, w.ensures)) in
     (search rules, omega (arith, e, f))
 
-returns : tie.Need-returns
+returns : tie.Need-returns-then-input-second
 returns c =
     let t = c.before.before.before.before.before.before.before.before in
     let n = t.before.before.byte_at in
@@ -69,16 +69,16 @@ returns c =
     let e = length-take-le n.result v.result (omega (arith, v.ensures)) in
     let f = length-take-le m.result w.result (omega (arith, w.ensures)) in
     printed_put
-    (put_whole s n.result m.result n.ensures.0 m.ensures.0 t.if1.true e f c.before.before.put-stabilised.ensures)
+    (put_whole s n.result m.result n.ensures.0 m.ensures.0 t.if-input-second.true e f c.before.before.put_stabilised.ensures)
     (search rules)
 
-returns_2 : tie.Need-returns-2
+returns_2 : tie.Need-returns
 returns_2 c =
     let t = c.before.before in
     let n = t.before.before.byte_at in
     let m = t.before.byte-at2 in
     let s = t.before.before.before.before.args.input.now in
-    printed_put (put_cut s n.result m.result n.ensures.0 m.ensures.0 t.if1.false c.put-refused-run.ensures) (search rules)
+    printed_put (put_cut s n.result m.result n.ensures.0 m.ensures.0 t.if-input-second.false c.put_refused_run.ensures) (search rules)
 
 pub stabiliser_text_spec : {M : Type 1} → statement M
 stabiliser_text_spec =

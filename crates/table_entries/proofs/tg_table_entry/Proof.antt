@@ -4,21 +4,21 @@ use Rattle.table_entries.proofs.EntryLaws.{table_rows, table_narrow, table_wide,
 use Rattle.table_entries.proofs.tg_table_entry.Statement.{statement}
 use Rattle.table_entries.proofs.tg_table_entry.Tie as tie
 
-returns : tie.Need-returns
-returns c = let b = c.before.before in rw (table_rows b.args.table c.before.if1.true) c.row-entry.ensures
+returns : tie.Need-returns-then-table-lt3
+returns c = let b = c.before.before in rw (table_rows b.args.table c.before.if-table-lt3.true) c.row_entry.ensures
 
-returns_2 : tie.Need-returns-2
+returns_2 : tie.Need-returns-then-table-lt8
 returns_2 c =
     let b = c.before.before.before in
-    rw (table_narrow b.args.table c.before.before.if1.false c.before.if2.true) c.book-entry-run.ensures
+    rw (table_narrow b.args.table c.before.before.if-table-lt3.false c.before.if-table-lt8.true) c.book_entry_run.ensures
 
-returns_3 : tie.Need-returns-3
+returns_3 : tie.Need-returns-then-table-lt13
 returns_3 c =
     let b = c.before.before.before.before in
-    rw (table_wide b.args.table c.before.before.if2.false c.before.if3.true) c.book-entry-run2.ensures
+    rw (table_wide b.args.table c.before.before.if-table-lt8.false c.before.if-table-lt13.true) c.book_entry_run-then-table-lt13.ensures
 
-returns_4 : tie.Need-returns-4
-returns_4 c = let b = c.before.before.before in rw (table_none b.args.table c.if3.false)
+returns_4 : tie.Need-returns
+returns_4 c = let b = c.before.before.before in rw (table_none b.args.table c.if-table-lt13.false)
 
 pub tg_table_entry_spec : {M : Type 1} → statement M
 tg_table_entry_spec =

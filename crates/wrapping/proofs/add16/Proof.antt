@@ -23,16 +23,16 @@ module _ (a b : ℤ) (fa : SFits w16 a) (fb : SFits w16 b) where
   adds : to_z w32 (of_z w32 (to_z w16 (of_z w16 a))) +ℤ to_z w32 (of_z w32 (to_z w16 (of_z w16 b))) ≡ a +ℤ b
   adds = simp (to_z-of_z fa, to_z-of_z fb, to_z-of_z {w = w32} (sfits_widen {w = w16} tt fa), to_z-of_z {w = w32} (sfits_widen {w = w16} tt fb))
 
-cast_fold16_run : tie.Need-overflow-cast-fold16-run
+cast_fold16_run : tie.Need-overflow_cast-a
 cast_fold16_run c = rw (to_z-of_z c.ranges.a) (sfits_widen {w = w16} tt c.ranges.a)
 
-cast_fold16_run_2 : tie.Need-overflow-cast-fold16-run-2
+cast_fold16_run_2 : tie.Need-overflow_cast-b
 cast_fold16_run_2 c = rw (to_z-of_z c.ranges.b) (sfits_widen {w = w16} tt c.ranges.b)
 
-add_fold16_run : tie.Need-overflow-add-fold16-run
+add_fold16_run : tie.Need-overflow_add-a
 add_fold16_run c = rw (adds _ _ c.ranges.a c.ranges.b) (sum_fits _ _ c.ranges.a c.ranges.b)
 
-fold16_run_requires : tie.Need-fold16-run-requires
+fold16_run_requires : tie.Need-fold16_run-requires
 fold16_run_requires c κs =
     let fa = c.ranges.a in
     let fb = c.ranges.b in
@@ -45,7 +45,7 @@ returns : tie.Need-returns
 returns c =
     let fa = c.before.ranges.a in
     let fb = c.before.ranges.b in
-    to_z-of_z {w = w16} (sfits_of c.fold16-run.type-inv) ∙ c.fold16-run.ensures
+    to_z-of_z {w = w16} (sfits_of c.fold16-run.type-inv) ∙ c.fold16_run.ensures
     ∙ ap wrap16 (rw (adds _ _ fa fb) (to_z-of_z (sum_fits _ _ fa fb)))
 
 pub add16_spec : {M : Type 1} → statement M

@@ -36,57 +36,57 @@ module _ (s : ℤ) (b : (up s ≤ 65535) × (down s ≤ 65536)) where
       parts_fit s (omega (arith, parts_alone s, lt_z_false (pos 32767) s h)) (omega (arith, parts_alone s, lt_z_false s (negsuc 32767) k))
 
 -- the test of the first branch, and the test of the second, of s itself: the machine reads s back from its bits
-sub_result : tie.Need-overflow-sub-result
+sub_result : tie.Need-overflow_sub-result
 sub_result c =
     let e = to_z-of_z c.before.ranges.s in
-    rw e (wide (over c.before.args.s c.before.requires (rw e at c.if1.true)))
+    rw e (wide (over c.before.args.s c.before.requires (rw e at c.if-s-gt32767.true)))
 
-cast_result : tie.Need-overflow-cast-result
+cast_result : tie.Need-overflow_cast-result
 cast_result c =
     let e = to_z-of_z c.before.ranges.s in
-    let f = over c.before.args.s c.before.requires (rw e at c.if1.true) in
+    let f = over c.before.args.s c.before.requires (rw e at c.if-s-gt32767.true) in
     rw (e, to_z-of_z (wide f)) f
 
-add_result : tie.Need-overflow-add-result
+add_result : tie.Need-overflow_add-result
 add_result c =
     let s = c.before.before in
     let e = to_z-of_z s.ranges.s in
-    rw e (wide (under s.args.s s.requires (rw e at c.if2.true)))
+    rw e (wide (under s.args.s s.requires (rw e at c.if-s-ltminus32768.true)))
 
-cast_result_2 : tie.Need-overflow-cast-result-2
+cast_result_2 : tie.Need-overflow_cast-result-then-s-ltminus32768
 cast_result_2 c =
     let s = c.before.before in
     let e = to_z-of_z s.ranges.s in
-    let f = under s.args.s s.requires (rw e at c.if2.true) in
+    let f = under s.args.s s.requires (rw e at c.if-s-ltminus32768.true) in
     rw (e, to_z-of_z (wide f)) f
 
-cast_result_3 : tie.Need-overflow-cast-result-3
+cast_result_3 : tie.Need-overflow_cast-result-else-s-ltminus32768
 cast_result_3 c =
     let s = c.before.before in
     let e = to_z-of_z s.ranges.s in
-    rw e (within s.args.s s.requires (rw e at c.before.if1.false) (rw e at c.if2.false))
+    rw e (within s.args.s s.requires (rw e at c.before.if-s-gt32767.false) (rw e at c.if-s-ltminus32768.false))
 
-returns : tie.Need-returns
+returns : tie.Need-returns-then-s-gt32767
 returns c =
     let s = c.before in
     let e = to_z-of_z s.ranges.s in
-    let f = over s.args.s s.requires (rw e at c.if1.true) in
+    let f = over s.args.s s.requires (rw e at c.if-s-gt32767.true) in
     rw (e, to_z-of_z (wide f), to_z-of_z f)
     (sym (wrap16_is s.args.s (s.args.s -ℤ pos 65536) 0 1 (omega (arith, diff_parts s.args.s (pos 65536))) (fits_up _ f) (fits_down _ f)))
 
-returns_2 : tie.Need-returns-2
+returns_2 : tie.Need-returns-then-s-ltminus32768
 returns_2 c =
     let s = c.before.before in
     let e = to_z-of_z s.ranges.s in
-    let f = under s.args.s s.requires (rw e at c.if2.true) in
+    let f = under s.args.s s.requires (rw e at c.if-s-ltminus32768.true) in
     rw (e, to_z-of_z (wide f), to_z-of_z f)
     (sym (wrap16_is s.args.s (s.args.s +ℤ pos 65536) 1 0 (omega (arith, sum_parts s.args.s (pos 65536))) (fits_up _ f) (fits_down _ f)))
 
-returns_3 : tie.Need-returns-3
+returns_3 : tie.Need-returns-else-s-ltminus32768
 returns_3 c =
     let s = c.before.before in
     let e = to_z-of_z s.ranges.s in
-    let f = within s.args.s s.requires (rw e at c.before.if1.false) (rw e at c.if2.false) in
+    let f = within s.args.s s.requires (rw e at c.before.if-s-gt32767.false) (rw e at c.if-s-ltminus32768.false) in
     rw (e, to_z-of_z f) (sym (wrap16_is s.args.s s.args.s 0 0 refl (fits_up _ f) (fits_down _ f)))
 
 pub fold16_run_spec : {M : Type 1} → statement M

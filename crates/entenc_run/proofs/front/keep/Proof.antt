@@ -32,7 +32,7 @@ returns c =
     let b = c.before.before.before.before.before.before.before in
     let w = b.args.w in
     let o = out b.args.buf.now w in
-    let e : c.before.before.before.before.wrapping-add-u32.result ≡ w.val + (w.rng - b.args.t) = omega arith in
+    let e : c.before.before.before.before.wrapping_add_u32.result ≡ w.val + (w.rng - b.args.t) = omega arith in
     cut_step o _ b.args.t b.args.s b.requires.0 b.requires.1.0 b.requires.1.1
     (c.before.before.normalize.ensures
     ∙ ap (λ (v : ℕ). settled (at_turn o (b.args.t - b.args.s) v w.total)) e

@@ -7,48 +7,48 @@ use Rattle.entenc_run.proofs.Turns.{turn_ready}
 use Rattle.entenc_run.proofs.front.normalize.Statement.{statement}
 use Rattle.entenc_run.proofs.front.normalize.Tie as tie
 
-abbrev invariant_loop : tie.invariant_loop
+abbrev invariant_loop : tie.invariant-loop-w
 invariant_loop buf₀ w₀ buf w =
     (settled (out buf w) ≡ settled (out buf₀ w₀)) × Ready (out buf w) × (256 ≤ w.rng) × (length buf ≡ length buf₀)
 
-abbrev decreases_loop : tie.decreases_loop
+abbrev decreases_loop : tie.decreases-loop-w
 decreases_loop buf₀ w₀ buf w = 2 ^ 24 - w.rng
 
-loop_holds : tie.Need-loop-init invariant_loop decreases_loop
+loop_holds : tie.Need-loop-w-init invariant_loop decreases_loop
 loop_holds c = (refl, c.before.requires.0, c.before.requires.1, refl)
 
-turn_requires : tie.Need-turn-requires invariant_loop decreases_loop
-turn_requires c κs = (c.before.before.before.loop.invariant.1, c.before.if1.true)
+turn_requires : tie.Need-turn-w-requires invariant_loop decreases_loop
+turn_requires c κs = (c.before.before.before.loop-w.invariant.1, c.before.loop-w-test.true)
 
 -- the range grows
 grows : (o q : Out) → q ≡ turned o → q.state.rng ≡ 256 * o.state.rng
 unfolding turned
 grows o q e = ap (λ (x : Out). x.state.rng) e
 
-loop_less : tie.Need-loop-smaller invariant_loop decreases_loop
+loop_less : tie.Need-loop-w-smaller invariant_loop decreases_loop
 loop_less c =
     let l = c.before.before.before.before.before.before.loop in
-    omega (arith, l.invariant.2, c.before.before.before.before.if1.true, grows _ _ c.before.before.turn.ensures)
+    omega (arith, l.invariant.2, c.before.before.before.before.loop-w-test.true, grows _ _ c.before.before.turn-w.ensures)
 
-loop_again : tie.Need-loop-preserved invariant_loop decreases_loop
+loop_again : tie.Need-loop-w-preserved invariant_loop decreases_loop
 loop_again c =
     let l = c.before.before.before.before.before.before.loop in
     let o = out l.buf l.w in
-    let h = c.before.before.before.before.if1.true in
-    let e = c.before.before.turn.ensures in (
+    let h = c.before.before.before.before.loop-w-test.true in
+    let e = c.before.before.turn-w.ensures in (
       rw e (settled_turn o l.invariant.2 h ∙ l.invariant.0),
       rw e (turn_ready o l.invariant.1 h),
       omega (arith, l.invariant.2, grows _ _ e),
-      c.before.before.turn.auto.0 ∙ l.invariant.3,
+      c.before.before.turn-w.auto.0 ∙ l.invariant.3,
     )
 
-same_length : tie.Need-same-length invariant_loop decreases_loop
-same_length c = c.before.before.loop.invariant.3
+same_length : tie.Need-shape_of-buf invariant_loop decreases_loop
+same_length c = c.before.before.loop-w.invariant.3
 
 returns : tie.Need-returns invariant_loop decreases_loop
 returns c =
     let l = c.before.before.loop in
-    sym (settled_done (out l.buf l.w) l.invariant.1.roomy.fair c.if1.false) ∙ l.invariant.0
+    sym (settled_done (out l.buf l.w) l.invariant.1.roomy.fair c.loop-w-test.false) ∙ l.invariant.0
 
 pub normalize_spec : {M : Type 1} → statement M
 normalize_spec =

@@ -17,8 +17,8 @@ returns c =
     let o = out b.args.buf.now w in
     let f = c.before.before.before.before.before.spare-for in
     let a = f.result in
-    let e : c.before.wrapping-add-u32.result ≡ a.window + v * 2 ^ a.wbits
-    = c.before.wrapping-add-u32.ensures ∙ window_sum a.window v a.wbits n f.ensures.windowed.slim b.requires.1.1.2 f.ensures.free in
+    let e : c.before.wrapping_add_u32.result ≡ a.window + v * 2 ^ a.wbits
+    = c.before.wrapping_add_u32.ensures ∙ window_sum a.window v a.wbits n f.ensures.windowed.slim b.requires.1.1.2 f.ensures.free in
     append_step o _ n v b.requires.0 b.requires.1.0 b.requires.1.1.1 b.requires.1.1.2
     (ap (λ (x : ℕ). at_window (out f.new.0 a) x (a.wbits + n) (w.total + n)) e
     ∙ ap (λ (p : Out). at_window p (p.state.window + v * 2 ^ p.state.wbits) (p.state.wbits + n) (w.total + n)) f.ensures.is

@@ -6,10 +6,10 @@ use lib.ListN.{length}
 use Rattle.record_bytes.proofs.slices.fill_small_run.Statement.{statement}
 use Rattle.record_bytes.proofs.slices.fill_small_run.Tie as tie
 
-abbrev invariant_loop : tie.invariant_loop
+abbrev invariant_loop : tie.invariant-loop-i
 invariant_loop values₀ bytes held₀ i₀ values held i = (i ≤ length values₀) × (length values ≡ length values₀)
 
-abbrev decreases_loop : tie.decreases_loop
+abbrev decreases_loop : tie.decreases-loop-i
 decreases_loop values₀ bytes held₀ i₀ values held i = length values₀ - i
 
 pub fill_small_run_spec : {M : Type 1} → statement M

@@ -6,10 +6,10 @@ use lib.ListN.{length}
 use Rattle.record_bytes.proofs.slices.fill_up.Statement.{statement}
 use Rattle.record_bytes.proofs.slices.fill_up.Tie as tie
 
-abbrev invariant_loop : tie.invariant_loop
+abbrev invariant_loop : tie.invariant-loop-i
 invariant_loop room₀ given filler held₀ i₀ room held i = (i ≤ length room₀) × (length room ≡ length room₀)
 
-abbrev decreases_loop : tie.decreases_loop
+abbrev decreases_loop : tie.decreases-loop-i
 decreases_loop room₀ given filler held₀ i₀ room held i = length room₀ - i
 
 pub fill_up_spec : {M : Type 1} → statement M

@@ -4,10 +4,10 @@ use Prim.Native.Nat.{◌-◌, ◌≤◌}
 use Rattle.record_bytes.proofs.slices.same_small.Statement.{statement}
 use Rattle.record_bytes.proofs.slices.same_small.Tie as tie
 
-abbrev invariant_loop : tie.invariant_loop
+abbrev invariant_loop : tie.invariant-loop-i
 invariant_loop values bytes n held₀ i₀ held i = i ≤ n
 
-abbrev decreases_loop : tie.decreases_loop
+abbrev decreases_loop : tie.decreases-loop-i
 decreases_loop values bytes n held₀ i₀ held i = n - i
 
 pub same_small_spec : {M : Type 1} → statement M

@@ -10,27 +10,27 @@ use Rattle.table_entries.proofs.GridLaws.{gap_past, gap_inside}
 use Rattle.table_entries.proofs.book.gaps_entry.Statement.{statement}
 use Rattle.table_entries.proofs.book.gaps_entry.Tie as tie
 
-returns : tie.Need-returns
-returns c = let b = c.before in rw b.if1.true (gap_past wide_shaped b.before.args.place c.if2.true)
+returns : tie.Need-returns-then-place-ge17
+returns c = let b = c.before in rw b.if-wide.true (gap_past wide_shaped b.before.args.place c.if-place-ge17.true)
 
-returns_2 : tie.Need-returns-2
+returns_2 : tie.Need-returns-then-wide
 returns_2 c =
     let b = c.before.before.before in
     let i = b.before.before.args.place in
     let g = c.before.before.wide-gaps in
-    let f : SFits w16 (get_or g.result i (pos 0)) = sfits_of c.before.gap-arg.given in
-    rw b.before.if1.true (gap_inside wide_shaped i b.if2.false (rw (to_z-of_z f) at c.gap.ensures) g.ensures)
+    let f : SFits w16 (get_or g.result i (pos 0)) = sfits_of c.before.gap-arg-1.given in
+    rw b.before.if-wide.true (gap_inside wide_shaped i b.if-place-ge17.false (rw (to_z-of_z f) at c.gap.ensures) g.ensures)
 
-returns_3 : tie.Need-returns-3
-returns_3 c = let b = c.before in rw b.if1.false (gap_past narrow_shaped b.before.args.place c.if3.true)
+returns_3 : tie.Need-returns-then-place-ge11
+returns_3 c = let b = c.before in rw b.if-wide.false (gap_past narrow_shaped b.before.args.place c.if-place-ge11.true)
 
-returns_4 : tie.Need-returns-4
+returns_4 : tie.Need-returns
 returns_4 c =
     let b = c.before.before.before in
     let i = b.before.before.args.place in
     let g = c.before.before.narrow-gaps in
-    let f : SFits w16 (get_or g.result i (pos 0)) = sfits_of c.before.gap-arg2.given in
-    rw b.before.if1.false (gap_inside narrow_shaped i b.if3.false (rw (to_z-of_z f) at c.gap2.ensures) g.ensures)
+    let f : SFits w16 (get_or g.result i (pos 0)) = sfits_of c.before.gap-arg-2-1.given in
+    rw b.before.if-wide.false (gap_inside narrow_shaped i b.if-place-ge11.false (rw (to_z-of_z f) at c.gap-2.ensures) g.ensures)
 
 pub gaps_entry_spec : {M : Type 1} → statement M
 gaps_entry_spec =

@@ -11,36 +11,36 @@ use lib.Seq.{take-suc, take-suc-set, take-length}
 use Rattle.tables.proofs.rows.copy.Statement.{statement}
 use Rattle.tables.proofs.rows.copy.Tie as tie
 
-abbrev invariant_loop : tie.invariant_loop
+abbrev invariant_loop : tie.invariant-loop-k
 invariant_loop from to₀ k₀ to k = (k ≤ length from) × (length to ≡ length from) × (take k to ≡ take k from)
 
-abbrev decreases_loop : tie.decreases_loop
+abbrev decreases_loop : tie.decreases-loop-k
 decreases_loop from to₀ k₀ to k = length from - k
 
-loop_holds : tie.Need-loop-init invariant_loop decreases_loop
+loop_holds : tie.Need-loop-k-init invariant_loop decreases_loop
 loop_holds c = (search rules, search rules, refl)
 
-loop_again : tie.Need-loop-preserved invariant_loop decreases_loop
+loop_again : tie.Need-loop-k-preserved invariant_loop decreases_loop
 loop_again c =
     let b = c.before.before in
     let l = b.before.args.from.now in
-    let x = get_or l b.loop.k 0 in
-    let i = b.loop.invariant in (
+    let x = get_or l b.loop-k.k 0 in
+    let i = b.loop-k.invariant in (
       search rules,
-      length-set b.loop.to b.loop.k x ∙ i.1,
+      length-set b.loop-k.to b.loop-k.k x ∙ i.1,
       rw add-one
-          (take-suc-set b.loop.to b.loop.k x (search rules)
+          (take-suc-set b.loop-k.to b.loop-k.k x (search rules)
           ∙ ap (λ (p : List ℕ). p ++ (x ∷ [])) i.2
-          ∙ sym (take-suc l b.loop.k 0 (search rules))),
+          ∙ sym (take-suc l b.loop-k.k 0 (search rules))),
     )
 
 returns : tie.Need-returns invariant_loop decreases_loop
 returns c =
     let b = c.before in
     let l = b.before.args.from.now in
-    let i = b.loop.invariant in
-    let e : b.loop.k ≡ length l = omega arith in
-    let t : take (length l) b.loop.to ≡ b.loop.to = rw (← i.1) (take-length b.loop.to) in
+    let i = b.loop-k.invariant in
+    let e : b.loop-k.k ≡ length l = omega arith in
+    let t : take (length l) b.loop-k.to ≡ b.loop-k.to = rw (← i.1) (take-length b.loop-k.to) in
     sym t ∙ (rw e at i.2) ∙ take-length l
 
 pub copy_spec : {M : Type 1} → statement M
