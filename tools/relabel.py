@@ -11,8 +11,8 @@ import pathlib
 import re
 import sys
 
-FIELDS = {'ensures', 'result', 'true', 'false', 'invariant', 'given', 'after', 'new', 'is', 'branch', 'auto', 'value', 'was', 'fits', 'match',
-          'requires', 'now', 'old', 'before', 'type_inv', 'lifetimes'}
+FIELDS = {'ensures', 'result', 'true', 'false', 'invariant', 'given', 'after', 'new', 'is', 'branch', 'auto', 'was', 'fits', 'match', 'requires'}
+CONTRACT = re.compile(r'\bfn (\w+)[^{;]*?\)(?: -> [^{]*?)?\n((?: +(?:requires|ensures)[^\n]*\n(?: {8,}[^\n]*\n)*)+) *\{')
 ATOM = re.compile(r'\([^()]*(?:\([^()]*(?:\([^()]*\)[^()]*)*\)[^()]*)*\)|[^\s()]+')
 
 
@@ -21,10 +21,36 @@ def plain(name):
     return name.replace('-', '_').lower().removesuffix('_lem')
 
 
+def clauses(room):
+    """The names of the clauses of each function, where a kind has several."""
+    found = {}
+    for source in sorted(room.parent.glob('*/src/**/*.rt')):
+        crate = source.relative_to(room.parent).parts[0]
+        for name, text in CONTRACT.findall(source.read_text('utf-8')):
+            kinds = [re.findall(rf'^ +{kind} (\w+) ', text, re.M) for kind in ('requires', 'ensures')]
+            found[crate, name] = kinds
+    return found
+
+
+def clause(parts, at, names):
+    """Writes a clause's name for its place among pairs."""
+    n, last = 0, len(names) - 1
+    while n < last and parts[at + n:at + n + 1] == ['1']:
+        n += 1
+    if last > 0 and (n == last or parts[at + n:at + n + 1] == ['0']):
+        parts[at:at + n + (n < last)] = [names[n]]
+
+
 class Names:
     """Older names to today's, of one function."""
 
-    def __init__(self, of):
+    def __init__(self, of, own, contracts):
+        self.requires = contracts.get(own, ([], []))[0]
+        self.ensures = {}
+        for _, _, (_, step), callee, *_ in of['places']:
+            if callee and step:
+                parts = callee.split('::')
+                self.ensures[step] = contracts.get((parts[0], parts[-1]), ([], []))[1]
         self.goals = [(plain(old), new) for old, new in of['needs']]
         self.loops = {plain(old): (new, names) for (old, new), names in of['loops']}
         self.places, self.steps = {}, {}
@@ -49,15 +75,42 @@ def arguments(text):
     return ATOM.findall(text[start + len('tie.spec'):end])
 
 
+def fitting(given, goals, asked):
+    """Which of the answers are for the goals, in order: today some goals, that a search found, are no goals any more. None if none fit."""
+    def fits(answer, goal):
+        if answer in asked:
+            return asked[answer] in (goal[0], re.sub('^(overflow|nonzero)_', '', goal[0]))
+        return ('κs' in answer) == ('requires' in goal[1])
+
+    ways = {(0, 0): []}
+    for i, answer in enumerate(given):
+        for j in range(len(goals) + 1):
+            way = ways.get((i, j))
+            if way is not None:
+                if answer == '(λ c. search rules)':
+                    ways.setdefault((i + 1, j), way)
+                if j < len(goals) and fits(answer, goals[j]):
+                    ways[i + 1, j + 1] = way + [i]
+    return ways.get((len(given), len(goals)))
+
+
 def turned(text, names, say):
     code = re.sub(r'(^|[ \t])--.*$', '', text, flags=re.M)
     given = arguments(code)
     goal_of = {}
     if given is not None:
-        extra = 2 * len(names.loops) if len(given) == 2 * len(names.loops) + len(names.goals) else len(given) - len(names.goals)
-        if extra != 2 * len(names.loops):
-            say(f'{len(given)} answers for {len(names.goals)} goals and {len(names.loops)} loops')
-        else:
+        extra = 2 * len(names.loops)
+        if len(given) != extra + len(names.goals):
+            asked = {owner: re.sub('^(overflow|nonzero)_', '', plain(goal))
+                     for owner, goal in re.findall(r"^([\w'-]+) : tie\.Need-([^\s()]+)", text, re.M)}
+            kept = fitting(given[extra:], names.goals, asked)
+            if kept is None:
+                say(f'{len(given)} answers for {len(names.goals)} goals and {len(names.loops)} loops')
+            else:
+                given = given[:extra] + [given[extra + i] for i in kept]
+                head, rest = text.split('tie.spec', 1)
+                text = head + 'tie.spec ' + ' '.join(given) + rest[rest.rindex(')'):]
+        if len(given) == extra + len(names.goals):
             goal_of = {answer: goal for answer, (_, goal) in zip(given[extra:], names.goals) if re.fullmatch(r"[\w'-]+", answer)}
 
     def goal(found):
@@ -98,10 +151,20 @@ def turned(text, names, say):
             new = names.steps.get(plain(parts[i]))
             if new and (i + 1 < len(parts) and (parts[i + 1] in FIELDS or plain(parts[i]).startswith('loop'))):
                 parts[i] = new
+        for i in range(len(parts) - 2, 0, -1):
+            if parts[i] == 'requires':
+                clause(parts, i + 1, names.requires)
+            elif parts[i] == 'ensures' and parts[i - 1] in names.ensures:
+                clause(parts, i + 1, names.ensures[parts[i - 1]])
+        if parts[0] in handed:
+            clause(parts, 1, names.requires)
         return '.'.join(parts)
 
-    lines = []
+    lines, handed = [], set()
     for line in text.split('\n'):
+        if line and not line.startswith(' '):
+            handed = set()
+        handed |= set(re.findall(r'\blet (\w+) = [\w.-]+\.requires in', line))
         if not line.startswith(('use ', '--')):
             line = re.sub(r"(?<![\w.'·)])[a-z][\w'₀-₉]*(?:\.[^\s(){}.;,@\"«»\[\]\\]+)+|\)(?:\.[^\s(){}.;,@\"«»\[\]\\]+)+", path, line)
         lines.append(line)
@@ -110,13 +173,14 @@ def turned(text, names, say):
 
 def main():
     listed, room = sys.argv[1:]
-    room = pathlib.Path(room)
+    room = pathlib.Path(room).resolve()
+    contracts = clauses(room)
     for module, of in json.loads(pathlib.Path(listed).read_text('utf-8')).items():
         found = re.fullmatch(r'Rattle-\w+-proofs\.(.*)\.Lts', module)
         file = found and room / 'proofs' / found[1].replace('.', '/') / 'Proof.antt'
         if file and file.exists():
             text = file.read_text('utf-8')
-            file.write_text(turned(text, Names(of), lambda what: print(f'{file}: {what}')), 'utf-8')
+            file.write_text(turned(text, Names(of, (room.name, found[1].split('.')[-1]), contracts), lambda what: print(f'{file}: {what}')), 'utf-8')
 
 
 if __name__ == '__main__':

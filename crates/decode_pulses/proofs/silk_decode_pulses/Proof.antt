@@ -21,22 +21,22 @@ start c = c.before.before.before.before
 -- the number of the call: the gate's refusal, or the rule's
 number : (c : tie.After-first_refusal-n)
     → let a = (start c).args in
-    c.first_refusal-n.result ≡ pulses_rule a.packet.now a.d a.pulses-1.now a.khz a.subframes a.signal a.offset
+    c.first_refusal-n.result ≡ pulses_rule a.packet.now a.d a.pulses.now a.khz a.subframes a.signal a.offset
 number c = c.first_refusal-n.ensures ∙ ap₂ first_of c.before.gate.ensures c.before.before.pulse_rule-rule.ensures
 
 -- what an accepted call has
 record Accepted (c : tie.Then-n-eq0) : Type 0 where
   pub gate : let a = (start c.before).args in Open a.packet.now a.d
-  pub own : let a = (start c.before).args in PulseOpen (length a.pulses-1.now) a.khz a.subframes a.signal a.offset
+  pub own : let a = (start c.before).args in PulseOpen (length a.pulses.now) a.khz a.subframes a.signal a.offset
 
 accepted : (c : tie.Then-n-eq0) → Accepted c
 accepted c =
     let a = (start c.before).args in
-    let rule = pulse_rule (length a.pulses-1.now) a.khz a.subframes a.signal a.offset in
+    let rule = pulse_rule (length a.pulses.now) a.khz a.subframes a.signal a.offset in
     let f = first_none (gate_r a.packet.now a.d) rule (sym (number c.before) ∙ c.if-n-eq0.true) in
     record {
       gate = gate_open a.packet.now a.d f.0;
-      own = pulse_open (length a.pulses-1.now) a.khz a.subframes a.signal a.offset f.1;
+      own = pulse_open (length a.pulses.now) a.khz a.subframes a.signal a.offset f.1;
     }
 
 silk_decode_pulses_run_requires : tie.Need-silk_decode_pulses_run-state-requires
@@ -71,13 +71,13 @@ returns c =
     let s = r.new.1.1.1.0 in
     let x : Excited a.packet.now a.d a.signal a.offset _ s r.result =
     subst (λ (k : ℕ). Excited a.packet.now a.d a.signal a.offset k s r.result) b.blocks_of_run-blocks.ensures r.ensures in
-    pulses_read a.packet.now a.d a.pulses-1.now a.khz a.subframes a.signal a.offset _ (number t.before) t.if-n-eq0.true
+    pulses_read a.packet.now a.d a.pulses.now a.khz a.subframes a.signal a.offset _ (number t.before) t.if-n-eq0.true
     _ _ x.value x.ran.is x.is
 
 refused : tie.Need-returns
 refused c =
     let a = (start c.before).args in
-    pulses_refused a.packet.now a.d a.pulses-1.now a.khz a.subframes a.signal a.offset _ (number c.before) c.if-n-eq0.false
+    pulses_refused a.packet.now a.d a.pulses.now a.khz a.subframes a.signal a.offset _ (number c.before) c.if-n-eq0.false
 
 pub silk_decode_pulses_spec : {M : Type 1} → statement M
 silk_decode_pulses_spec =

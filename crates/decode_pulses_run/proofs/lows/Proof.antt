@@ -44,12 +44,12 @@ pub lows_spec : {M : Type 1} → statement M
 lows_spec =
     tie.close
     (tie.spec invariant_loop decreases_loop
-    (λ c. let b = c.before.before in round_start b.requires.1.1.1.2 b.requires.0)
+    (λ c. let b = c.before.before in round_start b.requires.n_bound.2 b.requires.core)
     (λ c. search rules) (λ c. search rules) (λ c. search rules) (λ c. search rules) (λ c. search rules)
     (λ c. search rules) (λ c. search rules) (λ c. search rules)
     (λ c. omega (arith, round_fits c.before.before.before.loop-i.invariant c.before.before.loop-i-test.true))
     (λ c. round_fits c.before.before.before.loop-i.invariant c.before.before.loop-i-test.true)
-    (λ c. let l = c.before.before.before.before in omega (arith, (start l).requires.1.1.1.1 l.loop-i.i))
+    (λ c. let l = c.before.before.before.before in omega (arith, (start l).requires.n_bound.1 l.loop-i.i))
     block_lows_run_requires (λ c. search rules) (λ c. search rules) loop_again
     (λ c. round_kept c.before.loop-i.invariant c.loop-i-test.false ∙ sym (start c.before).pre.1.1.1.2.size)
     (λ c. round_end c.before.loop-i.invariant c.loop-i-test.false))

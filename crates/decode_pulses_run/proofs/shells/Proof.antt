@@ -44,11 +44,11 @@ pub shells_spec : {M : Type 1} → statement M
 shells_spec =
     tie.close
     (tie.spec invariant_loop decreases_loop
-    (λ c. let b = c.before.before.before in splitting_start _ _ _ _ _ _ b.requires.1.1.1.1 b.requires.0)
+    (λ c. let b = c.before.before.before in splitting_start _ _ _ _ _ _ b.requires.n_bound.1 b.requires.core)
     (λ c. search rules) (λ c. search rules) (λ c. search rules) (λ c. search rules) (λ c. search rules)
     (λ c. omega (arith, sized c.before.before))
     (λ c. omega (arith, sized c.before.before))
-    (λ c. let l = c.before.before.before in omega (arith, (start l).requires.1.1.1.2 l.loop-i.i))
+    (λ c. let l = c.before.before.before in omega (arith, (start l).requires.n_bound.2 l.loop-i.i))
     silk_shell_decoder_run_requires (λ c. search rules) (λ c. search rules) loop_again
     (λ c. sized c.before ∙ sym (start c.before).pre.1.1.1.1)
     (λ c. let l = c.before.loop in splitting_end _ _ _ _ _ l.pulses l.d l.i l.invariant c.loop-i-test.false))

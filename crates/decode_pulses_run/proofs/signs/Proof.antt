@@ -81,9 +81,9 @@ pub signs_spec : {M : Type 1} → statement M
 signs_spec =
     tie.close
     (tie.spec invariant_loop decreases_loop
-    (λ c. let b = c.before.before in round_start b.requires.1.1.1.3 b.requires.0)
+    (λ c. let b = c.before.before in round_start b.requires.blocks_bound.3 b.requires.core)
     (λ c. search rules) (λ c. search rules) (λ c. search rules)
-    (λ c κs. let p = c.before.before.before.before.before.requires.1.1.1 in (p.1, p.2))
+    (λ c κs. let p = c.before.before.before.before.before.requires.blocks_bound in (p.1, p.2))
     (λ c. omega (arith, row_ends c)) (λ c. search rules) (λ c. search rules) (λ c. search rules)
     (λ c. omega (arith, row_ends c.before.before))
     (λ c. row_ends c.before.before)

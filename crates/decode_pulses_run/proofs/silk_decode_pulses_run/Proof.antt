@@ -32,15 +32,15 @@ lowered c = c.before.before.before
 
 -- the row of the rate level
 two_rows : (b : tie.Start) → b.args.signal / 2 < 2
-two_rows b = omega (arith, b.requires.1.1.1.2)
+two_rows b = omega (arith, b.requires.n_bound.2)
 
 rate_is : (b : tie.Start) → let k = b.args.signal / 2 in take (k * 9 + 9 - k * 9) (drop (k * 9) b.args.rows.now) ≡ row_of (46 + k)
-rate_is b = rate_in b.args.rows.now (b.args.signal / 2) b.requires.1.1.0 (two_rows b)
+rate_is b = rate_in b.args.rows.now (b.args.signal / 2) b.requires.pulse_rows (two_rows b)
 
 ec_dec_icdf8_run_requires : tie.Need-ec_dec_icdf8_run-a-requires
 ec_dec_icdf8_run_requires c κs =
     let b = c.before.before.before in
-    (b.requires.0, (omega (arith, b.requires.1.0), rw (rate_is b) (row_good (46 + b.args.signal / 2) (omega (arith, two_rows b)))))
+    (b.requires.core, (omega (arith, b.requires.total_bound), rw (rate_is b) (row_good (46 + b.args.signal / 2) (omega (arith, two_rows b)))))
 
 counts_run_requires : tie.Need-counts_run-x-requires
 counts_run_requires c κs =

@@ -26,18 +26,18 @@ number : (c : tie.After-first_refusal-n)
     → let a = (start c).args in
     let f = a.f in
     let rule = write_numbers (length a.pulses.now) f.khz f.subframes f.signal f.offset a.rate in
-    c.first_refusal-n.result ≡ first_of (gate_w a.buf-1.now a.w) rule
+    c.first_refusal-n.result ≡ first_of (gate_w a.buf.now a.w) rule
 number c = c.first_refusal-n.ensures ∙ ap₂ first_of c.before.gate.ensures c.before.before.before.write_rule-rule.ensures
 
 -- what a call without one goes on with
 on : (c : tie.Else-n-ne0)
     → let a = (start c.before).args in
     let f = a.f in
-    Entered (out a.buf-1.now a.w) a.pulses.now f.khz f.subframes f.signal f.offset a.rate _ (number c.before) c.if-n-ne0.false
+    Entered (out a.buf.now a.w) a.pulses.now f.khz f.subframes f.signal f.offset a.rate _ (number c.before) c.if-n-ne0.false
 on c =
     let a = (start c.before).args in
     let f = a.f in
-    entered (out a.buf-1.now a.w) a.pulses.now f.khz f.subframes f.signal f.offset a.rate _ (number c.before) c.if-n-ne0.false
+    entered (out a.buf.now a.w) a.pulses.now f.khz f.subframes f.signal f.offset a.rate _ (number c.before) c.if-n-ne0.false
 
 -- at most 20 blocks
 few : (c : tie.After-blocks_of_run-blocks) → c.blocks_of_run-blocks.result ≤ 20
@@ -54,8 +54,8 @@ returns c =
     let r = c.before.before in
     let a = (start r).args in
     let f = a.f in
-    ap (sent a.buf-1.now) c.answer.ensures
-    ∙ pulses_early (out a.buf-1.now a.w) a.pulses.now f.khz f.subframes f.signal f.offset a.rate _ (number r) c.before.if-n-ne0.true
+    ap (sent a.buf.now) c.answer.ensures
+    ∙ pulses_early (out a.buf.now a.w) a.pulses.now f.khz f.subframes f.signal f.offset a.rate _ (number r) c.before.if-n-ne0.true
 
 silk_encode_pulses_run_requires : tie.Need-silk_encode_pulses_run-state-requires
 silk_encode_pulses_run_requires c κs =
@@ -90,7 +90,7 @@ written c =
     let n = b.blocks_of_run-blocks.ensures in
     let t = c.before.before.before.before.before.before.before.if-x.true in
     ap (sent r.new.0) c.answer-then-x.ensures
-    ∙ pulses_sent (out a.buf-1.now a.w) a.pulses.now f.khz f.subframes f.signal f.offset a.rate _ (number e.before) e.if-n-ne0.false _
+    ∙ pulses_sent (out a.buf.now a.w) a.pulses.now f.khz f.subframes f.signal f.offset a.rate _ (number e.before) e.if-n-ne0.false _
     (plan_fits _ _ a.pulses.now x.result.counts x.result.lows x.result.fits true x.ensures n t)
     (plan_says _ a.pulses.now x.result.counts x.result.lows x.result.fits x.ensures t (omega (arith, sized p, few b)) _ _
     f.signal f.offset a.rate _ 64656 n r.ensures)
@@ -102,8 +102,8 @@ unfit c =
     let a = (start e.before).args in
     let f = a.f in
     let x = p.plan_run in
-    ap (sent a.buf-1.now) c.answer-2.ensures
-    ∙ pulses_unfit (out a.buf-1.now a.w) a.pulses.now f.khz f.subframes f.signal f.offset a.rate _ (number e.before) e.if-n-ne0.false
+    ap (sent a.buf.now) c.answer-2.ensures
+    ∙ pulses_unfit (out a.buf.now a.w) a.pulses.now f.khz f.subframes f.signal f.offset a.rate _ (number e.before) e.if-n-ne0.false
     (plan_fits _ _ a.pulses.now x.result.counts x.result.lows x.result.fits false x.ensures
     p.before.blocks_of_run-blocks.ensures c.before.if-x.false)
 

@@ -30,18 +30,18 @@ lowered c = c.before.before.before.before
 
 -- the row of the rate level
 two_rows : (b : tie.Start) → b.args.f.signal / 2 < 2
-two_rows b = omega (arith, b.requires.1.1.1.0.2)
+two_rows b = omega (arith, b.requires.blocks_bound.2)
 
 rate_is : (b : tie.Start) → let k = b.args.f.signal / 2 in take (k * 9 + 9 - k * 9) (drop (k * 9) b.args.rows.now) ≡ row_of (46 + k)
-rate_is b = rate_in b.args.rows.now (b.args.f.signal / 2) b.requires.1.1.0 (two_rows b)
+rate_is b = rate_in b.args.rows.now (b.args.f.signal / 2) b.requires.pulse_rows (two_rows b)
 
 ec_enc_icdf_run_requires : tie.Need-ec_enc_icdf_run-a-requires
 ec_enc_icdf_run_requires c κs =
     let b = c.before.before.before.before.before in
     let k = b.args.f.signal / 2 in
     let h = two_rows b in
-    let w = row_writable (46 + k) b.args.rate (omega arith) (omega (arith, (rate_stands k h).size, b.requires.1.1.1.0.4)) in
-    (b.requires.0, (omega (arith, b.requires.1.0), rw (rate_is b) (row_good (46 + k) (omega arith), w)))
+    let w = row_writable (46 + k) b.args.rate (omega arith) (omega (arith, (rate_stands k h).size, b.requires.blocks_bound.4)) in
+    (b.requires.core, (omega (arith, b.requires.total_bound), rw (rate_is b) (row_good (46 + k) (omega arith), w)))
 
 counts_tell_run_requires : tie.Need-counts_tell_run-c-requires
 counts_tell_run_requires c κs =

@@ -107,13 +107,13 @@ whole c = together _ _ (count c) (the_piece (chosen c)).small (few (counted (cho
 add_parts : tie.Need-overflow_add-parts
 add_parts c =
     let b = c.before.before in
-    omega (arith, parts c, num_small b.args.ft (omega arith) b.requires.1.1.1)
+    omega (arith, parts c, num_small b.args.ft (omega arith) b.requires.le_ft.1)
 
 ec_decode_requires : tie.Need-ec_decode-k-requires
 ec_decode_requires c κs =
     let b = c.before.before.before in
-    let n = num_small b.args.ft (omega arith) b.requires.1.1.1 in
-    (b.requires.0.above, omega (arith, b.requires.0.inside, b.requires.0.most), omega arith, omega (arith, parts c.before))
+    let n = num_small b.args.ft (omega arith) b.requires.le_ft.1 in
+    (b.requires.core.above, omega (arith, b.requires.core.inside, b.requires.core.most), omega arith, omega (arith, parts c.before))
 
 ec_dec_update_requires : tie.Need-ec_dec_update-q-requires
 ec_dec_update_requires c κs =

@@ -7,7 +7,7 @@ use Rattle.entenc.proofs.ec_enc_bit_logp.Statement.{statement}
 use Rattle.entenc.proofs.ec_enc_bit_logp.Tie as tie
 
 call : (c : tie.After-first_refusal-n) → let a = c.before.before.before.before.before.args in
-    Said (out a.buf-1.now a.w) (record { model = bit a.lp; value = a.v }) c.first_refusal-n.result
+    Said (out a.buf.now a.w) (record { model = bit a.lp; value = a.v }) c.first_refusal-n.result
 call c = said c.first_refusal-n.ensures c.before.before.gate.ensures c.before.bit_rule.ensures
 
 pub ec_enc_bit_logp_spec : {M : Type 1} → statement M

@@ -7,7 +7,7 @@ use Rattle.entenc.proofs.ec_enc_bits.Statement.{statement}
 use Rattle.entenc.proofs.ec_enc_bits.Tie as tie
 
 call : (c : tie.After-first_refusal-n) → let a = c.before.before.before.before.before.args in
-    Said (out a.buf-1.now a.w) (record { model = raw a.bits; value = a.v }) c.first_refusal-n.result
+    Said (out a.buf.now a.w) (record { model = raw a.bits; value = a.v }) c.first_refusal-n.result
 call c = said c.first_refusal-n.ensures c.before.before.gate.ensures c.before.bits_rule.ensures
 
 pub ec_enc_bits_spec : {M : Type 1} → statement M

@@ -19,10 +19,10 @@ seed_fits : (z : tie.Start) → SFits w8 z.args.x.seed
 seed_fits z = search (rules, z.well-formed.1.1.0)
 
 put_kind_run_requires : tie.Need-put_kind_run-place-requires
-put_kind_run_requires c κs = (search rules, search rules, subframes_most c.before.before.requires.1.1)
+put_kind_run_requires c κs = (search rules, search rules, subframes_most c.before.before.requires.signal_value.1)
 
 put_gains_requires : tie.Need-put_gains-place-requires
-put_gains_requires c κs = (search rules, subframes_most c.before.before.before.before.before.before.requires.1.1)
+put_gains_requires c κs = (search rules, subframes_most c.before.before.before.before.before.before.requires.signal_value.1)
 
 put_one_run_requires_2 : tie.Need-put_one_run-requires
 put_one_run_requires_2 c κs =
@@ -32,7 +32,7 @@ put_one_run_requires_2 c κs =
     let g = s.before.before.before.before in
     let k = g.before.before.before.before in
     let z = k.before.before.before in
-    let r = z.requires.0.0 in
+    let r = z.requires.at_in_bounds.0 in
     omega (
       arith,
       r,
@@ -85,5 +85,4 @@ returns c =
 pub put_indices_run_spec : {M : Type 1} → statement M
 put_indices_run_spec =
     tie.close
-    (tie.spec put_kind_run_requires put_gains_requires (λ c κs. search rules) (λ c. search rules) (λ c κs. search rules)
-    (λ c κs. search rules) (λ c. search rules) put_one_run_requires_2 same_length returns)
+    (tie.spec put_kind_run_requires put_gains_requires (λ c κs. search rules) (λ c κs. search rules) (λ c κs. search rules) put_one_run_requires_2 same_length returns)

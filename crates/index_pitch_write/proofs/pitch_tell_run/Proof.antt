@@ -54,24 +54,24 @@ period_told c n h = writing_next n (contour_told (period_contour c) (2 ^ 27 + 64
 lag_tell_run_requires : tie.Need-lag_tell_run-l-requires
 lag_tell_run_requires c κs =
     let z = c.before.before.before.before.before in
-    (record { core = z.requires.0.core; few = omega (arith, z.requires.0.few); rows = z.requires.0.rows }, (z.requires.1.0, z.requires.1.2.lag))
+    (record { core = z.requires.writing.core; few = omega (arith, z.requires.writing.few); rows = z.requires.writing.rows }, (z.requires.rate.0, z.requires.rate.2.lag))
 
 contour_tell_run_requires : tie.Need-contour_tell_run-c-requires
 contour_tell_run_requires c κs =
     let l = c.before.before.before in
-    let t = (lag_start l).requires.1 in
+    let t = (lag_start l).requires.rate in
     (lag_told l (2 ^ 29) (omega arith), (t.0, t.1, t.2.contour))
 
 period_tell_run_requires : tie.Need-period_tell_run-p-requires
 period_tell_run_requires c κs =
     let k = c.before.before.before in
-    let t = (lag_start (contour_lag k)).requires.1 in
+    let t = (lag_start (contour_lag k)).requires.rate in
     (contour_told k (2 ^ 28) (omega arith), ((t.1, t.2.period), t.2.filters))
 
 scale_tell_run_requires : tie.Need-scale_tell_run-requires
 scale_tell_run_requires c κs =
     let p = c.before.before.before in
-    (period_told p (2 ^ 29) (omega arith), (lag_start (contour_lag (period_contour p))).requires.1.2.scale)
+    (period_told p (2 ^ 29) (omega arith), (lag_start (contour_lag (period_contour p))).requires.rate.2.scale)
 
 -- the lag is relative where the setting says so
 as_set : (s : Setting) (khz : ℕ) (before : ℤ) {o q : Out} {x : Indices} {relative : Bool} {n : ℕ} → Told o x (lag relative khz before x) n q

@@ -40,7 +40,7 @@ take_same (suc n) zero x h = absurd (not-suc-le-zero h)
 take_same (suc n) (suc m) x h = ap (λ (l : List ℤ). x ∷ l) (take_same n m x (le_of_suc-le-suc h))
 
 few : (z : tie.Start) → blocks_of z.args.khz z.args.subframes ≤ 20
-few z = blocks_most z.args.khz z.args.subframes (rate_most z.requires.1.0.0) (subframes_most z.requires.1.0.1)
+few z = blocks_most z.args.khz z.args.subframes (rate_most z.requires.rate.0) (subframes_most z.requires.rate.1)
 
 offset_small : (z : ℤ) → Upto 1 z → SFits w8 z
 offset_small (pos n) h = parts_fit (pos n) (omega (arith, h.most)) (omega arith)
@@ -79,7 +79,7 @@ blanks o =
 put_indices_run_requires : tie.Need-put_indices_run-place-requires
 put_indices_run_requires c κs =
     let z = c.before.before.before.before in
-    ((search rules, rate_most z.requires.1.0.0), (z.requires.1.1.0, z.requires.1.0.1))
+    ((search rules, rate_most z.requires.rate.0), (z.requires.prevtype_value.0, z.requires.rate.1))
 
 cast_offset : tie.Need-overflow_cast-offset
 cast_offset c =
@@ -89,7 +89,7 @@ cast_offset c =
 
 blocks_of_run_requires : tie.Need-blocks_of_run-n-requires
 blocks_of_run_requires c κs =
-    let p = (start c.before.before.before.before).requires.1.0 in
+    let p = (start c.before.before.before.before).requires.rate in
     (rate_most p.0, subframes_most p.1)
 
 mul_n : tie.Need-overflow_mul-n

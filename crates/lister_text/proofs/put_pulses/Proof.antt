@@ -18,7 +18,7 @@ abbrev read : tie.After-blocks_of_run-blocks → tie.After-silk_decode_pulses
 read n = n.before.before
 
 few : (z : tie.Start) → blocks_of z.args.f.khz z.args.f.subframes ≤ 20
-few z = blocks_most z.args.f.khz z.args.f.subframes z.requires.0.1 z.requires.0.2
+few z = blocks_most z.args.f.khz z.args.f.subframes z.requires.at_in_bounds.1 z.requires.at_in_bounds.2
 
 put_pulses_run_requires : tie.Need-put_pulses_run-requires
 put_pulses_run_requires c κs =
@@ -32,7 +32,7 @@ returns c =
     let n = c.before.before.before.before.before in
     let r = read n in
     let a = (start r).args in
-    let q = decode_pulses a.packet.now a.d a.pulses-1.now a.f.khz a.f.subframes a.f.signal a.f.offset in
+    let q = decode_pulses a.packet.now a.d a.pulses.now a.f.khz a.f.subframes a.f.signal a.f.offset in
     let e = ap (λ (p : Pulsed). p.pulses) {y = q} r.silk_decode_pulses.ensures in
     put_as c.before.before.put_pulses_run.ensures (ap₂ pulses_text {v = q.pulses} n.blocks_of_run-blocks.ensures e)
     (omega (arith, n.blocks_of_run-blocks.ensures, few (start r)))

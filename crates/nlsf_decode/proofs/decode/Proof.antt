@@ -33,18 +33,18 @@ first_fits b = sfits_of b.v-1.given
 all_there : (b : tie.After-v-1) → length b.before.args.t2 ≡ 17
 all_there b = search rules
 
-taken : (b : tie.After-v-1) → let a = b.before.args in Accepted a.vector-1.now a.t2 a.khz
-taken b = let a = b.before.args in decode_accepted a.vector-1.now a.t2 a.khz b.before.requires
+taken : (b : tie.After-v-1) → let a = b.before.args in Accepted a.vector.now a.t2 a.khz
+taken b = let a = b.before.args in decode_accepted a.vector.now a.t2 a.khz b.before.requires
 
 cast_v : tie.Need-overflow_cast-v
 cast_v c = rw (to_z-of_z (first_fits c)) (as_natural (at c.before.args.t2 0) (taken c).first0 (taken c).first)
 
 -- what the arm of a book asks, and that its answer is the call's
 asks : (b : tie.After-v-1) {k : Book} {n : ℕ} → let a = b.before.args in Under a.khz k n
-    → Indexed n a.vector-1.now (nat_abs (to_z w8 (of_z w8 (at a.t2 0)))) (take n (drop 1 a.t2))
+    → Indexed n a.vector.now (nat_abs (to_z w8 (of_z w8 (at a.t2 0)))) (take n (drop 1 a.t2))
 asks b u =
     let a = b.before.args in
-    rw (to_z-of_z (first_fits b)) (indexed u a.t2 a.vector-1.now (all_there b) (taken b))
+    rw (to_z-of_z (first_fits b)) (indexed u a.t2 a.vector.now (all_there b) (taken b))
 
 answers : (b : tie.After-v-1) {k : Book} {n : ℕ} {s : Stable} → let a = b.before.args in Under a.khz k n
     → s ≡ spectrum_of k (nat_abs (to_z w8 (of_z w8 (at a.t2 0)))) (take n (drop 1 a.t2))

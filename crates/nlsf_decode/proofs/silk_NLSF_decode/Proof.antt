@@ -14,7 +14,7 @@ returns : tie.Need-returns-then-n-eq0
 returns c =
     let b = c.before.before.before.before in
     let a = b.before.before.before.args in
-    decode_answers a.vector-1.now a.indices a.khz c.before.decode-m.new.0 c.before.decode-m.result
+    decode_answers a.vector.now a.indices a.khz c.before.decode-m.new.0 c.before.decode-m.result
     (sym b.refusal-n.ensures ∙ c.before.before.before.if-n-eq0.true)
     c.before.decode-m.ensures
 
@@ -22,8 +22,8 @@ returns_2 : tie.Need-returns-else-n-eq0
 returns_2 c =
     let a = c.before.before.before.before.args in
     let e = c.before.refusal-n.ensures in
-    ap (λ (n : ℕ). called a.vector-1.now n 0) e
-    ∙ decode_refuses a.vector-1.now a.indices a.khz (λ h. c.if-n-eq0.false (e ∙ h))
+    ap (λ (n : ℕ). called a.vector.now n 0) e
+    ∙ decode_refuses a.vector.now a.indices a.khz (λ h. c.if-n-eq0.false (e ∙ h))
 
 pub silk_NLSF_decode_spec : {M : Type 1} → statement M
 silk_NLSF_decode_spec =

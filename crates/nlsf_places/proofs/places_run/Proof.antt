@@ -197,7 +197,7 @@ place_requires c κs =
     let b = head d in
     let j = 2 * (b.loop-k.k - 1) + 1 in
     let w = (start b).pre.heavy j (omega (arith, b.loop-k.inv.here)) in
-    (rw (odd_residual d) (fitting b j), omega (arith, c.before.weigh_run-w.ensures.0, w))
+    (rw (odd_residual d) (fitting b j), omega (arith, c.before.weigh_run-w.ensures.weight_value, w))
 
 -- behind the odd place
 midway : (c : tie.After-place invariant_loop decreases_loop) → let d = odd_res c in
@@ -279,7 +279,7 @@ place_requires_2 c κs =
     let o = (start b).pre in
     let i = 2 * (b.loop-k.k - 1) in
     let w = o.heavy i (omega (arith, o.some, b.loop-k.inv.here)) in
-    (rw (even_residual d) (fitting b i), omega (arith, c.before.weigh_run-u.ensures.0, w))
+    (rw (even_residual d) (fitting b i), omega (arith, c.before.weigh_run-u.ensures.weight_value, w))
 
 loop_again : tie.Need-loop-k-preserved invariant_loop decreases_loop
 loop_again c =

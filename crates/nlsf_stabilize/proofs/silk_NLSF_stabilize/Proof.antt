@@ -21,7 +21,7 @@ abbrev start : tie.Then-lengths_ok → tie.Start
 start q = q.before.before.before
 
 -- the lengths are right past that test, and the sum's sign is the gap set's rule
-lengths_right : (c : tie.Then-lengths_ok) → let a = (start c).args in lengths_ok a.vector-1.now a.gaps.now ≡ true
+lengths_right : (c : tie.Then-lengths_ok) → let a = (start c).args in lengths_ok a.vector.now a.gaps.now ≡ true
 lengths_right c = sym c.before.lengths_ok.ensures ∙ c.if-lengths_ok.true
 
 -- that test, from behind the sum
@@ -30,30 +30,30 @@ measured r = r.before.before.before.before
 
 rule_is : (r : tie.After-ruled_sum_run-sum) (t : Bool) → le_z (pos 0) (to_z w32 (of_z w32 r.ruled_sum_run-sum.result)) ≡ t
     → let a = (start (measured r)).args in
-    good_gaps (length a.vector-1.now) a.gaps.now ≡ t
+    good_gaps (length a.vector.now) a.gaps.now ≡ t
 rule_is r t e =
     let a = (start (measured r)).args in
-    let l = lengths_are a.vector-1.now a.gaps.now (lengths_right (measured r)) in
-    ruled_sum_lem (length a.vector-1.now) a.gaps.now _ (omega (arith, l.one_more))
+    let l = lengths_are a.vector.now a.gaps.now (lengths_right (measured r)) in
+    ruled_sum_lem (length a.vector.now) a.gaps.now _ (omega (arith, l.one_more))
     (to_z-of_z {w = w32} (sfits_of r.ruled-sum-run.type-inv) ∙ r.ruled_sum_run-sum.ensures) t e
 
 stays_run_requires : tie.Need-stays_run-requires
 stays_run_requires c κs =
     let q = c.before in
     let a = (start q).args in
-    let l = lengths_are a.vector-1.now a.gaps.now (lengths_right q) in omega (arith, l.one_more)
+    let l = lengths_are a.vector.now a.gaps.now (lengths_right q) in omega (arith, l.one_more)
 
 returns : tie.Need-returns-then-stays_run
 returns c =
     let q = c.before.before.before in
     let a = (start q).args in
-    stays_answers a.vector-1.now a.gaps.now (lengths_right q) (sym c.before.stays_run.ensures ∙ c.if-stays_run.true)
+    stays_answers a.vector.now a.gaps.now (lengths_right q) (sym c.before.stays_run.ensures ∙ c.if-stays_run.true)
 
 ruled_sum_run_requires : tie.Need-ruled_sum_run-sum-requires
 ruled_sum_run_requires c κs =
     let q = c.before.before.before in
     let a = (start q).args in
-    let l = lengths_are a.vector-1.now a.gaps.now (lengths_right q) in (l.one_more, l.most)
+    let l = lengths_are a.vector.now a.gaps.now (lengths_right q) in (l.one_more, l.most)
 
 stabilise_run_requires : tie.Need-stabilise_run-m-requires
 stabilise_run_requires c κs =
@@ -61,8 +61,8 @@ stabilise_run_requires c κs =
     let a = (start (measured r)).args in
     let t = rule_is r true c.before.if-sum-ge0.true in (
       (
-        ready a.vector-1.now a.gaps.now (accepted a.vector-1.now a.gaps.now (lengths_right (measured r)) t),
-        ruled_total (length a.vector-1.now) a.gaps.now _
+        ready a.vector.now a.gaps.now (accepted a.vector.now a.gaps.now (lengths_right (measured r)) t),
+        ruled_total (length a.vector.now) a.gaps.now _
             (to_z-of_z {w = w32} (sfits_of r.ruled-sum-run.type-inv) ∙ r.ruled_sum_run-sum.ensures) t,
       ),
       sym r.before.before.stays_run.ensures ∙ r.before.if-stays_run.false,
@@ -72,20 +72,20 @@ returns_2 : tie.Need-returns-then-sum-ge0
 returns_2 c =
     let r = c.before.before.before.before in
     let a = (start (measured r)).args in
-    stabilise_answers a.vector-1.now a.gaps.now c.before.stabilise_run-m.new.0 c.before.stabilise_run-m.result
-    (accepted a.vector-1.now a.gaps.now (lengths_right (measured r)) (rule_is r true c.before.before.before.if-sum-ge0.true))
+    stabilise_answers a.vector.now a.gaps.now c.before.stabilise_run-m.new.0 c.before.stabilise_run-m.result
+    (accepted a.vector.now a.gaps.now (lengths_right (measured r)) (rule_is r true c.before.before.before.if-sum-ge0.true))
     c.before.stabilise_run-m.ensures
 
 returns_3 : tie.Need-returns-else-sum-ge0
 returns_3 c =
     let r = c.before in
     let a = (start (measured r)).args in
-    refused_gaps a.vector-1.now a.gaps.now (lengths_right (measured r)) (rule_is r false c.if-sum-ge0.false)
+    refused_gaps a.vector.now a.gaps.now (lengths_right (measured r)) (rule_is r false c.if-sum-ge0.false)
 
 returns_4 : tie.Need-returns-else-lengths_ok
 returns_4 c =
     let a = c.before.before.before.args in
-    refused_lengths a.vector-1.now a.gaps.now (sym c.before.lengths_ok.ensures ∙ c.if-lengths_ok.false)
+    refused_lengths a.vector.now a.gaps.now (sym c.before.lengths_ok.ensures ∙ c.if-lengths_ok.false)
 
 pub silk_NLSF_stabilize_spec : {M : Type 1} → statement M
 silk_NLSF_stabilize_spec =

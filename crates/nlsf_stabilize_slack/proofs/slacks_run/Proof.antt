@@ -26,7 +26,7 @@ loop_holds : tie.Need-loop-i-init invariant_loop decreases_loop
 unfolding total
 loop_holds c =
     let a = c.args in
-    (omega arith, (filled_start a.g.now a.v.now a.w-1.now a.s.now c.requires.0.0 c.requires.0.1, refl))
+    (omega arith, (filled_start a.g.now a.v.now a.w.now a.s.now c.requires.0.0 c.requires.0.1, refl))
 
 -- the gap read, and the sum with it
 gap : (c : tie.After-sum-1 invariant_loop decreases_loop) → SFits w16 (at c.before.before.before.args.g.now c.before.before.loop-i.i)

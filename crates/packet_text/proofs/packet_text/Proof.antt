@@ -60,4 +60,4 @@ returns_2 c =
 pub packet_text_spec : {M : Type 1} → statement M
 packet_text_spec =
     tie.close
-    (tie.spec (λ c κs. search rules) put_accepted_run_requires returns (λ c. search rules) put_one_run_requires returns_2)
+    (tie.spec (λ c κs. search rules) put_accepted_run_requires returns put_one_run_requires returns_2)

@@ -79,7 +79,7 @@ module _ {M : Type 1} {𝓤 : Ura M} (𝓛 : Logic 𝓤) (mem : Memory → SProp
   mach = View'.lowered d
 
   abbrev found : Decoded
-  found = dec_tell d.packet-1.now d.reader
+  found = dec_tell d.packet.now d.reader
 
   abbrev Post : Val → SProp 𝓤
   Post = (walk_of 𝓛 account.ended stayed (account.clauses 𝓛 mem run)).post (((κ, tt), (q, tt), tt, (d, tt), (mach ∷ [], tt)), tt)

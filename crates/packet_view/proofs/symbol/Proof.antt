@@ -95,7 +95,7 @@ module _ {M : Type 1} {𝓤 : Ura M} (𝓛 : Logic 𝓤) (mem : Memory → SProp
   at = (mach ∷ [], (table_val ∷ [], (vint w32 n ∷ [], tt)))
 
   abbrev found : Decoded
-  found = dec_sym d.packet-1.now d.reader (tab n t.now)
+  found = dec_sym d.packet.now d.reader (tab n t.now)
 
   abbrev Post : Val → SProp 𝓤
   Post = (walk_of 𝓛 symbol.ended stayed (symbol.clauses 𝓛 mem run)).post ((κs, (q, (q', tt)), tt, args, at), tt)

@@ -32,7 +32,7 @@ fits : (t : tie.Then-p-eq0)
     (start (plan t)).args.sizes.now (plan t).plan_run-p.result.length
 fits t =
     let a = (start (plan t)).args in
-    planned (length a.buf-1.now) a.config (length a.frames.now) a.sizes.now a.length _ (plan t).plan_run-p.ensures
+    planned (length a.buf.now) a.config (length a.frames.now) a.sizes.now a.length _ (plan t).plan_run-p.ensures
     t.if-p-eq0.true
 
 write_run_requires : tie.Need-write_run-requires
@@ -48,15 +48,15 @@ returns c =
     let a = (start (plan t)).args in
     let p = (plan t).plan_run-p.result in
     let d = (plan t).plan_run-p.ensures in
-    wrote_is a.buf-1.now _ a.config a.frames.now a.sizes.now a.length p.length w.write_run.ensures
-    (accepted (length a.buf-1.now) a.config (length a.frames.now) a.sizes.now a.length p d t.if-p-eq0.true)
+    wrote_is a.buf.now _ a.config a.frames.now a.sizes.now a.length p.length w.write_run.ensures
+    (accepted (length a.buf.now) a.config (length a.frames.now) a.sizes.now a.length p d t.if-p-eq0.true)
     (d.runs t.if-p-eq0.true).length
 
 returns_2 : tie.Need-returns
 returns_2 c =
     let p = c.before.before in
     let a = (start p).args in
-    kept_is a.buf-1.now a.config a.frames.now a.sizes.now a.length _ p.plan_run-p.ensures.rule c.if-p-eq0.false
+    kept_is a.buf.now a.config a.frames.now a.sizes.now a.length _ p.plan_run-p.ensures.rule c.if-p-eq0.false
 
 pub packet_write_spec : {M : Type 1} → statement M
 packet_write_spec =

@@ -52,7 +52,7 @@ returns_2 : tie.Need-returns
 returns_2 c =
     let b = c.before.before.before.before in
     let e = c.before.some_pulses.ensures c.if-some_pulses.false in
-    signs_untold _ b.args.c b.args.j b.args.part.now b.requires.1.1.1.1 e.0 e.1 b.requires.0
+    signs_untold _ b.args.c b.args.j b.args.part.now b.requires.part_len.1 e.0 e.1 b.requires.core
 
 pub block_signs_run_spec : {M : Type 1} → statement M
 block_signs_run_spec =

@@ -48,14 +48,14 @@ start l = l.before.before.before.before.before.before
 ec_dec_icdf8_run_requires : tie.Need-ec_dec_icdf8_run-a-requires invariant_loop decreases_loop
 ec_dec_icdf8_run_requires c κs =
     let z = c.before.before.before in
-    let e = count_in z.args.rows.now z.args.level z.requires.1.1.0 (omega arith) in
-    (z.requires.0, (omega (arith, z.requires.1.0), rw e (row_good (48 + z.args.level) (omega arith))))
+    let e = count_in z.args.rows.now z.args.level z.requires.pulse_rows (omega arith) in
+    (z.requires.core, (omega (arith, z.requires.total_bound), rw e (row_good (48 + z.args.level) (omega arith))))
 
 loop_holds : tie.Need-loop-v-init invariant_loop decreases_loop
 loop_holds c =
     let z = c.before.before.before.before.before in
     let a = c.before.ec_dec_icdf8_run-a.ensures in
-    let e = count_in z.args.rows.now z.args.level z.requires.1.1.0 (omega arith) in
+    let e = count_in z.args.rows.now z.args.level z.requires.pulse_rows (omega arith) in
     record {
       rest = refl;
       core = a.core;

@@ -47,7 +47,7 @@ unfolding blocks_from
 loop_holds c =
     let z = c.before.before in
     record {
-      through = rw (sub-zero z.args.n) (through_start z.requires.0);
+      through = rw (sub-zero z.args.n) (through_start z.requires.core);
       to = omega arith;
       size = refl;
       size2 = refl;
@@ -59,7 +59,7 @@ count_run_requires : tie.Need-count_run-b-requires invariant_loop decreases_loop
 count_run_requires c κs =
     let z = c.before.before.before.before in
     let i = c.before.loop-i.invariant in
-    (i.through.core, (omega (arith, i.through.most, z.requires.1.0, z.requires.1.1.1.1), (z.requires.1.1.0, z.requires.1.1.1.0)))
+    (i.through.core, (omega (arith, i.through.most, z.requires.total_bound, z.requires.level_bound.1), (z.requires.pulse_rows, z.requires.level_bound.0)))
 
 loop_again : tie.Need-loop-i-preserved invariant_loop decreases_loop
 loop_again c =

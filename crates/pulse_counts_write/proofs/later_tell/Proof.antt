@@ -31,7 +31,7 @@ abbrev start : tie.At-loop-j invariant_loop decreases_loop → tie.Start invaria
 start l = l.before.before.before
 
 loop_holds : tie.Need-loop-j-init invariant_loop decreases_loop
-loop_holds c = record { midway = midway_start c.before.before.requires.0; to = omega arith; kept = refl }
+loop_holds c = record { midway = midway_start c.before.before.requires.core; to = omega arith; kept = refl }
 
 sub_ec_enc_icdf_run : tie.Need-slice_bounds-ec_enc_icdf_run-count invariant_loop decreases_loop
 sub_ec_enc_icdf_run c =

@@ -43,7 +43,7 @@ loop_holds c =
     let z = c.before.before in
     record {
       rest = ap (λ (k : ℕ). run z.args.packet.now z.args.from (low_bits k z.args.m)) (sub-zero z.args.n);
-      core = z.requires.0;
+      core = z.requires.core;
       to = omega arith;
       small = omega arith;
       least = omega arith;
@@ -54,7 +54,7 @@ ec_dec_icdf8_run_requires : tie.Need-ec_dec_icdf8_run-a-requires invariant_loop 
 ec_dec_icdf8_run_requires c κs =
     let z = c.before.before.before.before in
     let i = c.before.loop-j.invariant in
-    (i.core, (omega (arith, i.most, z.requires.1.0, z.requires.1.1.1.1), rw z.requires.1.1.0 (row_good 123 (omega arith))))
+    (i.core, (omega (arith, i.most, z.requires.total_bound, z.requires.m_bound.1), rw z.requires.row_value (row_good 123 (omega arith))))
 
 -- the value so far, and the bit read
 small_values : (c : tie.After-ec_dec_icdf8_run-a invariant_loop decreases_loop)

@@ -29,10 +29,10 @@ abbrev start : tie.At-loop-k invariant_loop decreases_loop → tie.Start invaria
 start l = l.before.before.before
 
 loop_holds : tie.Need-loop-k-init invariant_loop decreases_loop
-loop_holds c = record { midway = midway_start c.before.before.requires.0; to = omega arith; kept = refl }
+loop_holds c = record { midway = midway_start c.before.before.requires.core; to = omega arith; kept = refl }
 
 shr_bit : tie.Need-overflow_shr-bit invariant_loop decreases_loop
-shr_bit c = omega (arith, c.before.loop-k.invariant.to, c.before.before.before.before.requires.1.1.1)
+shr_bit c = omega (arith, c.before.loop-k.invariant.to, c.before.before.before.before.requires.row_value.1)
 
 ec_enc_icdf_run_requires : tie.Need-ec_enc_icdf_run-w-requires invariant_loop decreases_loop
 ec_enc_icdf_run_requires c κs =

@@ -27,7 +27,7 @@ abbrev decreases_loop : tie.decreases-loop-k
 decreases_loop start₀ all₀ left₀ x p tables s n₀ k₀ start all left n k = 15 - k
 
 splits_of_run_requires : tie.Need-splits_of_run-s-requires invariant_loop decreases_loop
-splits_of_run_requires c κs = c.before.before.before.before.requires.1
+splits_of_run_requires c κs = c.before.before.before.before.requires.x_len
 
 abbrev start : tie.At-loop-k invariant_loop decreases_loop → tie.Start invariant_loop decreases_loop
 start l = l.before.before.before.before.before.before
@@ -44,7 +44,7 @@ part c =
     s.ensures.0 s.ensures.1
 
 loop_holds : tie.Need-loop-k-init invariant_loop decreases_loop
-loop_holds c = record { are = gathered_none c.before.before.before.before.before.requires.0; few = omega arith; to = omega arith }
+loop_holds c = record { are = gathered_none c.before.before.before.before.before.requires.sized; few = omega arith; to = omega arith }
 
 cast_split_start_run : tie.Need-overflow_cast-tables invariant_loop decreases_loop
 cast_split_start_run c = let a = part c.before in omega (arith, a.table, a.within.table)

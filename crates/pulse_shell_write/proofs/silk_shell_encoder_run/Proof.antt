@@ -32,7 +32,7 @@ decreases_loop buf₀ rows places p starts alls lefts count q₀ k₀ buf q k = 
 spoken_of_run_requires : tie.Need-spoken_of_run-count-requires invariant_loop decreases_loop
 spoken_of_run_requires c κs =
     let b = c.before.before.before.before.before.before in
-    (record { start_size = refl; all_size = refl; left_size = refl }, (b.requires.1.1.1.1, b.requires.1.1.1.0, b.requires.1.1.1.2))
+    (record { start_size = refl; all_size = refl; left_size = refl }, (b.requires.p_bound.1, b.requires.p_bound.0, b.requires.p_bound.2))
 
 abbrev spoke : tie.At-loop-k invariant_loop decreases_loop → tie.After-spoken_of_run-count invariant_loop decreases_loop
 spoke l = l.before.before.before.before

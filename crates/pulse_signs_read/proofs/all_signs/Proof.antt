@@ -42,9 +42,9 @@ loop_holds c =
     let b = c.before.before.before.before.before in
     record {
       gathered = c.pulse_places-n.ensures;
-      going = going_start _ _ _ _ _ _ _ _ b.requires.1.1.1.0 b.requires.0;
+      going = going_start _ _ _ _ _ _ _ _ b.requires.natural.0 b.requires.core;
       to = omega arith;
-      size = b.requires.1.1.1.1;
+      size = b.requires.natural.1;
     }
 
 abbrev start : tie.At-loop-t invariant_loop decreases_loop → tie.Start invariant_loop decreases_loop

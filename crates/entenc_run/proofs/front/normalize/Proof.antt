@@ -15,7 +15,7 @@ abbrev decreases_loop : tie.decreases-loop-w
 decreases_loop buf₀ w₀ buf w = 2 ^ 24 - w.rng
 
 loop_holds : tie.Need-loop-w-init invariant_loop decreases_loop
-loop_holds c = (refl, c.before.requires.0, c.before.requires.1, refl)
+loop_holds c = (refl, c.before.requires.ready, c.before.requires.le_rng, refl)
 
 turn_requires : tie.Need-turn-w-requires invariant_loop decreases_loop
 turn_requires c κs = (c.before.before.before.loop-w.invariant.1, c.before.loop-w-test.true)
