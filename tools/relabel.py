@@ -149,8 +149,15 @@ def turned(text, names, say):
             if i > 1 and parts[i - 1] != 'before':
                 continue
             new = names.steps.get(plain(parts[i]))
-            if new and (i + 1 < len(parts) and (parts[i + 1] in FIELDS or plain(parts[i]).startswith('loop'))):
+            ends = i + 1 == len(parts) and (i > 1 or parts[0] == 'c')
+            if new and (ends or i + 1 < len(parts) and (parts[i + 1] in FIELDS or plain(parts[i]).startswith('loop'))):
                 parts[i] = new
+        # A step is found from any place behind it.
+        last = 1
+        while parts[last:last + 1] == ['before']:
+            last += 1
+        if last > 1 and last < len(parts) and (parts[last] in ('args', 'requires', 'ranges') or parts[last] in names.steps.values()):
+            del parts[1:last]
         for i in range(len(parts) - 2, 0, -1):
             if parts[i] == 'requires':
                 clause(parts, i + 1, names.requires)

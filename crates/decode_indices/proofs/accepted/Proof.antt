@@ -13,7 +13,7 @@ returns c =
     let z = c.before.before in
     let f : SFits w16 c.next_lag_run-prevlag.result = search rules in
     let e : c.next_lag_run-prevlag.result ≡ next_lag z.args.before z.args.x = rw (to_z-of_z z.ranges.before) at c.next_lag_run-prevlag.ensures in
-    rw (to_z-of_z f, e, c.before.next_type_run-prevtype.ensures)
+    rw (to_z-of_z f, e, c.next_type_run-prevtype.ensures)
 
 pub accepted_spec : {M : Type 1} → statement M
 accepted_spec = tie.close (tie.spec (λ c κs. search rules) (λ c κs. search rules) returns)

@@ -29,7 +29,7 @@ begun c = c.before.before.before.before
 
 rule_is : (c : tie.After-first_refusal-n)
     → let z = begun c in c.first_refusal-n.result ≡ indices_rule z.args.packet.now z.args.d z.args.s
-rule_is c = rw (c.before.gate.ensures, c.before.before.numbers_rule-rule.ensures) at c.first_refusal-n.ensures
+rule_is c = rw (c.gate.ensures, c.numbers_rule-rule.ensures) at c.first_refusal-n.ensures
 
 -- a call that is not refused
 abbrev opened : tie.Then-n-eq0 → tie.Start
@@ -44,7 +44,7 @@ accepts c = let z = opened c in rule_accepts z.args.packet.now z.args.d z.args.s
 all_indices_requires : tie.Need-all_indices-a-requires
 all_indices_requires c κs =
     let a = accepts c.before.before in
-    let r = c.before.index_rows_lem in (
+    let r = c.index_rows-rows in (
       record { core = a.passed.sound.core; few = omega (arith, a.passed.low); rows = index_rows_lem r.result r.ensures },
       (a.numbers.rate, a.numbers.subframes, a.numbers.active),
     )
@@ -54,7 +54,7 @@ accepted_requires c κs =
     let r = c.before in
     let b = r.before.before.before in
     let z = opened b in
-    let y : Bytes z.args.packet.now = λ i. omega (arith, b.before.before.before.before.shared_slice_known-1.given i) in
+    let y : Bytes z.args.packet.now = λ i. omega (arith, b.shared_slice_known-1.given i) in
     subst (λ (q : Got Indices). Upto 2 q.value.signal) r.all_indices-a.ensures.is
     (indices_ended _ _ _ _ y (accepts b) (shape z)).holds.range.signal
 
@@ -71,7 +71,7 @@ returns_2 : tie.Need-returns-else-n-eq0
 returns_2 c =
     let e = c.before in
     let z = begun e.before in
-    rw (to_z-of_z (prevlag_fits z)) (indices_refused _ _ _ z.args.s e.before.first_refusal-n.result (rule_is e.before) e.if-n-eq0.false)
+    rw (to_z-of_z (prevlag_fits z)) (indices_refused _ _ _ z.args.s e.first_refusal-n.result (rule_is e.before) e.if-n-eq0.false)
 
 pub silk_decode_indices_spec : {M : Type 1} → statement M
 silk_decode_indices_spec =

@@ -9,7 +9,7 @@ use Rattle.decode_indices.proofs.voicing_index.Tie as tie
 
 returns : tie.Need-returns-then-signal-eq2
 unfolding voicing
-returns c = rw (eq-eqb _ _ c.before.if-signal-eq2.true) c.pitch_run.ensures
+returns c = rw (eq-eqb _ _ c.if-signal-eq2.true) c.pitch_run.ensures
 
 returns_2 : tie.Need-returns
 unfolding voicing

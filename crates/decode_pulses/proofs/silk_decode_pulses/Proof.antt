@@ -22,7 +22,7 @@ start c = c.before.before.before.before
 number : (c : tie.After-first_refusal-n)
     → let a = (start c).args in
     c.first_refusal-n.result ≡ pulses_rule a.packet.now a.d a.pulses.now a.khz a.subframes a.signal a.offset
-number c = c.first_refusal-n.ensures ∙ ap₂ first_of c.before.gate.ensures c.before.before.pulse_rule-rule.ensures
+number c = c.first_refusal-n.ensures ∙ ap₂ first_of c.gate.ensures c.pulse_rule-rule.ensures
 
 -- what an accepted call has
 record Accepted (c : tie.Then-n-eq0) : Type 0 where
@@ -51,7 +51,7 @@ silk_decode_pulses_run_requires c κs =
       (
         omega (arith, k.gate.low),
         (
-          pulse_rows_lem _ b.before.pulse_rows-rows.ensures,
+          pulse_rows_lem _ b.pulse_rows-rows.ensures,
           (
             omega (arith, e, blocks_most a.khz a.subframes o.khz16 o.subframes4),
             omega (arith, e, k.own.length16),
@@ -67,7 +67,7 @@ returns c =
     let b = c.before.before.before.before in
     let t = b.before.before in
     let a = (start t.before).args in
-    let r = c.before.silk-decode-pulses-run in
+    let r = c.silk_decode_pulses_run-state in
     let s = r.new.1.1.1.0 in
     let x : Excited a.packet.now a.d a.signal a.offset _ s r.result =
     subst (λ (k : ℕ). Excited a.packet.now a.d a.signal a.offset k s r.result) b.blocks_of_run-blocks.ensures r.ensures in

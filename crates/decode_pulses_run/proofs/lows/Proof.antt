@@ -23,7 +23,7 @@ start l = l.before.before.before
 block_lows_run_requires : tie.Need-block_lows_run-d-requires invariant_loop decreases_loop
 block_lows_run_requires c κs =
     let l = c.before.before.before.before in
-    let t = c.before.before.before.loop-i-test.true in
+    let t = c.loop-i-test.true in
     let b = start l in
     let g = l.loop-i.invariant in
     let p = b.pre.1.1 in (
@@ -37,8 +37,8 @@ block_lows_run_requires c κs =
 loop_again : tie.Need-loop-i-preserved invariant_loop decreases_loop
 loop_again c =
     let t = c.before.before.before.before.before in
-    let r = c.before.block-lows-run in
-    round_next t.before.loop-i.invariant t.loop-i-test.true r.ensures.is r.auto.1.1.1.0 r.ensures.ran
+    let r = c.block_lows_run-d in
+    round_next t.loop-i.invariant t.loop-i-test.true r.ensures.is r.auto.1.1.1.0 r.ensures.ran
 
 pub lows_spec : {M : Type 1} → statement M
 lows_spec =
@@ -47,9 +47,9 @@ lows_spec =
     (λ c. let b = c.before.before in round_start b.requires.n_bound.2 b.requires.core)
     (λ c. search rules) (λ c. search rules) (λ c. search rules) (λ c. search rules) (λ c. search rules)
     (λ c. search rules) (λ c. search rules) (λ c. search rules)
-    (λ c. omega (arith, round_fits c.before.before.before.loop-i.invariant c.before.before.loop-i-test.true))
-    (λ c. round_fits c.before.before.before.loop-i.invariant c.before.before.loop-i-test.true)
+    (λ c. omega (arith, round_fits c.loop-i.invariant c.loop-i-test.true))
+    (λ c. round_fits c.loop-i.invariant c.loop-i-test.true)
     (λ c. let l = c.before.before.before.before in omega (arith, (start l).requires.n_bound.1 l.loop-i.i))
     block_lows_run_requires (λ c. search rules) (λ c. search rules) loop_again
-    (λ c. round_kept c.before.loop-i.invariant c.loop-i-test.false ∙ sym (start c.before).pre.1.1.1.2.size)
-    (λ c. round_end c.before.loop-i.invariant c.loop-i-test.false))
+    (λ c. round_kept c.loop-i.invariant c.loop-i-test.false ∙ sym (start c.before).pre.1.1.1.2.size)
+    (λ c. round_end c.loop-i.invariant c.loop-i-test.false))

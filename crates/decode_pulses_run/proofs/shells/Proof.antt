@@ -35,8 +35,8 @@ silk_shell_decoder_run_requires c κs =
 loop_again : tie.Need-loop-i-preserved invariant_loop decreases_loop
 loop_again c =
     let t = c.before.before.before.before in
-    let l = t.before.loop in
-    let r = c.before.silk-shell-decoder-run in
+    let l = t.loop-i in
+    let r = c.silk_shell_decoder_run-d in
     let few = (start t.before).pre.1.1.1.2 l.i in
     splitting_next _ _ _ _ _ l.pulses l.d l.i l.invariant t.loop-i-test.true few r.new.1.1.1.0 r.result r.ensures
 
@@ -51,4 +51,4 @@ shells_spec =
     (λ c. let l = c.before.before.before in omega (arith, (start l).requires.n_bound.2 l.loop-i.i))
     silk_shell_decoder_run_requires (λ c. search rules) (λ c. search rules) loop_again
     (λ c. sized c.before ∙ sym (start c.before).pre.1.1.1.1)
-    (λ c. let l = c.before.loop in splitting_end _ _ _ _ _ l.pulses l.d l.i l.invariant c.loop-i-test.false))
+    (λ c. let l = c.loop-i in splitting_end _ _ _ _ _ l.pulses l.d l.i l.invariant c.loop-i-test.false))

@@ -35,7 +35,7 @@ row_ends c =
     let l = c.before.before.before in
     let b = start l in
     let p = b.pre.1.1 in
-    let r = c.sign-row-at-run in
+    let r = c.sign_row_at_run-row in
     omega (arith, sign_ends b.args.f.signal b.args.f.offset (count l) p.1.1 p.1.2 r.result r.ensures, p.0.size)
 
 row_is : (c : tie.After-sign_row_at_run-row invariant_loop decreases_loop)
@@ -46,17 +46,17 @@ row_is c =
     let l = c.before.before.before in
     let b = start l in
     let p = b.pre.1.1 in
-    let r = c.sign-row-at-run in
+    let r = c.sign_row_at_run-row in
     sign_lent b.args.f.signal b.args.f.offset (count l) p.1.1 p.1.2 r.result r.ensures b.args.rows.now p.0
 
-fits : (c : tie.In-loop-i invariant_loop decreases_loop) → c.before.loop-i.i * 16 + 16 ≤ length c.before.loop-i.pulses
-fits c = round_fits c.before.loop-i.invariant c.loop-i-test.true
+fits : (c : tie.In-loop-i invariant_loop decreases_loop) → c.loop-i.i * 16 + 16 ≤ length c.loop-i.pulses
+fits c = round_fits c.loop-i.invariant c.loop-i-test.true
 
 silk_decode_signs_run_requires : tie.Need-silk_decode_signs_run-d-requires invariant_loop decreases_loop
 silk_decode_signs_run_requires c κs =
     let s = c.before.before.before.before in
     let l = s.before.before.before in
-    let t = s.before.before.loop-i-test.true in
+    let t = s.loop-i-test.true in
     let b = start l in
     let g = l.loop-i.invariant in
     let p = b.pre.1.1 in (
@@ -71,10 +71,10 @@ loop_again : tie.Need-loop-i-preserved invariant_loop decreases_loop
 loop_again c =
     let s = c.before.before.before.before.before.before in
     let l = s.before.before.before in
-    let r = c.before.silk-decode-signs-run in
+    let r = c.silk_decode_signs_run-d in
     let y = r.new.1.1.1.0 in
     let m = mags (block_of l.loop-i.pulses l.loop-i.i) in
-    round_next l.loop-i.invariant s.before.before.loop-i-test.true (sym (map-id y)) r.auto.1.1.1.0
+    round_next l.loop-i.invariant s.loop-i-test.true (sym (map-id y)) r.auto.1.1.1.0
     (subst (λ (q : List ℕ). Ran (start l).args.packet.now l.loop-i.d (each (pos 0) (sign q) m) 256 y r.result) (row_is s) r.ensures)
 
 pub signs_spec : {M : Type 1} → statement M
@@ -83,7 +83,7 @@ signs_spec =
     (tie.spec invariant_loop decreases_loop
     (λ c. let b = c.before.before in round_start b.requires.blocks_bound.3 b.requires.core)
     (λ c. search rules) (λ c. search rules) (λ c. search rules)
-    (λ c κs. let p = c.before.before.before.before.before.requires.blocks_bound in (p.1, p.2))
+    (λ c κs. let p = c.requires.blocks_bound in (p.1, p.2))
     (λ c. omega (arith, row_ends c)) (λ c. search rules) (λ c. search rules) (λ c. search rules)
     (λ c. omega (arith, row_ends c.before.before))
     (λ c. row_ends c.before.before)
@@ -91,5 +91,5 @@ signs_spec =
     (λ c. omega (arith, fits c.before.before.before.before.before))
     (λ c. fits c.before.before.before.before.before)
     silk_decode_signs_run_requires (λ c. search rules) (λ c. search rules) loop_again
-    (λ c. round_kept c.before.loop-i.invariant c.loop-i-test.false ∙ sym (start c.before).pre.1.1.1.3.size)
-    (λ c. round_end c.before.loop-i.invariant c.loop-i-test.false))
+    (λ c. round_kept c.loop-i.invariant c.loop-i-test.false ∙ sym (start c.before).pre.1.1.1.3.size)
+    (λ c. round_end c.loop-i.invariant c.loop-i-test.false))

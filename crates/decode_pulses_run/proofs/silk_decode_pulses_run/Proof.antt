@@ -45,7 +45,7 @@ ec_dec_icdf8_run_requires c κs =
 counts_run_requires : tie.Need-counts_run-x-requires
 counts_run_requires c κs =
     let b = start c.before in
-    let a = c.before.ec_dec_icdf8_run-a.ensures in
+    let a = c.ec_dec_icdf8_run-a.ensures in
     let p = b.pre.1.1 in
     let rate = rate_stands (b.args.signal / 2) (two_rows b) in
     (a.core, (omega (arith, a.most, b.pre.1.0), (p.0, (omega (arith, a.inside, ap length (rate_is b), rate.size), p.1.0))))
@@ -54,7 +54,7 @@ shells_requires : tie.Need-shells-s-requires
 shells_requires c κs =
     let b = start (rated c.before) in
     let a = (rated c.before).ec_dec_icdf8_run-a.ensures in
-    let f = c.before.counts_run-x.ensures in
+    let f = c.counts_run-x.ensures in
     let p = b.pre.1.1 in
     (f.0.core, (omega (arith, a.most, f.0.most, b.pre.1.0), (p.0, (p.1.0, p.1.1, f.1.0))))
 
@@ -115,7 +115,7 @@ returns c =
     let f = (counted s).counts-run in
     chain _ _ _ r.ec_dec_icdf8_run-a.result b.args.signal b.args.offset b.args.n f.result.counts f.result.lows
     s.shells.last.1.1.1.0 l.lows.last.1.1.1.1.0 _ _ _ _ _
-    b.pre.1.1.1.0 (rate_is b) r.ec_dec_icdf8_run-a.ensures f.ensures.0 s.shells-s.ensures l.lows-l.ensures c.before.signs.ensures
+    b.pre.1.1.1.0 (rate_is b) r.ec_dec_icdf8_run-a.ensures f.ensures.0 s.shells-s.ensures l.lows-l.ensures c.signs.ensures
 
 pub silk_decode_pulses_run_spec : {M : Type 1} → statement M
 silk_decode_pulses_run_spec =

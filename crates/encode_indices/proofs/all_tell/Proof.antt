@@ -60,7 +60,7 @@ pitch_told c n h =
 
 -- the signal type
 signal_small : (c : tie.After-next_type_run-signal) → c.next_type_run-signal.result < 3
-signal_small c = omega (arith, c.next_type_run-signal.ensures, c.before.before.before.requires.rate.3.kind.signal.most)
+signal_small c = omega (arith, c.next_type_run-signal.ensures, c.requires.rate.3.kind.signal.most)
 
 gains_tell_run_requires : tie.Need-gains_tell_run-g-requires
 gains_tell_run_requires c κs =
@@ -86,7 +86,7 @@ voicing_tell_requires c κs =
     let k = i.before.before.before.before.before.before.before.before.before.before.before.before in
     let p = (kind_start k).requires.rate in (
       interpolation_told i (2 ^ 27) (omega arith),
-      (p.0, p.1, λ e. p.3.pitch (p.3.kind.signal.least ∙ ap pos (sym k.before.before.next_type_run-signal.ensures ∙ e))),
+      (p.0, p.1, λ e. p.3.pitch (p.3.kind.signal.least ∙ ap pos (sym k.next_type_run-signal.ensures ∙ e))),
     )
 
 seed_tell_run_requires : tie.Need-seed_tell_run-requires
@@ -100,12 +100,12 @@ same_length c =
     let i = v.before.before.before.before in
     let q = i.before.before.before.before in
     let g = q.before.before.before.before in
-    c.before.before.seed_tell_run.auto.0
+    c.seed_tell_run.auto.0
     ∙ v.voicing_tell-v.auto.0
     ∙ i.interpolation_tell_run-i.auto.0
     ∙ q.spectrum_tell_run-q.auto.0
     ∙ g.gains_tell_run-g.auto.0
-    ∙ g.before.before.before.before.kind_tell_run-k.auto.0
+    ∙ g.kind_tell_run-k.auto.0
 
 returns : tie.Need-returns
 returns c =
@@ -118,13 +118,13 @@ returns c =
     let a = z.args in
     let p = z.pre.1 in
     parts_told a.s a.x p.0 p.1 p.2 (shape z) p.3
-    k.before.before.next_type_run-signal.result k.before.before.next_type_run-signal.ensures
+    k.next_type_run-signal.result k.next_type_run-signal.ensures
     k.kind_tell_run-k.ensures
     g.gains_tell_run-g.ensures
     q.spectrum_tell_run-q.ensures
     i.interpolation_tell_run-i.ensures
     v.voicing_tell-v.ensures
-    c.before.before.seed_tell_run.ensures
+    c.seed_tell_run.ensures
 
 pub all_tell_spec : {M : Type 1} → statement M
 all_tell_spec =

@@ -24,12 +24,12 @@ begun c = c.before.before.before.before
 
 early : (c : tie.After-first_refusal-n)
     → c.first_refusal-n.result ≡ first_of (gate_w (begun c).args.buf.now (begun c).args.w) (cond (setting_ok (begun c).args.s) 0 4)
-early c = rw (c.before.before.gate.ensures, c.before.numbers_rule.ensures) at c.first_refusal-n.ensures
+early c = rw (c.gate.ensures, c.numbers_rule.ensures) at c.first_refusal-n.ensures
 
 fields_ok_run_requires : tie.Need-fields_ok_run-requires
 fields_ok_run_requires c κs =
     let z = begun c.before in
-    let r = rule_chosen (entry z) z.args.x z.args.s c.before.first_refusal-n.result (early c.before) c.if-n-eq0.true in
+    let r = rule_chosen (entry z) z.args.x z.args.s c.first_refusal-n.result (early c.before) c.if-n-eq0.true in
     (r.rate, r.subframes, r.active)
 
 -- what the test of the fields decides
@@ -37,8 +37,8 @@ late : (c : tie.After-fields_ok_run)
     → let z = begun c.before.before in cond c.fields_ok_run.result 0 8 ≡ tell_rule (entry z) z.args.s z.args.x
 late c =
     let z = begun c.before.before in
-    let n = c.before.before.first_refusal-n.result in
-    rule_fields (entry z) z.args.x z.args.s n (early c.before.before) c.before.if-n-eq0.true (shape z) _ c.fields_ok_run.ensures
+    let n = c.first_refusal-n.result in
+    rule_fields (entry z) z.args.x z.args.s n (early c.before.before) c.if-n-eq0.true (shape z) _ c.fields_ok_run.ensures
 
 returns : tie.Need-returns-then-fields_ok_run
 returns c = ap (λ (t : Bool). cond t 0 8) (sym c.if-fields_ok_run.true) ∙ late c.before
@@ -49,7 +49,7 @@ returns_2 c = ap (λ (t : Bool). cond t 0 8) (sym c.if-fields_ok_run.false) ∙ 
 returns_3 : tie.Need-returns-else-n-eq0
 returns_3 c =
     let z = begun c.before in
-    rule_early (entry z) z.args.x z.args.s c.before.first_refusal-n.result (early c.before) c.if-n-eq0.false
+    rule_early (entry z) z.args.x z.args.s c.first_refusal-n.result (early c.before) c.if-n-eq0.false
 
 pub refusal_spec : {M : Type 1} → statement M
 refusal_spec =

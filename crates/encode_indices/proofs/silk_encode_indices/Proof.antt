@@ -29,7 +29,7 @@ abbrev begun : tie.Then-n-eq0 → tie.Start
 begun c = c.before.before.before.before
 
 open_rule : (c : tie.Then-n-eq0) → tell_rule (entry (begun c)) (begun c).args.s (begun c).args.«record» ≡ 0
-open_rule c = sym c.before.refusal-n.ensures ∙ c.if-n-eq0.true
+open_rule c = sym c.refusal-n.ensures ∙ c.if-n-eq0.true
 
 takes : (c : tie.Then-n-eq0) → Takes (entry (begun c)) (begun c).args.«record» (begun c).args.s
 takes c = rule_takes (entry (begun c)) (begun c).args.«record» (begun c).args.s (shape (begun c)) (open_rule c)
@@ -37,7 +37,7 @@ takes c = rule_takes (entry (begun c)) (begun c).args.«record» (begun c).args.
 all_tell_requires : tie.Need-all_tell-q-requires
 all_tell_requires c κs =
     let t = takes c.before.before.before in
-    let r = c.before.before.index_rows_lem in (
+    let r = c.index_rows-rows in (
       record { core = t.passed.core; few = omega (arith, t.passed.low); rows = index_rows_lem r.result r.ensures },
       (t.numbers.rate, t.numbers.subframes, t.numbers.active, t.fields),
     )
@@ -50,7 +50,7 @@ returns c =
     let b = c.before.before.before.before.before.before.before.before in
     let z = begun b in
     let x = z.args.«record» in
-    let t = c.before.before.before.before.all_tell in
+    let t = c.all_tell-q in
     let q = out t.new.0 t.result in
     let a : c.accepted.result ≡ (indices_told z.args.s x q).answer = rw (to_z-of_z (prevlag_fits z)) at c.accepted.ensures in
     let s : IndicesWritten → IndicesSent = λ w. record { buf = t.new.0; answer = w } in
@@ -60,7 +60,7 @@ returns_2 : tie.Need-returns-else-n-eq0
 returns_2 c =
     let e = c.before in
     let z = e.before.before.before.before in
-    let n = e.before.refusal in
+    let n = e.refusal-n in
     rw (to_z-of_z (prevlag_fits z)) (indices_untold_lem (entry z) z.args.«record» z.args.s n.result n.ensures e.if-n-eq0.false)
 
 pub silk_encode_indices_spec : {M : Type 1} → statement M

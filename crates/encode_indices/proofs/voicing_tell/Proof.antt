@@ -10,15 +10,15 @@ use Rattle.encode_indices.proofs.voicing_tell.Tie as tie
 pitch_tell_run_requires : tie.Need-pitch_tell_run-requires
 pitch_tell_run_requires c κs =
     let z = c.before.before.before.before in
-    (z.requires.writing, (z.requires.rate.0, z.requires.rate.1, z.requires.rate.2 c.before.if-signal-eq2.true))
+    (z.requires.writing, (z.requires.rate.0, z.requires.rate.1, z.requires.rate.2 c.if-signal-eq2.true))
 
 returns : tie.Need-returns-then-signal-eq2
 unfolding voicing
-returns c = rw (eq-eqb _ _ c.before.before.before.before.if-signal-eq2.true) c.before.before.pitch_tell_run.ensures
+returns c = rw (eq-eqb _ _ c.if-signal-eq2.true) c.pitch_tell_run.ensures
 
 returns_2 : tie.Need-returns
 unfolding voicing
-returns_2 c = rw (ne_eqb _ _ c.if-signal-eq2.false) (told_within {n = 0} {m = 160} (omega arith) (told_done c.before.before.before.requires.writing.core))
+returns_2 c = rw (ne_eqb _ _ c.if-signal-eq2.false) (told_within {n = 0} {m = 160} (omega arith) (told_done c.requires.writing.core))
 
 pub voicing_tell_spec : {M : Type 1} → statement M
 voicing_tell_spec = tie.close (tie.spec pitch_tell_run_requires (λ c. search rules) returns returns_2)

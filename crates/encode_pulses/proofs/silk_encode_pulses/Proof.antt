@@ -27,7 +27,7 @@ number : (c : tie.After-first_refusal-n)
     let f = a.f in
     let rule = write_numbers (length a.pulses.now) f.khz f.subframes f.signal f.offset a.rate in
     c.first_refusal-n.result ≡ first_of (gate_w a.buf.now a.w) rule
-number c = c.first_refusal-n.ensures ∙ ap₂ first_of c.before.gate.ensures c.before.before.before.write_rule-rule.ensures
+number c = c.first_refusal-n.ensures ∙ ap₂ first_of c.gate.ensures c.write_rule-rule.ensures
 
 -- what a call without one goes on with
 on : (c : tie.Else-n-ne0)
@@ -55,7 +55,7 @@ returns c =
     let a = (start r).args in
     let f = a.f in
     ap (sent a.buf.now) c.answer.ensures
-    ∙ pulses_early (out a.buf.now a.w) a.pulses.now f.khz f.subframes f.signal f.offset a.rate _ (number r) c.before.if-n-ne0.true
+    ∙ pulses_early (out a.buf.now a.w) a.pulses.now f.khz f.subframes f.signal f.offset a.rate _ (number r) c.if-n-ne0.true
 
 silk_encode_pulses_run_requires : tie.Need-silk_encode_pulses_run-state-requires
 silk_encode_pulses_run_requires c κs =
@@ -68,11 +68,11 @@ silk_encode_pulses_run_requires c κs =
       (
         omega (arith, k.gate.low),
         (
-          pulse_rows_lem _ c.before.before.pulse_rows-rows.ensures,
+          pulse_rows_lem _ c.pulse_rows-rows.ensures,
           (
             (few b, omega (arith, b.blocks_of_run-blocks.ensures, f.length16), f.numbers.signal2, f.numbers.offset1, k.own.rate8),
             plan_suits _ (start b.before.before).args.pulses.now x.result.counts x.result.lows x.result.fits x.ensures
-                c.before.before.before.if-x.true (omega (arith, sized p, few b)),
+                c.if-x.true (omega (arith, sized p, few b)),
           ),
         ),
       ),
@@ -86,16 +86,16 @@ written c =
     let a = (start e.before).args in
     let f = a.f in
     let x = p.plan_run in
-    let r = c.before.before.before.silk-encode-pulses-run in
+    let r = c.silk_encode_pulses_run-state in
     let n = b.blocks_of_run-blocks.ensures in
-    let t = c.before.before.before.before.before.before.before.if-x.true in
+    let t = c.if-x.true in
     ap (sent r.new.0) c.answer-then-x.ensures
     ∙ pulses_sent (out a.buf.now a.w) a.pulses.now f.khz f.subframes f.signal f.offset a.rate _ (number e.before) e.if-n-ne0.false _
     (plan_fits _ _ a.pulses.now x.result.counts x.result.lows x.result.fits true x.ensures n t)
     (plan_says _ a.pulses.now x.result.counts x.result.lows x.result.fits x.ensures t (omega (arith, sized p, few b)) _ _
     f.signal f.offset a.rate _ 64656 n r.ensures)
 
-unfit : tie.Need-returns
+unfit : tie.Need-returns-then-n-ne0
 unfit c =
     let p = c.before.before in
     let e = p.before.before in
@@ -105,7 +105,7 @@ unfit c =
     ap (sent a.buf.now) c.answer-2.ensures
     ∙ pulses_unfit (out a.buf.now a.w) a.pulses.now f.khz f.subframes f.signal f.offset a.rate _ (number e.before) e.if-n-ne0.false
     (plan_fits _ _ a.pulses.now x.result.counts x.result.lows x.result.fits false x.ensures
-    p.before.blocks_of_run-blocks.ensures c.before.if-x.false)
+    p.blocks_of_run-blocks.ensures c.if-x.false)
 
 pub silk_encode_pulses_spec : {M : Type 1} → statement M
 silk_encode_pulses_spec =

@@ -6,7 +6,7 @@ use Rattle.encode_pulses.proofs.write_rule.Statement.{statement}
 use Rattle.encode_pulses.proofs.write_rule.Tie as tie
 
 returns : tie.Need-returns-then-rate-le8
-returns c = rw (numbers_write, le-leb _ 8 c.before.if-rate-le8.true) c.pulse_rule.ensures
+returns c = rw (numbers_write, le-leb _ 8 c.if-rate-le8.true) c.pulse_rule.ensures
 
 returns_2 : tie.Need-returns-else-rate-le8
 returns_2 c = rw (numbers_write, lt-leb _ 8 c.if-rate-le8.false)

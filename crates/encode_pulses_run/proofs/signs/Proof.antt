@@ -22,8 +22,8 @@ block_signs_run_requires : tie.Need-block_signs_run-w-requires invariant_loop de
 block_signs_run_requires c κs =
     let t = c.before.before.before.before in
     let b = t.before.before.before.before in
-    let i = t.before.loop-i.i in
-    let g = t.before.loop-i.invariant.0.midway in
+    let i = t.loop-i.i in
+    let g = t.loop-i.invariant.0.midway in
     let h = t.loop-i-test.true in
     let n = b.args.f.blocks in
     let p = b.requires.1.1.1 in (
@@ -45,15 +45,15 @@ block_signs_run_requires c κs =
 loop_again : tie.Need-loop-i-preserved invariant_loop decreases_loop
 loop_again c =
     let t = c.before.before.before.before.before.before.before in
-    let r = c.before.before.block-signs-run in
-    round_next t.before.loop-i.invariant t.loop-i-test.true r.ensures r.auto.0
+    let r = c.block_signs_run-w in
+    round_next t.loop-i.invariant t.loop-i-test.true r.ensures r.auto.0
 
 pub signs_spec : {M : Type 1} → statement M
 signs_spec =
     tie.close
     (tie.spec invariant_loop decreases_loop
-    (λ c. round_start c.before.before.requires.core)
+    (λ c. round_start c.requires.core)
     (λ c. search rules) (λ c. search rules) (λ c. search rules) (λ c. search rules) (λ c. search rules)
     (λ c. search rules) (λ c. search rules) (λ c. search rules) block_signs_run_requires (λ c. search rules)
     (λ c. search rules) loop_again (λ c. search rules)
-    (λ c. round_end c.before.loop-i.invariant c.loop-i-test.false))
+    (λ c. round_end c.loop-i.invariant c.loop-i-test.false))

@@ -23,8 +23,8 @@ block_splits_run_requires : tie.Need-block_splits_run-w-requires invariant_loop 
 block_splits_run_requires c κs =
     let t = c.before.before.before.before.before in
     let b = t.before.before.before.before in
-    let i = t.before.loop-i.i in
-    let g = t.before.loop-i.invariant.0.midway in
+    let i = t.loop-i.i in
+    let g = t.loop-i.invariant.0.midway in
     let h = t.loop-i-test.true in
     let p = b.requires.n_bound in
     let s = p.2 in (
@@ -46,7 +46,7 @@ block_splits_run_requires c κs =
 loop_again : tie.Need-loop-i-preserved invariant_loop decreases_loop
 loop_again c =
     let t = c.before.before.before in
-    let g = t.before.loop-i.invariant in
+    let g = t.loop-i.invariant in
     ⊎_elim
     (λ a. rw (a.6, a.7) (round_next g t.loop-i-test.true a.3.ensures a.3.kept.0))
     (λ a. rw (a.1, a.2) (round_next g t.loop-i-test.true (splits_untold _ _ a.0.left g.0.midway.core) refl))
@@ -56,8 +56,8 @@ pub splits_spec : {M : Type 1} → statement M
 splits_spec =
     tie.close
     (tie.spec invariant_loop decreases_loop
-    (λ c. round_start c.before.before.requires.core)
+    (λ c. round_start c.requires.core)
     (λ c. search rules) (λ c. search rules) (λ c. search rules) (λ c. search rules) (λ c. search rules)
     (λ c. search rules) (λ c. search rules) (λ c. search rules) (λ c. search rules) (λ c. search rules)
     block_splits_run_requires (λ c. search rules) (λ c. search rules) loop_again (λ c. search rules)
-    (λ c. round_end c.before.loop-i.invariant c.loop-i-test.false))
+    (λ c. round_end c.loop-i.invariant c.loop-i-test.false))

@@ -12,7 +12,7 @@ use Rattle.entcode.proofs.window_ok.Tie as tie
 
 returns : tie.Need-returns-then-wbits-le32
 returns c =
-    let n = c.before.args.wbits in
+    let n = c.args.wbits in
     let h : n ≤ 32 = c.if-wbits-le32.true in
     let e : 1 * 2 ^ n % 2 ^ 64 ≡ 2 ^ n = shl_exact 1 n 64 (lit< tt) (omega arith) ∙ one-mul (2 ^ n) in
     rw (e, le-leb _ _ h)

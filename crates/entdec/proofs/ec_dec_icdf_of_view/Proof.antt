@@ -7,14 +7,14 @@ use Rattle.entdec.proofs.ec_dec_icdf_of_view.Statement.{statement}
 use Rattle.entdec.proofs.ec_dec_icdf_of_view.Tie as tie
 
 call : (c : tie.After-first_refusal-n)
-    → let a = c.before.before.before.before.before.args in
+    → let a = c.args in
     Asked a.packet.now a.d (tab a.scale a.table.now) c.first_refusal-n.result
-call c = asked c.first_refusal-n.ensures c.before.before.gate.ensures c.before.icdf_rule.ensures
+call c = asked c.first_refusal-n.ensures c.gate.ensures c.icdf_rule.ensures
 
 pub ec_dec_icdf_of_view_spec : {M : Type 1} → statement M
 ec_dec_icdf_of_view_spec =
     tie.close
     (tie.spec (λ c κs. search rules) (λ c κs. search rules) (λ c κs. search rules)
     (λ c κs. (call c.before).ready c.if-n-eq0.true) (λ c κs. search rules)
-    (λ c. c.ec_dec_icdf_run.ensures.is ∙ (call c.before.before).reads c.before.if-n-eq0.true)
-    (λ c. c.refused.ensures ∙ (call c.before.before).refused c.before.if-n-eq0.false))
+    (λ c. c.ec_dec_icdf_run.ensures.is ∙ (call c.before.before).reads c.if-n-eq0.true)
+    (λ c. c.refused.ensures ∙ (call c.before.before).refused c.if-n-eq0.false))

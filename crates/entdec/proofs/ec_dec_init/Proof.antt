@@ -7,11 +7,11 @@ use Rattle.entdec.proofs.ec_dec_init.Tie as tie
 
 returns : tie.Need-returns-then-packet-le-LONGEST
 unfolding dec_open
-returns c = rw (c.ec_dec_init_run-q.ensures, le-leb _ 1275 c.before.if-packet-le-LONGEST.true)
+returns c = rw (c.ec_dec_init_run-q.ensures, le-leb _ 1275 c.if-packet-le-LONGEST.true)
 
 returns_2 : tie.Need-returns-else-packet-le-LONGEST
 unfolding dec_open
-returns_2 c = rw (c.refused.ensures, c.before.nought_reader.ensures, lt-leb _ 1275 c.before.before.if-packet-le-LONGEST.false)
+returns_2 c = rw (c.refused.ensures, c.nought_reader.ensures, lt-leb _ 1275 c.if-packet-le-LONGEST.false)
 
 pub ec_dec_init_spec : {M : Type 1} → statement M
 ec_dec_init_spec = tie.close (tie.spec (λ c κs. search rules) (λ c κs. search rules) (λ c κs. search rules) returns returns_2)

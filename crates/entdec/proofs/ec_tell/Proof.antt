@@ -14,25 +14,25 @@ sub_account : tie.Need-overflow_sub-account
 sub_account c =
     let g = c.before.before.before in
     let b = g.before.before in
-    let o = gate_open b.args.packet.now b.args.d (sym g.gate-n.ensures ∙ c.before.before.if-n-eq0.true) in
+    let o = gate_open b.args.packet.now b.args.d (sym g.gate-n.ensures ∙ c.if-n-eq0.true) in
     omega (arith, o.sound.least, length_most b.args.d.rng)
 
 returns : tie.Need-returns-then-n-eq0
 unfolding dec_tell account
 returns c =
     let g = c.before.before.before in
-    let d = g.before.before.args.d in
-    ap (λ (n : ℕ). gives (d.total - n) d) c.before.ec_ilog.ensures
-    ∙ answered_ok _ d _ d (sym g.gate-n.ensures ∙ c.before.before.if-n-eq0.true)
+    let d = g.args.d in
+    ap (λ (n : ℕ). gives (d.total - n) d) c.ec_ilog.ensures
+    ∙ answered_ok _ d _ d (sym g.gate-n.ensures ∙ c.if-n-eq0.true)
 
 returns_2 : tie.Need-returns-else-n-eq0
 unfolding dec_tell
 returns_2 c =
     let g = c.before.before in
-    let d = g.before.before.args.d in
+    let d = g.args.d in
     c.refused.ensures
     ∙ ap (λ (n : ℕ). refuses n d) g.gate-n.ensures
-    ∙ answered_no _ d _ d (λ z. c.before.if-n-eq0.false (g.gate-n.ensures ∙ z))
+    ∙ answered_no _ d _ d (λ z. c.if-n-eq0.false (g.gate-n.ensures ∙ z))
 
 pub ec_tell_spec : {M : Type 1} → statement M
 ec_tell_spec =

@@ -10,7 +10,7 @@ sub_v c = rw (one_shl c.args.n (omega arith)) (pow_pos c.args.n)
 
 returns : tie.Need-returns
 returns c =
-    let a = c.before.before.before.before.args in
+    let a = c.args in
     rw (one_shl a.n (omega arith), and_mask a.d.window a.n)
 
 pub draw_spec : {M : Type 1} → statement M

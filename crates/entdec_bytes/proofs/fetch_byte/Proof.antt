@@ -9,9 +9,9 @@ returns : tie.Need-returns
 returns c =
     let p = c.before.before.before in
     let b = p.before.before.before in
-    let y : Bytes b.args.packet.now = λ i. omega (arith, p.before.before.shared_slice_known-1.given i) in
+    let y : Bytes b.args.packet.now = λ i. omega (arith, p.shared_slice_known-1.given i) in
     let e = byte_above b.args.packet.now b.args.d y b.requires.windowed b.requires.wbits_bound in
-    rw (c.before.wrapping_add_u32.ensures, p.before.ec_read_byte_from_end-b.ensures, p.place_after-o.ensures, e)
+    rw (c.wrapping_add_u32.ensures, p.ec_read_byte_from_end-b.ensures, p.place_after-o.ensures, e)
 
 pub fetch_byte_spec : {M : Type 1} → statement M
 fetch_byte_spec =

@@ -4,7 +4,7 @@ use Rattle.entdec_bytes.proofs.fill_for.Statement.{statement}
 use Rattle.entdec_bytes.proofs.fill_for.Tie as tie
 
 returns : tie.Need-returns-then-d-n
-returns c = rw (lt-ltb _ _ c.before.if-d-n.true) c.fill_up.ensures
+returns c = rw (lt-ltb _ _ c.if-d-n.true) c.fill_up.ensures
 
 returns_2 : tie.Need-returns-else-d-n
 returns_2 c = rw (le-ltb _ _ c.if-d-n.false)

@@ -10,17 +10,17 @@ returns : tie.Need-returns-then-d-le1000000
 unfolding gate_r
 returns c =
     let b = c.before.before in
-    rw (le-leb _ _ b.before.before.if-packet-le-LONGEST.true, sym b.before.sound.ensures ∙ b.if-sound.true, le-leb _ 1000000 c.if-d-le1000000.true)
+    rw (le-leb _ _ b.if-packet-le-LONGEST.true, sym b.sound.ensures ∙ b.if-sound.true, le-leb _ 1000000 c.if-d-le1000000.true)
 
 returns_2 : tie.Need-returns-else-d-le1000000
 unfolding gate_r
 returns_2 c =
     let b = c.before.before in
-    rw (le-leb _ _ b.before.before.if-packet-le-LONGEST.true, sym b.before.sound.ensures ∙ b.if-sound.true, lt-leb _ 1000000 c.if-d-le1000000.false)
+    rw (le-leb _ _ b.if-packet-le-LONGEST.true, sym b.sound.ensures ∙ b.if-sound.true, lt-leb _ 1000000 c.if-d-le1000000.false)
 
 returns_3 : tie.Need-returns-else-sound
 unfolding gate_r
-returns_3 c = rw (le-leb _ _ c.before.before.if-packet-le-LONGEST.true, sym c.before.sound.ensures ∙ c.if-sound.false)
+returns_3 c = rw (le-leb _ _ c.if-packet-le-LONGEST.true, sym c.sound.ensures ∙ c.if-sound.false)
 
 returns_4 : tie.Need-returns-else-packet-le-LONGEST
 unfolding gate_r

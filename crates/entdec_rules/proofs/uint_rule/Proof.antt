@@ -4,7 +4,7 @@ use Rattle.entdec_rules.proofs.uint_rule.Statement.{statement}
 use Rattle.entdec_rules.proofs.uint_rule.Tie as tie
 
 returns : tie.Need-returns-then-ft-ge2
-returns c = rw (le-leb 2 _ c.if-ft-ge2.true, lt-ltb _ _ c.before.ranges.ft.fits)
+returns c = rw (le-leb 2 _ c.if-ft-ge2.true, lt-ltb _ _ c.ranges.ft.fits)
 
 returns_2 : tie.Need-returns-else-ft-ge2
 returns_2 c = rw (lt-leb 2 _ c.if-ft-ge2.false)

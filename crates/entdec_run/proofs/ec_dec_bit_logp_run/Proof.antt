@@ -27,8 +27,8 @@ returns : tie.Need-returns-then-d-part
 returns c =
     let b = c.before.before.before.before.before in
     let p = b.args.packet.now in
-    let y : Bytes p = λ i. omega (arith, c.before.before.before.before.shared_slice_known-1.given i) in
-    let u = bit_one b.args.lp b.args.d b.requires.le_lp.0 c.before.if-d-part.true in
+    let y : Bytes p = λ i. omega (arith, c.shared_slice_known-1.given i) in
+    let u = bit_one b.args.lp b.args.d b.requires.le_lp.0 c.if-d-part.true in
     took p (bit b.args.lp) b.args.d _ y b.requires.le_lp b.requires.core
     (ap (gives 1) c.cut_run-q.ensures ∙ bit_read p b.args.lp b.args.d _ _ _ u)
 
@@ -36,8 +36,8 @@ returns_2 : tie.Need-returns-else-d-part
 returns_2 c =
     let b = c.before.before.before.before.before in
     let p = b.args.packet.now in
-    let y : Bytes p = λ i. omega (arith, c.before.before.before.before.shared_slice_known-1.given i) in
-    let u = bit_zero b.args.lp b.args.d c.before.if-d-part.false in
+    let y : Bytes p = λ i. omega (arith, c.shared_slice_known-1.given i) in
+    let u = bit_zero b.args.lp b.args.d c.if-d-part.false in
     took p (bit b.args.lp) b.args.d _ y b.requires.le_lp b.requires.core
     (ap (gives 0) c.cut_run-q-else-d-part.ensures ∙ bit_read p b.args.lp b.args.d _ _ _ u)
 

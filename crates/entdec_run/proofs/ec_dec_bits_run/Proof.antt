@@ -12,7 +12,7 @@ returns : tie.Need-returns
 returns c =
     let b = c.before.before in
     let p = b.args.packet.now in
-    let y : Bytes p = λ i. omega (arith, c.before.shared_slice_known-1.given i) in
+    let y : Bytes p = λ i. omega (arith, c.shared_slice_known-1.given i) in
     took p (raw b.args.n) b.args.d _ y b.requires.le_n b.requires.core
     (c.raw_bits_run.ensures ∙ raw_read p b.args.n b.args.d y b.requires.core b.requires.le_n.1)
 

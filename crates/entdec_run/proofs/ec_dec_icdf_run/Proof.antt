@@ -20,7 +20,7 @@ cutting : (c : tie.Start) → Cutting (tab c.args.scale c.args.table.now) c.args
 cutting c = tab_cutting c.args.scale c.args.table.now c.args.d (part c).symbol c.requires.icdf refl
 
 shr_unit : tie.Need-overflow_shr-unit
-shr_unit c = omega (arith, c.before.before.before.requires.icdf.most)
+shr_unit c = omega (arith, c.requires.icdf.most)
 
 find_part_run_requires : tie.Need-find_part_run-p-requires
 find_part_run_requires c κs =
@@ -38,17 +38,17 @@ cast_t8 c =
     let b = c.before.before.before.before.before.before in
     let t = b.args.table.now in
     let f = search_found b.args.scale (b.args.d.rng / 2 ^ b.args.scale) b.args.d.val t b.requires.icdf in
-    rw c.before.before.find_part_run-p.ensures (omega (arith, f.inside, b.requires.icdf.few))
+    rw c.find_part_run-p.ensures (omega (arith, f.inside, b.requires.icdf.few))
 
 returns : tie.Need-returns
 returns c =
     let b = c.before.before.before.before.before.before in
     let p = b.args.packet.now in
     let d = b.args.d in
-    let x = c.before.before.find-part-run in
-    let y : Bytes p = λ i. omega (arith, c.before.before.before.before.before.shared_slice_known-1.given i) in
+    let x = c.find_part_run-p in
+    let y : Bytes p = λ i. omega (arith, c.shared_slice_known-1.given i) in
     took p (tab b.args.scale b.args.table.now) d _ y b.requires.icdf b.requires.core
-    (ap (gives x.result.symbol) c.before.cut_run-q.ensures
+    (ap (gives x.result.symbol) c.cut_run-q.ensures
     ∙ ap (λ (q : Part). gives q.symbol (cut_down p d q.top q.low)) x.ensures
     ∙ tab_read p b.args.scale b.args.table.now d _ _ _ (cutting b))
 

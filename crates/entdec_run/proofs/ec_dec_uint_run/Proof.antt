@@ -50,16 +50,16 @@ together k x n a h l =
     let m : 2 ^ (n + 8) ≤ 2 ^ 32 = pow_mono {i = n + 8} {j = 32} (omega arith) in
     (shl_exact 8 n 32 a (omega arith), omega arith)
 
-bytes : (c : tie.After-shared_slice_known-1) → Bytes c.before.args.packet.now
+bytes : (c : tie.After-shared_slice_known-1) → Bytes c.args.packet.now
 bytes c i = omega (arith, c.shared_slice_known-1.given i)
 
 -- ---- the places: where the raw bits are counted, the number is sought, its part is cut, and its raw bits are read
 
-parts : (c : tie.After-raw_count-raws) → let ft = c.before.before.args.ft in (ft - 1) / 2 ^ c.raw_count-raws.result + 1 ≡ all (num ft)
+parts : (c : tie.After-raw_count-raws) → let ft = c.args.ft in (ft - 1) / 2 ^ c.raw_count-raws.result + 1 ≡ all (num ft)
 parts c = rw c.raw_count-raws.ensures (omega arith)
 
 few : (c : tie.After-raw_count-raws) → c.raw_count-raws.result ≤ 24
-few c = omega (arith, c.raw_count-raws.ensures, length_most (c.before.before.args.ft - 1))
+few c = omega (arith, c.raw_count-raws.ensures, length_most (c.args.ft - 1))
 
 abbrev counted : tie.After-ec_decode-k → tie.After-raw_count-raws
 counted c = c.before.before
@@ -81,10 +81,10 @@ cut_at c k =
     let m = all (num c.args.ft) in
     cut_down c.args.packet.now d (upper d.rng k m) (lower d.rng (suc k) m)
 
-cut_is : (c : tie.After-ec_dec_update-q) → c.ec_dec_update-q.result ≡ cut_at (begun c.before) c.before.ec_decode-k.result
+cut_is : (c : tie.After-ec_dec_update-q) → c.ec_dec_update-q.result ≡ cut_at (begun c.before) c.ec_decode-k.result
 cut_is c =
     let a = (begun c.before).args in
-    let k = c.before.ec_decode-k.result in
+    let k = c.ec_decode-k.result in
     c.ec_dec_update-q.ensures
     ∙ ap (λ (p : ℕ). cut_down a.packet.now a.d (upper a.d.rng k p) (lower a.d.rng (suc k) p)) (parts (counted c.before))
 

@@ -9,7 +9,7 @@ use Rattle.entdec_run.proofs.ec_dec_update.Tie as tie
 
 mul_low : tie.Need-overflow_mul-low
 mul_low c =
-    let a = c.before.before.args in
+    let a = c.args in
     let l : a.d.rng / a.ft * (a.ft - (a.fl + 1)) ≤ a.d.rng / a.ft * a.ft = mul-le-mul_left (a.d.rng / a.ft) (omega arith) in
     omega (arith, div-mul-le_self a.d.rng a.ft)
 
@@ -20,7 +20,7 @@ cut_run_requires c κs =
     (b.requires.core, (b.requires.total_bound, rw (c.part_top_run-top.ensures, add-one) (h.cut.some, h.cut.inside, h.low, h.high)))
 
 returns : tie.Need-returns
-returns c = rw (add-one, c.before.part_top_run-top.ensures) at c.cut_run.ensures
+returns c = rw (add-one, c.part_top_run-top.ensures) at c.cut_run.ensures
 
 pub ec_dec_update_spec : {M : Type 1} → statement M
 ec_dec_update_spec =

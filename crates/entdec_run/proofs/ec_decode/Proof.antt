@@ -14,7 +14,7 @@ div_least c =
 
 add_least : tie.Need-overflow_add-d
 add_least c =
-    let a = c.before.before.args in
+    let a = c.args in
     omega (arith, div-le_self a.d.val (a.d.rng / a.ft))
 
 pub ec_decode_spec : {M : Type 1} → statement M

@@ -31,16 +31,16 @@ abbrev decreases_loop : tie.decreases-loop-low
 decreases_loop t scale unit v rng k₀ top₀ low₀ k top low = length t - k
 
 shared_slice_read_low : tie.Need-bounds-table-0 invariant_loop decreases_loop
-shared_slice_read_low c = omega (arith, c.before.requires.icdf.some)
+shared_slice_read_low c = omega (arith, c.requires.icdf.some)
 
 cast_low : tie.Need-overflow_cast-low invariant_loop decreases_loop
 cast_low c = omega (arith, c.shared_slice_known-1.given 0)
 
 mul_low : tie.Need-overflow_mul-low invariant_loop decreases_loop
-mul_low c = let a = c.before.args in omega (arith, end_le a.scale a.unit a.table.now 0 c.before.requires.icdf)
+mul_low c = let a = c.args in omega (arith, end_le a.scale a.unit a.table.now 0 c.requires.icdf)
 
 loop_holds : tie.Need-loop-low-init invariant_loop decreases_loop
-loop_holds c = record { on = omega arith; inside = omega (arith, c.before.requires.icdf.some); bottom = refl; above = refl }
+loop_holds c = record { on = omega arith; inside = omega (arith, c.requires.icdf.some); bottom = refl; above = refl }
 
 add_k : tie.Need-overflow_add-k invariant_loop decreases_loop
 add_k c = omega arith
@@ -49,19 +49,19 @@ shared_slice_read_low_2 : tie.Need-bounds-table-k invariant_loop decreases_loop
 shared_slice_read_low_2 c =
     let z = c.before.before.before.before in
     let a = z.args in
-    let l = c.before.before.loop in
+    let l = c.loop-low in
     let i = l.invariant in
-    let p : a.v < a.unit * get_or a.table.now l.k 0 = omega (arith, i.bottom, c.before.loop-low-test.true) in
+    let p : a.v < a.unit * get_or a.table.now l.k 0 = omega (arith, i.bottom, c.loop-low-test.true) in
     omega (arith, not_last a.scale a.unit a.v a.table.now l.k z.requires.icdf i.inside p)
 
 cast_low_2 : tie.Need-overflow_cast-low-in-loop-low invariant_loop decreases_loop
-cast_low_2 c = omega (arith, c.shared_slice_known-in-loop-low-1.given (c.before.before.loop-low.k + 1))
+cast_low_2 c = omega (arith, c.shared_slice_known-in-loop-low-1.given (c.loop-low.k + 1))
 
 mul_low_2 : tie.Need-overflow_mul-low-in-loop-low invariant_loop decreases_loop
 mul_low_2 c =
     let z = c.before.before.before.before in
     let a = z.args in
-    omega (arith, end_le a.scale a.unit a.table.now (c.before.before.loop-low.k + 1) z.requires.icdf)
+    omega (arith, end_le a.scale a.unit a.table.now (c.loop-low.k + 1) z.requires.icdf)
 
 loop_less : tie.Need-loop-low-smaller invariant_loop decreases_loop
 loop_less c = omega arith
@@ -70,9 +70,9 @@ loop_again : tie.Need-loop-low-preserved invariant_loop decreases_loop
 loop_again c =
     let z = c.before.before.before.before in
     let a = z.args in
-    let l = c.before.before.loop in
+    let l = c.loop-low in
     let i = l.invariant in
-    let p : a.v < a.unit * get_or a.table.now l.k 0 = omega (arith, i.bottom, c.before.loop-low-test.true) in
+    let p : a.v < a.unit * get_or a.table.now l.k 0 = omega (arith, i.bottom, c.loop-low-test.true) in
     record {
       on = i.on ∙ rw (add-one, search_on a.unit a.v a.table.now l.k i.inside p) (omega arith);
       inside = omega (arith, not_last a.scale a.unit a.v a.table.now l.k z.requires.icdf i.inside p);
@@ -82,8 +82,8 @@ loop_again c =
 
 returns : tie.Need-returns invariant_loop decreases_loop
 returns c =
-    let a = c.before.before.before.args in
-    let l = c.before.loop in
+    let a = c.args in
+    let l = c.loop-low in
     let i = l.invariant in
     let p : a.unit * get_or a.table.now l.k 0 ≤ a.v = omega (arith, i.bottom, c.loop-low-test.false) in
     let s = search_stop a.unit a.v a.table.now l.k i.inside p in

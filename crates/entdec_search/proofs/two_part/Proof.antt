@@ -8,7 +8,7 @@ use Rattle.entdec_search.proofs.two_part.Statement.{statement}
 use Rattle.entdec_search.proofs.two_part.Tie as tie
 
 cast_edge : tie.Need-overflow_cast-edge
-cast_edge c = omega (arith, c.before.shared_slice_known-1.given 0)
+cast_edge c = omega (arith, c.shared_slice_known-1.given 0)
 
 mul_edge : tie.Need-overflow_mul-edge
 mul_edge c =
@@ -20,7 +20,7 @@ returns : tie.Need-returns
 returns c =
     let b = c.before.before.before.before.before in
     let a = b.args in
-    rw (c.before.before.pick-symbol.ensures, c.before.pick-low.ensures, c.pick-top.ensures)
+    rw (c.pick-symbol.ensures, c.pick-low.ensures, c.pick-top.ensures)
     (two_entries a.scale a.rng a.unit a.v a.table.now b.requires.icdf.0 b.requires.icdf.1)
 
 pub two_part_spec : {M : Type 1} → statement M

@@ -12,7 +12,7 @@ returns c = rw (le-leb _ 1275 c.if-buf-le-LONGEST.true) refl
 
 returns_2 : tie.Need-returns-else-buf-le-LONGEST
 unfolding enc_open
-returns_2 c = rw (c.answer.ensures, c.before.nought_writer.ensures, lt-leb _ 1275 c.before.before.if-buf-le-LONGEST.false)
+returns_2 c = rw (c.answer.ensures, c.nought_writer.ensures, lt-leb _ 1275 c.if-buf-le-LONGEST.false)
 
 pub ec_enc_init_spec : {M : Type 1} → statement M
 ec_enc_init_spec = tie.close (tie.spec (λ c. search rules) (λ c κs. search rules) (λ c κs. search rules) returns returns_2)

@@ -6,14 +6,14 @@ use Rattle.entenc.proofs.Said.{Said, said}
 use Rattle.entenc.proofs.ec_enc_uint.Statement.{statement}
 use Rattle.entenc.proofs.ec_enc_uint.Tie as tie
 
-call : (c : tie.After-first_refusal-n) → let a = c.before.before.before.before.before.args in
+call : (c : tie.After-first_refusal-n) → let a = c.args in
     Said (out a.buf.now a.w) (record { model = num a.ft; value = a.v }) c.first_refusal-n.result
-call c = said c.first_refusal-n.ensures c.before.before.gate.ensures c.before.uint_rule.ensures
+call c = said c.first_refusal-n.ensures c.gate.ensures c.uint_rule.ensures
 
 pub ec_enc_uint_spec : {M : Type 1} → statement M
 ec_enc_uint_spec =
     tie.close (tie.spec (λ c κs. search rules) (λ c κs. search rules) (λ c κs. search rules)
-    (λ c κs. (call c.before.before).ready c.before.if-n-eq0.true) (λ c κs. search rules) (λ c κs. search rules) (λ c. search rules)
+    (λ c κs. (call c.before.before).ready c.if-n-eq0.true) (λ c κs. search rules) (λ c κs. search rules) (λ c. search rules)
     (λ c. let p = c.before.before.before in rw c.answer.ensures
-    ((call p.before.before.before).writes p.before.before.if-n-eq0.true p.ec_enc_uint_run.ensures.is))
-    (λ c. search rules) (λ c. rw c.answer-else-n-eq0.ensures ((call c.before.before).refused c.before.if-n-eq0.false)))
+    ((call p.before.before.before).writes p.if-n-eq0.true p.ec_enc_uint_run.ensures.is))
+    (λ c. search rules) (λ c. rw c.answer-else-n-eq0.ensures ((call c.before.before).refused c.if-n-eq0.false)))

@@ -17,19 +17,19 @@ returns : tie.Need-returns-then-n-eq0
 unfolding account
 returns c =
     let b = c.before.before.before.before.before in
-    tell_takes (start b) _ c.before.before.before.gate-n.ensures _ c.before.before.if-n-eq0.true
-    (ap (λ (n : ℕ). b.args.w.total - n) c.before.ec_ilog.ensures)
+    tell_takes (start b) _ c.gate-n.ensures _ c.if-n-eq0.true
+    (ap (λ (n : ℕ). b.args.w.total - n) c.ec_ilog.ensures)
 
 sub_used : tie.Need-overflow_sub-used
 sub_used c =
     let b = c.before.before.before.before.before in
-    let g = gate_runs (start b) _ c.before.before.before.gate-n.ensures c.before.before.if-n-eq0.true in
-    omega (arith, g.sound.least, length_most b.args.w.rng, c.before.ec_ilog.ensures)
+    let g = gate_runs (start b) _ c.gate-n.ensures c.if-n-eq0.true in
+    omega (arith, g.sound.least, length_most b.args.w.rng, c.ec_ilog.ensures)
 
 returns_2 : tie.Need-returns-else-n-eq0
 returns_2 c =
     let g = c.before.before in
-    rw c.answer.ensures (tell_refuses (start g.before.before) _ g.gate-n.ensures c.before.if-n-eq0.false)
+    rw c.answer.ensures (tell_refuses (start g.before.before) _ g.gate-n.ensures c.if-n-eq0.false)
 
 pub ec_tell_spec : {M : Type 1} → statement M
 ec_tell_spec = tie.close (tie.spec (λ c κs. search rules) (λ c κs. search rules) sub_used (λ c κs. search rules) returns returns_2)

@@ -19,13 +19,13 @@ use Rattle.entenc_bytes.proofs.carry_out_run.Tie as tie
 put_many_requires : tie.Need-put_many-z-requires
 put_many_requires c κs =
     let b = c.before.before.before.before.before.before.before in
-    rw c.before.before.before.put_held-a.ensures (put_roomy _ _ b.requires.roomy)
+    rw c.put_held-a.ensures (put_roomy _ _ b.requires.roomy)
 
 returns : tie.Need-returns-then-c-eq255
 returns c =
     let b = c.before.before.before in
     let o = out b.args.buf.now b.args.w in
-    rw c.before.if-c-eq255.true (wait_is o (b.args.w.ext + 1) b.requires.roomy.fair refl)
+    rw c.if-c-eq255.true (wait_is o (b.args.w.ext + 1) b.requires.roomy.fair refl)
 
 returns_2 : tie.Need-returns-else-c-eq255
 returns_2 c =
@@ -35,12 +35,12 @@ returns_2 c =
     let p = stored (held_of b.args.w.rem) (n / 256) in
     let r = replicate b.args.w.ext ((255 + n / 256) % 256) in
     let e =
-    c.before.before.put_many-z.ensures
-    ∙ ap (λ (q : Out). put_all q r) c.before.before.before.before.before.before.put_held-a.ensures
+    c.put_many-z.ensures
+    ∙ ap (λ (q : Out). put_all q r) c.put_held-a.ensures
     ∙ put_append o p r
     in
     rw (to_z_pos w32 {n = n % 256} (omega arith))
-    (ap (λ (q : Out). hold q (n % 256)) e ∙ hold_is o n c.before.before.before.before.before.before.before.before.if-c-eq255.false)
+    (ap (λ (q : Out). hold q (n % 256)) e ∙ hold_is o n c.if-c-eq255.false)
 
 pub carry_out_run_spec : {M : Type 1} → statement M
 carry_out_run_spec =

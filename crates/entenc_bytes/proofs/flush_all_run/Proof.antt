@@ -18,35 +18,35 @@ abbrev decreases_loop : tie.decreases-loop-w
 decreases_loop buf₀ w₀ buf w = w.wbits
 
 loop_holds : tie.Need-loop-w-init invariant_loop decreases_loop
-loop_holds c = (refl, c.before.requires, refl)
+loop_holds c = (refl, c.requires, refl)
 
 flush_byte_requires : tie.Need-flush_byte-w-requires invariant_loop decreases_loop
-flush_byte_requires c κs = (c.before.before.before.loop-w.invariant.1.roomy, c.before.loop-w-test.true)
+flush_byte_requires c κs = (c.loop-w.invariant.1.roomy, c.loop-w-test.true)
 
 loop_less : tie.Need-loop-w-smaller invariant_loop decreases_loop
 unfolding shed
 loop_less c =
-    let l = c.before.before.before.before.before.before.loop in
-    let e : c.before.before.flush_byte-w.result.wbits ≡ l.w.wbits - 8 = ap (λ (q : Out). q.state.wbits) c.before.before.flush_byte-w.ensures in
-    omega (arith, c.before.before.before.before.loop-w-test.true)
+    let l = c.loop-w in
+    let e : c.flush_byte-w.result.wbits ≡ l.w.wbits - 8 = ap (λ (q : Out). q.state.wbits) c.flush_byte-w.ensures in
+    omega (arith, c.loop-w-test.true)
 
 loop_again : tie.Need-loop-w-preserved invariant_loop decreases_loop
 loop_again c =
-    let l = c.before.before.before.before.before.before.loop in
+    let l = c.loop-w in
     let o = out l.buf l.w in
-    let h = c.before.before.before.before.loop-w-test.true in
-    let e = c.before.before.flush_byte-w.ensures in (
+    let h = c.loop-w-test.true in
+    let e = c.flush_byte-w.ensures in (
       rw e (flushed_step o h ∙ l.invariant.0),
       rw e (shed_kept o l.invariant.1 h),
-      c.before.before.flush_byte-w.auto.0 ∙ l.invariant.2,
+      c.flush_byte-w.auto.0 ∙ l.invariant.2,
     )
 
 same_length : tie.Need-shape_of-buf invariant_loop decreases_loop
-same_length c = c.before.before.loop-w.invariant.2
+same_length c = c.loop-w.invariant.2
 
 returns : tie.Need-returns invariant_loop decreases_loop
 returns c =
-    let l = c.before.before.loop in
+    let l = c.loop-w in
     record {
       is = sym (flushed_done (out l.buf l.w) l.invariant.1.roomy.fair c.loop-w-test.false) ∙ l.invariant.0;
       free = omega (arith, c.loop-w-test.false);

@@ -12,7 +12,7 @@ returns : tie.Need-returns
 returns c =
     let b = c.before.before.before.before.before.before.before.before in
     let w = b.args.w in
-    ap (λ (q : Out). at_window q (w.window / 256) (w.wbits - 8) q.state.total) c.before.before.before.put_back-q.ensures
+    ap (λ (q : Out). at_window q (w.window / 256) (w.wbits - 8) q.state.total) c.put_back-q.ensures
     ∙ shed_is (out b.args.buf.now w)
 
 pub flush_byte_spec : {M : Type 1} → statement M

@@ -16,13 +16,13 @@ rem_fits c = search rules
 
 cast_b : tie.Need-overflow_cast-b
 cast_b c =
-    let w = c.before.before.before.args.w in
+    let w = c.args.w in
     let h : SFits w32 w.rem = search rules in
     rw (to_z-of_z h) (held_nat w.rem h (rw (to_z-of_z h) at c.if-h-ge0.true))
 
 add_b : tie.Need-overflow_add-b
 add_b c =
-    let w = c.before.before.before.args.w in
+    let w = c.args.w in
     let h : SFits w32 w.rem = search rules in
     rw (to_z-of_z h) (omega (arith, nat_most w.rem h))
 
@@ -31,8 +31,8 @@ returns c =
     let b = c.before.before.before.before.before.before.before in
     let w = b.args.w in
     let h = rem_fits b in
-    let e = held_some w.rem b.args.k (rw (to_z-of_z h) at c.before.before.before.before.if-h-ge0.true) in
-    rw (c.before.before.put_byte.ensures, to_z-of_z h, e)
+    let e = held_some w.rem b.args.k (rw (to_z-of_z h) at c.if-h-ge0.true) in
+    rw (c.put_byte.ensures, to_z-of_z h, e)
 
 returns_2 : tie.Need-returns-else-h-ge0
 returns_2 c =

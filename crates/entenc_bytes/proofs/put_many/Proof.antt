@@ -17,10 +17,10 @@ abbrev decreases_loop : tie.decreases-loop-n
 decreases_loop buf₀ b count w₀ n₀ buf w n = n
 
 loop_holds : tie.Need-loop-n-init invariant_loop decreases_loop
-loop_holds c = (refl, c.before.requires, refl)
+loop_holds c = (refl, c.requires, refl)
 
 put_byte_requires : tie.Need-put_byte-w-requires invariant_loop decreases_loop
-put_byte_requires c κs = c.before.before.loop-n.invariant.1
+put_byte_requires c κs = c.loop-n.invariant.1
 
 sub_n : tie.Need-overflow_sub-n invariant_loop decreases_loop
 sub_n c = omega arith
@@ -30,18 +30,18 @@ loop_less c = omega arith
 
 loop_again : tie.Need-loop-n-preserved invariant_loop decreases_loop
 loop_again c =
-    let i = c.before.before.before.before.before.loop-n.invariant in
-    let e = c.before.before.put_byte-w.ensures in (
-      rw e (many_one _ _ _ c.before.before.before.before.loop-n-test.true ∙ i.0),
+    let i = c.loop-n.invariant in
+    let e = c.put_byte-w.ensures in (
+      rw e (many_one _ _ _ c.loop-n-test.true ∙ i.0),
       rw e (put_roomy _ _ i.1),
-      c.before.before.put_byte-w.auto.0 ∙ i.2,
+      c.put_byte-w.auto.0 ∙ i.2,
     )
 
 same_length : tie.Need-shape_of-buf invariant_loop decreases_loop
-same_length c = c.before.loop-n.invariant.2
+same_length c = c.loop-n.invariant.2
 
 returns : tie.Need-returns invariant_loop decreases_loop
-returns c = sym (many_none _ _ _ c.before.loop-n.invariant.1.fair c.loop-n-test.false) ∙ c.before.loop-n.invariant.0
+returns c = sym (many_none _ _ _ c.loop-n.invariant.1.fair c.loop-n-test.false) ∙ c.loop-n.invariant.0
 
 pub put_many_spec : {M : Type 1} → statement M
 put_many_spec =

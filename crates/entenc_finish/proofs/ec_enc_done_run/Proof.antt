@@ -39,7 +39,7 @@ abbrev start : tie.After-put_digits_run-a → Out
 start c = out (begun c).args.buf.now (begun c).args.w
 
 coded : (c : tie.After-put_digits_run-a) → out c.put_digits_run-a.new.0 c.put_digits_run-a.result ≡ fronted (start c)
-coded c = front (start c) _ _ _ _ (chosen c).end_bits_run-bits.ensures c.before.before.round_up_run-end.ensures refl c.put_digits_run-a.ensures
+coded c = front (start c) _ _ _ _ (chosen c).end_bits_run-bits.ensures c.round_up_run-end.ensures refl c.put_digits_run-a.ensures
 
 -- where the window's bytes are out
 abbrev digits : tie.After-flush_all_run-b → tie.After-put_digits_run-a
@@ -88,7 +88,7 @@ returns c =
     let j = 8 * ((l.result + 7) / 8) - l.result in
     let e : j ≡ spare_bits (bits_of o.state.rng o.state.val) = ap spare_bits l.ensures in
     ap (λ (q : Out). at_window q o.state.window o.state.wbits q.state.total)
-    (c.before.before.close_run-q.ensures
+    (c.close_run-q.ensures
     ∙ ap (λ (q : Out). closed q j) (f.flush_all_run-b.ensures.is ∙ ap flushed (coded (digits f)))
     ∙ ap (λ (i : ℕ). closed (flushed (fronted o)) i) e)
     ∙ finished_is o

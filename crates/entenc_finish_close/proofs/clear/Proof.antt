@@ -19,7 +19,7 @@ loop_holds : tie.Need-loop-i-init invariant_loop decreases_loop
 loop_holds c = (zeroed_none c.args.buf.now c.args.first, omega arith, c.requires.0, refl)
 
 slice_write_buf : tie.Need-bounds-buf-i invariant_loop decreases_loop
-slice_write_buf c = let i = c.before.loop-i.invariant in omega (arith, i.3, c.loop-i-test.true, c.before.before.requires.1)
+slice_write_buf c = let i = c.loop-i.invariant in omega (arith, i.3, c.loop-i-test.true, c.requires.1)
 
 add_i : tie.Need-overflow_add-i invariant_loop decreases_loop
 add_i c = omega arith
@@ -29,7 +29,7 @@ loop_less c = omega arith
 
 loop_again : tie.Need-loop-i-preserved invariant_loop decreases_loop
 loop_again c =
-    let l = c.before.loop in
+    let l = c.loop-i in
     let i = l.invariant in
     let b = c.before.before in
     let m = b.args.buf.now in
@@ -41,11 +41,11 @@ loop_again c =
     )
 
 same_length : tie.Need-shape_of-buf invariant_loop decreases_loop
-same_length c = c.before.loop-i.invariant.3
+same_length c = c.loop-i.invariant.3
 
 returns : tie.Need-returns invariant_loop decreases_loop
 returns c =
-    let l = c.before.loop in
+    let l = c.loop-i in
     let b = c.before.before in
     let e : l.i ≡ b.args.last = omega (arith, l.invariant.2, c.loop-i-test.false) in
     l.invariant.0 ∙ ap (λ (n : ℕ). zeroed b.args.buf.now b.args.first n) e

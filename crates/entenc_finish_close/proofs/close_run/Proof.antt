@@ -21,7 +21,7 @@ abbrev start : tie.After-clear → Out
 start c = out (begun c).args.buf.now (begun c).args.w
 
 good : (c : tie.After-clear) → err_of (start c).state.error ≡ 0
-good c = error_none (start c).state.error (error_fits (begun c)) c.before.before.before.before.if-w-eq0.true
+good c = error_none (start c).state.error (error_fits (begun c)) c.if-w-eq0.true
 
 stow_run_requires : tie.Need-stow_run-requires
 stow_run_requires c κs =
@@ -46,9 +46,9 @@ returns : tie.Need-returns-then-w-gt0
 returns c =
     let a = c.before.before.before.before.before.before.before.before in
     let o = start a in
-    let u : o.state.wbits ≡ 0 → ⊥ = λ e. omega (arith, c.before.before.before.before.if-w-gt0.true) in
+    let u : o.state.wbits ≡ 0 → ⊥ = λ e. omega (arith, c.if-w-gt0.true) in
     let m = a.clear.ensures ∙ middle o (begun a).requires.windowed.roomy.fair in
-    c.before.before.stow_run.ensures ∙ close_stowed o (begun a).args.j _ m (good a) u
+    c.stow_run.ensures ∙ close_stowed o (begun a).args.j _ m (good a) u
 
 returns_2 : tie.Need-returns-else-w-gt0
 returns_2 c =

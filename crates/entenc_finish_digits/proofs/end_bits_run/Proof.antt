@@ -22,11 +22,11 @@ round_up_run_requires : tie.Need-round_up_run-end-requires
 round_up_run_requires c κs = (omega arith, omega (arith, (lead c).inside, c.requires.2))
 
 -- the sum in whole numbers
-sums : (c : tie.After-wrapping_add_u32-top) → c.wrapping_add_u32-top.result ≡ c.before.before.args.val + c.before.before.args.rng
-sums c = omega (arith, c.before.before.requires.2)
+sums : (c : tie.After-wrapping_add_u32-top) → c.wrapping_add_u32-top.result ≡ c.args.val + c.args.rng
+sums c = omega (arith, c.requires.2)
 
 sub_left : tie.Need-overflow_sub-left
-sub_left c = omega (arith, sums c, below c.before.before, c.before.round_up_run-end.ensures)
+sub_left c = omega (arith, sums c, below c.before.before, c.round_up_run-end.ensures)
 
 add_result : tie.Need-overflow_add-result
 add_result c = omega (arith, (lead c.before.before.before).few)
@@ -37,7 +37,7 @@ returns c =
     let b = a.before.before in
     let l = count_leading_zeros 32 b.args.rng in
     let t : b.args.val + b.args.rng < round_up b.args.val (cell l) + cell l
-    = omega (arith, c.if-left-k.true, sums a, a.before.round_up_run-end.ensures, one_shl (31 - l) (omega arith), below b) in
+    = omega (arith, c.if-left-k.true, sums a, a.round_up_run-end.ensures, one_shl (31 - l) (omega arith), below b) in
     rw (lt-ltb (b.args.val + b.args.rng) (round_up b.args.val (cell l) + cell l) t, add-one)
 
 returns_2 : tie.Need-returns-else-left-k
@@ -46,7 +46,7 @@ returns_2 c =
     let b = a.before.before in
     let l = count_leading_zeros 32 b.args.rng in
     let t : round_up b.args.val (cell l) + cell l ≤ b.args.val + b.args.rng
-    = omega (arith, c.if-left-k.false, sums a, a.before.round_up_run-end.ensures, one_shl (31 - l) (omega arith), below b) in
+    = omega (arith, c.if-left-k.false, sums a, a.round_up_run-end.ensures, one_shl (31 - l) (omega arith), below b) in
     rw (le-ltb (b.args.val + b.args.rng) (round_up b.args.val (cell l) + cell l) t)
 
 pub end_bits_run_spec : {M : Type 1} → statement M

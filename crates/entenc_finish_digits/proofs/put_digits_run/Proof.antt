@@ -18,11 +18,11 @@ kept : {o q : Out} (d : ℕ) → q ≡ carried o d → Roomy o → held_of o.sta
 kept {o} {q} d e h l = subst (λ (x : Out). Carried o x) (sym e) (carried_kept o d h l)
 
 loop_holds : tie.Need-loop-n-init invariant_loop decreases_loop
-loop_holds c = let p = c.before.requires in (refl, p.roomy, p.rem_bound.0, p.rem_bound.1, omega arith, refl)
+loop_holds c = let p = c.requires in (refl, p.roomy, p.rem_bound.0, p.rem_bound.1, omega arith, refl)
 
 carry_out_run_requires : tie.Need-carry_out_run-w-requires invariant_loop decreases_loop
 carry_out_run_requires c κs =
-    let i = c.before.before.loop-n.invariant in
+    let i = c.loop-n.invariant in
     (i.1, (omega (arith, i.4), omega (arith, i.3)))
 
 mul_v : tie.Need-overflow_mul-v invariant_loop decreases_loop
@@ -36,32 +36,32 @@ loop_less c = omega arith
 
 loop_again : tie.Need-loop-n-preserved invariant_loop decreases_loop
 loop_again c =
-    let l = c.before.before.before.before.before.loop in
+    let l = c.loop-n in
     let i = l.invariant in
-    let e = c.before.before.carry_out_run-w.ensures in
-    let h = c.before.before.before.before.loop-n-test.true in
+    let e = c.carry_out_run-w.ensures in
+    let h = c.loop-n-test.true in
     let k = kept (l.v / 2 ^ 23) e i.1 i.2 in (
       rw e (digits_more (out l.buf l.w) l.v l.n h ∙ i.0),
       k.roomy,
       k.held,
       omega (arith, k.run, i.3),
       omega arith,
-      c.before.before.carry_out_run-w.auto.0 ∙ i.5,
+      c.carry_out_run-w.auto.0 ∙ i.5,
     )
 
 put_rest_requires : tie.Need-put_rest-requires invariant_loop decreases_loop
 put_rest_requires c κs =
-    let i = c.before.before.loop-n.invariant in
+    let i = c.loop-n.invariant in
     (i.1, (i.2, omega (arith, i.3)))
 
 same_length : tie.Need-shape_of-buf invariant_loop decreases_loop
-same_length c = c.before.before.put_rest.auto.0 ∙ c.before.before.before.before.before.loop-n.invariant.5
+same_length c = c.put_rest.auto.0 ∙ c.loop-n.invariant.5
 
 returns : tie.Need-returns invariant_loop decreases_loop
 returns c =
-    let l = c.before.before.before.before.before.loop in
-    c.before.before.put_rest.ensures
-    ∙ digits_none (out l.buf l.w) l.v l.n c.before.before.before.before.loop-n-test.false
+    let l = c.loop-n in
+    c.put_rest.ensures
+    ∙ digits_none (out l.buf l.w) l.v l.n c.loop-n-test.false
     ∙ l.invariant.0
 
 pub put_digits_run_spec : {M : Type 1} → statement M

@@ -8,7 +8,7 @@ sub_last : tie.Need-overflow_sub-last
 sub_last c = omega (arith, one_shl c.args.k c.requires.0, pow_pos c.args.k)
 
 -- the sum in whole numbers
-sums : (c : tie.After-wrapping_add_u32-sum) → c.wrapping_add_u32-sum.result ≡ c.before.args.n + (2 ^ c.before.args.k - 1)
+sums : (c : tie.After-wrapping_add_u32-sum) → c.wrapping_add_u32-sum.result ≡ c.args.n + (2 ^ c.args.k - 1)
 sums c =
     let b = c.before in
     omega (arith, one_shl b.args.k b.requires.0, b.requires.1, pow_pos b.args.k)

@@ -49,14 +49,14 @@ returns : tie.Need-returns-then-w-used
 returns c =
     let p = below c.before in
     let b = begun p in
-    stow_short (out b.args.buf.now b.args.w) b.args.j _ b.pre.0.roomy p.if1.taken c.before.if-w-used.true
+    stow_short (out b.args.buf.now b.args.w) b.args.j _ b.pre.0.roomy p.if1.taken c.if-w-used.true
     (ap (λ (m : ℕ). b.args.w.window % m) (mask b))
 
 returns_2 : tie.Need-returns-else-w-used
 returns_2 c =
     let p = c.before.before.before.before.before.before.before in
     let b = begun p in
-    stow_whole (out b.args.buf.now b.args.w) b.args.j b.pre.0.roomy p.if-w.true c.before.if-w-used.false
+    stow_whole (out b.args.buf.now b.args.w) b.args.j b.pre.0.roomy p.if-w.true c.if-w-used.false
 
 returns_3 : tie.Need-returns-else-w
 returns_3 c =

@@ -10,8 +10,8 @@ returns : tie.Need-returns-then-w-le1000000
 unfolding gate_w
 returns c =
     rw (
-      le-leb _ _ c.before.before.before.before.if-buf-le-LONGEST.true,
-      sym c.before.before.before.sound.ensures ∙ c.before.before.if-sound.true,
+      le-leb _ _ c.if-buf-le-LONGEST.true,
+      sym c.sound.ensures ∙ c.if-sound.true,
       le-leb _ 1000000 c.if-w-le1000000.true,
     )
 
@@ -19,14 +19,14 @@ returns_2 : tie.Need-returns-else-w-le1000000
 unfolding gate_w
 returns_2 c =
     rw (
-      le-leb _ _ c.before.before.before.before.if-buf-le-LONGEST.true,
-      sym c.before.before.before.sound.ensures ∙ c.before.before.if-sound.true,
+      le-leb _ _ c.if-buf-le-LONGEST.true,
+      sym c.sound.ensures ∙ c.if-sound.true,
       lt-leb _ 1000000 c.if-w-le1000000.false,
     )
 
 returns_3 : tie.Need-returns-else-sound
 unfolding gate_w
-returns_3 c = rw (le-leb _ _ c.before.before.if-buf-le-LONGEST.true, sym c.before.sound.ensures ∙ c.if-sound.false)
+returns_3 c = rw (le-leb _ _ c.if-buf-le-LONGEST.true, sym c.sound.ensures ∙ c.if-sound.false)
 
 returns_4 : tie.Need-returns-else-buf-le-LONGEST
 unfolding gate_w

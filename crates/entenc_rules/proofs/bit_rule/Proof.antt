@@ -4,10 +4,10 @@ use Rattle.entenc_rules.proofs.bit_rule.Statement.{statement}
 use Rattle.entenc_rules.proofs.bit_rule.Tie as tie
 
 returns : tie.Need-returns-then-v-le1
-returns c = rw (c.before.if-lp.true, le-leb _ 1 c.if-v-le1.true)
+returns c = rw (c.if-lp.true, le-leb _ 1 c.if-v-le1.true)
 
 returns_2 : tie.Need-returns-else-v-le1
-returns_2 c = rw (c.before.if-lp.true, lt-leb _ 1 c.if-v-le1.false)
+returns_2 c = rw (c.if-lp.true, lt-leb _ 1 c.if-v-le1.false)
 
 returns_3 : tie.Need-returns-else-lp
 returns_3 c = rw c.if-lp.false

@@ -12,12 +12,12 @@ below c = omega arith
 returns : tie.Need-returns-then-v-ft
 returns c =
     let b = c.before.before in
-    rw (le-leb _ _ c.before.if-ft-ge2.true, lt-ltb _ _ (below b), lt-ltb b.args.v b.args.ft (omega (arith, c.if-v-ft.true)))
+    rw (le-leb _ _ c.if-ft-ge2.true, lt-ltb _ _ (below b), lt-ltb b.args.v b.args.ft (omega (arith, c.if-v-ft.true)))
 
 returns_2 : tie.Need-returns-else-v-ft
 returns_2 c =
     let b = c.before.before in
-    rw (le-leb _ _ c.before.if-ft-ge2.true, lt-ltb _ _ (below b), le-ltb b.args.v b.args.ft (omega (arith, c.if-v-ft.false)))
+    rw (le-leb _ _ c.if-ft-ge2.true, lt-ltb _ _ (below b), le-ltb b.args.v b.args.ft (omega (arith, c.if-v-ft.false)))
 
 returns_3 : tie.Need-returns-else-ft-ge2
 returns_3 c = rw (lt-leb _ _ c.if-ft-ge2.false)

@@ -27,19 +27,19 @@ returns c =
     let b = c.before.before.before.before.before.before.before in
     let o = out b.args.buf.now b.args.w in
     wrote o (record { model = bit b.args.lp; value = b.args.v }) _ b.requires.core b.requires.total_bound (allowed b b.args.v b.requires.le_lp.2)
-    (c.before.before.keep.ensures.is
+    (c.keep.ensures.is
     ∙ sym (bit_zero o b.args.lp b.requires.core.used)
-    ∙ ap (λ (v : ℕ). written o (record { model = bit b.args.lp; value = v })) (sym c.before.before.before.before.if-v-eq0.true))
+    ∙ ap (λ (v : ℕ). written o (record { model = bit b.args.lp; value = v })) (sym c.if-v-eq0.true))
 
 returns_2 : tie.Need-returns-else-v-eq0
 returns_2 c =
     let b = c.before.before.before.before.before.before.before in
     let o = out b.args.buf.now b.args.w in
     wrote o (record { model = bit b.args.lp; value = b.args.v }) _ b.requires.core b.requires.total_bound (allowed b b.args.v b.requires.le_lp.2)
-    (c.before.before.keep-else-v-eq0.ensures.is
+    (c.keep-else-v-eq0.ensures.is
     ∙ sym (bit_one o b.args.lp b.requires.le_lp.0 b.requires.core.used)
     ∙ ap (λ (v : ℕ). written o (record { model = bit b.args.lp; value = v }))
-    (sym (bit_of b.args.v b.requires.le_lp.2 c.before.before.before.before.if-v-eq0.false)))
+    (sym (bit_of b.args.v b.requires.le_lp.2 c.if-v-eq0.false)))
 
 pub ec_enc_bit_logp_run_spec : {M : Type 1} → statement M
 ec_enc_bit_logp_run_spec =

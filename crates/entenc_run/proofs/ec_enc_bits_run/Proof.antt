@@ -14,7 +14,7 @@ returns c =
     let k = b.requires.le_n in
     wrote o (record { model = raw b.args.n; value = b.args.v }) _ b.requires.core b.requires.total_bound
     (record { readable = (k.0, k.1); fitting = k.2 })
-    (c.before.before.append.ensures.is ∙ raw_is o b.args.n b.args.v b.requires.core.above)
+    (c.append.ensures.is ∙ raw_is o b.args.n b.args.v b.requires.core.above)
 
 pub ec_enc_bits_run_spec : {M : Type 1} → statement M
 ec_enc_bits_run_spec = tie.close (tie.spec (λ c κs. search rules) (λ c. search rules) returns)

@@ -19,10 +19,10 @@ most c i =
     omega (arith, c.requires.core.most, entry_most a.w.rng a.scale (get_or a.table.now i 0) (entry_below a.scale a.table.now c.requires.icdf.0 i))
 
 cast_low : tie.Need-overflow_cast-low
-cast_low c = omega (arith, c.shared_slice_known-2-1.given c.before.before.before.before.args.k)
+cast_low c = omega (arith, c.shared_slice_known-2-1.given c.args.k)
 
 mul_low : tie.Need-overflow_mul-low
-mul_low c = omega (arith, most c.before.before.before.before c.before.before.before.before.args.k)
+mul_low c = omega (arith, most c.before.before.before.before c.args.k)
 
 symbol_top_requires : tie.Need-symbol_top-top-requires
 symbol_top_requires c κs =
@@ -35,7 +35,7 @@ keep_requires c κs =
       b.requires.core,
       (
         b.requires.total_bound,
-        rw c.before.symbol_top-top.ensures
+        rw c.symbol_top-top.ensures
             (symbol_cut b.args.w.rng b.args.scale b.args.k b.args.table.now b.requires.core.above (allowed b)),
       ),
     )
@@ -46,8 +46,8 @@ returns c =
     let o = out b.args.buf.now b.args.w in
     let low = b.args.w.rng / 2 ^ b.args.scale * get_or b.args.table.now b.args.k 0 in
     wrote o (record { model = tab b.args.scale b.args.table.now; value = b.args.k }) _ b.requires.core b.requires.total_bound (allowed b)
-    (c.before.before.keep.ensures.is
-    ∙ ap (λ (x : ℕ). cut o x low) c.before.before.before.before.symbol_top-top.ensures
+    (c.keep.ensures.is
+    ∙ ap (λ (x : ℕ). cut o x low) c.symbol_top-top.ensures
     ∙ symbol_is o b.args.scale b.args.k b.args.table.now b.requires.icdf.0 b.requires.core.used)
 
 pub ec_enc_icdf_run_spec : {M : Type 1} → statement M

@@ -20,18 +20,18 @@ part : (c : tie.Start) (d : ℕ) → d ≡ bit_length (c.args.ft - 1) → Number
 part c d e = number_part c.args.ft c.args.v d e c.requires.le_ft.0 (below c) c.requires.le_ft.1
 
 shr_parts : tie.Need-overflow_shr-parts
-shr_parts c = omega (arith, (part c.before.before.before _ c.before.ec_ilog-digits.ensures).few)
+shr_parts c = omega (arith, (part c.before.before.before _ c.ec_ilog-digits.ensures).few)
 
 add_parts : tie.Need-overflow_add-parts
-add_parts c = omega (arith, (part c.before.before.before _ c.before.ec_ilog-digits.ensures).small)
+add_parts c = omega (arith, (part c.before.before.before _ c.ec_ilog-digits.ensures).small)
 
 shr_keep_part : tie.Need-overflow_shr-v
-shr_keep_part c = omega (arith, (part c.before.before.before.before _ c.before.before.ec_ilog-digits.ensures).few)
+shr_keep_part c = omega (arith, (part c.before.before.before.before _ c.ec_ilog-digits.ensures).few)
 
 keep_part_requires : tie.Need-keep_part-q-requires
 keep_part_requires c κs =
     let b = c.before.before.before.before in
-    let p = part b _ c.before.before.ec_ilog-digits.ensures in
+    let p = part b _ c.ec_ilog-digits.ensures in
     (b.requires.core, (b.requires.total_bound, (p.below, p.small)))
 
 shl_append : tie.Need-overflow_shl-n
@@ -48,14 +48,14 @@ append_requires : tie.Need-append-requires
 append_requires c κs =
     let b = c.before.before.before.before.before.before in
     let p = part b.before.before _ b.ec_ilog-digits.ensures in
-    let k = c.before.before.before.keep_part-q.ensures in
-    let l = c.before.before.before.before.before.if-digits-gt8.true in
-    (k.core, (omega (arith, k.most, b.before.before.requires.total_bound), (omega (arith, l), omega (arith, p.few), p.rest)))
+    let k = c.keep_part-q.ensures in
+    let l = c.if-digits-gt8.true in
+    (k.core, (omega (arith, k.most, b.requires.total_bound), (omega (arith, l), omega (arith, p.few), p.rest)))
 
 keep_part_requires_2 : tie.Need-keep_part-requires
 keep_part_requires_2 c κs =
     let b = c.before.before.before.before in
-    let n = number_few b.args.ft _ c.before.before.ec_ilog-digits.ensures c.before.if-digits-gt8.false (below b) in
+    let n = number_few b.args.ft _ c.ec_ilog-digits.ensures c.if-digits-gt8.false (below b) in
     (b.requires.core, (b.requires.total_bound, (b.requires.le_ft.1, n.0)))
 
 returns : tie.Need-returns-then-digits-gt8
@@ -65,9 +65,9 @@ returns c =
     let o = out b.args.buf.now b.args.w in
     let n = d.ec_ilog-digits.result - 8 in
     wrote o (record { model = num b.args.ft; value = b.args.v }) _ b.requires.core b.requires.total_bound (allowed b)
-    (c.before.before.append.ensures.is
+    (c.append.ensures.is
     ∙ ap (λ (q : Out). appended q n (b.args.v % (1 * 2 ^ n % 2 ^ 32)))
-    c.before.before.before.before.before.before.keep_part-q.ensures.is
+    c.keep_part-q.ensures.is
     ∙ number_is o b.args.ft b.args.v d.ec_ilog-digits.result d.ec_ilog-digits.ensures)
 
 returns_2 : tie.Need-returns-else-digits-gt8
@@ -75,9 +75,9 @@ returns_2 c =
     let d = c.before.before.before.before.before in
     let b = d.before.before in
     let o = out b.args.buf.now b.args.w in
-    let n = number_few b.args.ft _ d.ec_ilog-digits.ensures c.before.before.before.before.if-digits-gt8.false (below b) in
+    let n = number_few b.args.ft _ d.ec_ilog-digits.ensures c.if-digits-gt8.false (below b) in
     wrote o (record { model = num b.args.ft; value = b.args.v }) _ b.requires.core b.requires.total_bound (allowed b)
-    (c.before.before.keep_part.ensures.is
+    (c.keep_part-q.ensures.is
     ∙ num_plain o b.args.ft b.args.v (omega (arith, b.requires.le_ft.0)) n.1 b.requires.core.used)
 
 pub ec_enc_uint_run_spec : {M : Type 1} → statement M

@@ -18,14 +18,14 @@ keep_requires : tie.Need-keep-requires
 keep_requires c κs =
     let b = c.before.before.before.before in
     let R = b.args.w.rng in
-    (b.requires.core, (b.requires.total_bound, ends_cut R _ _ _ _ c.before.part_top_run-top.ensures (part_lower R b.args.c b.args.ft) (part b)))
+    (b.requires.core, (b.requires.total_bound, ends_cut R _ _ _ _ c.part_top_run-top.ensures (part_lower R b.args.c b.args.ft) (part b)))
 
 returns : tie.Need-returns
 returns c =
     let b = c.before.before.before.before.before.before.before in
     let R = b.args.w.rng in
-    ends_stepped _ _ _ _ _ _ c.before.before.before.before.part_top_run-top.ensures (part_lower R b.args.c b.args.ft)
-    c.before.before.keep.ensures
+    ends_stepped _ _ _ _ _ _ c.part_top_run-top.ensures (part_lower R b.args.c b.args.ft)
+    c.keep.ensures
 
 pub keep_part_spec : {M : Type 1} → statement M
 keep_part_spec =

@@ -35,7 +35,7 @@ returns : tie.Need-returns
 unfolding ascii gains_text
 returns c =
     let z = c.before.before.before.before.before.before.before.before in
-    put_as c.before.before.put_small_run.ensures refl (omega (arith, long z))
+    put_as c.put_small_run.ensures refl (omega (arith, long z))
 
 pub put_gains_spec : {M : Type 1} → statement M
 put_gains_spec =

@@ -25,7 +25,7 @@ returns c =
     let xs = z.args.rest.now in
     let l = z.args.lag in
     let e = rw (to_z_pos w16 {n = length xs + 1} (omega arith), to_z-of_z z.ranges.lag) at s.put_start_run-place.ensures in
-    put_as (put_parts (ascii "pitch") (pos (length xs + 1) ∷ l ∷ []) xs e b.put_small_numbers_run-place.ensures c.before.before.put_byte_run.ensures)
+    put_as (put_parts (ascii "pitch") (pos (length xs + 1) ∷ l ∷ []) xs e b.put_small_numbers_run-place.ensures c.put_byte_run.ensures)
     (ap (λ (n : ℕ). line (ascii "pitch") (pos n ∷ l ∷ xs)) (add-one (length xs)))
     (omega arith)
 

@@ -29,10 +29,10 @@ returns c =
     let d = b.before.before.before.before.before in
     let a = d.before.before.before.before in
     let xs = a.args.xs.now in
-    let f : SFits w16 (get_or xs 0 (pos 0)) = sfits_of d.before.before.first-1.given in
+    let f : SFits w16 (get_or xs 0 (pos 0)) = sfits_of d.first-1.given in
     let e : take (length xs - 1) (drop 1 xs) ≡ drop 1 xs = take_all (length xs - 1) (drop 1 xs) (omega (arith, length-drop 1 xs)) in
     put_as
-    (put_then (rw (to_z-of_z f) at d.put_number_run-place.ensures) (put_then (rw e at b.put_numbers_run-place.ensures) c.before.before.put_byte_run.ensures))
+    (put_then (rw (to_z-of_z f) at d.put_number_run-place.ensures) (put_then (rw e at b.put_numbers_run-place.ensures) c.put_byte_run.ensures))
     (begins xs (search rules))
     (omega (arith, length-drop 1 xs))
 

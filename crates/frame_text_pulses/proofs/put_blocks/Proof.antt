@@ -28,7 +28,7 @@ put_block_requires : tie.Need-put_block-place-requires invariant_loop decreases_
 put_block_requires c κs =
     let b = c.before.before.before in
     let i = b.loop-i.i in
-    let p = b.before.before.args.pulses.now in
+    let p = b.args.pulses.now in
     let e : 16 * i + 16 - 16 * i ≡ 16 = omega arith in
     let s = b.loop-i.invariant.2 in
     (omega (arith, s.behind, s.most), rw e (length-take-le 16 (drop (16 * i) p) (omega (arith, length-drop (16 * i) p))))
@@ -36,18 +36,18 @@ put_block_requires c κs =
 loop_again : tie.Need-loop-i-preserved invariant_loop decreases_loop
 loop_again c =
     let b = c.before.before.before.before.before.before in
-    let p = b.before.before.args.pulses.now in
+    let p = b.args.pulses.now in
     let i = b.loop-i.i in
     let e : 16 * i + 16 - 16 * i ≡ 16 = omega arith in (
       search rules,
       search rules,
-      put_as (put_then b.loop-i.invariant.2 (rw e at c.before.before.put_block-place.ensures)) (rw add-one (block_more i p)) (omega arith),
+      put_as (put_then b.loop-i.invariant.2 (rw e at c.put_block-place.ensures)) (rw add-one (block_more i p)) (omega arith),
     )
 
 returns : tie.Need-returns invariant_loop decreases_loop
 returns c =
     let b = c.before in
-    let e : b.loop-i.i ≡ b.before.before.args.blocks = omega arith in
+    let e : b.loop-i.i ≡ b.args.blocks = omega arith in
     rw e at b.loop-i.invariant.2
 
 pub put_blocks_spec : {M : Type 1} → statement M

@@ -15,8 +15,8 @@ unfolding ascii spaced line pulses_text
 returns c =
     let b = c.before.before.before.before.before.before.before in
     let l = b.before.before.before.before in
-    let n = l.before.before.before.before.before.args.blocks in
-    put_as (put_then (put_then l.put_line_run-place.ensures b.put_blocks-place.ensures) c.before.before.put_word_run.ensures)
+    let n = l.args.blocks in
+    put_as (put_then (put_then l.put_line_run-place.ensures b.put_blocks-place.ensures) c.put_word_run.ensures)
     (rw (to_z_pos w16 {n = n} (omega arith)))
     (omega arith)
 

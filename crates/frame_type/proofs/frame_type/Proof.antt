@@ -14,8 +14,8 @@ use Rattle.frame_type.proofs.frame_type.Statement.{statement}
 use Rattle.frame_type.proofs.frame_type.Tie as tie
 
 -- what an accepted call was given
-accepts : (c : tie.Then-n-eq0) → (length c.before.before.before.args.packet.now ≤ 1275) × (c.before.before.before.args.active < 2)
-accepts c = type_accepts _ _ (sym c.before.type_rule-n.ensures ∙ c.if-n-eq0.true)
+accepts : (c : tie.Then-n-eq0) → (length c.args.packet.now ≤ 1275) × (c.args.active < 2)
+accepts c = type_accepts _ _ (sym c.type_rule-n.ensures ∙ c.if-n-eq0.true)
 
 -- the part of the rows that is lent
 abbrev lent : List ℕ → ℕ → List ℕ
@@ -32,8 +32,8 @@ row c = type_row (index_rows_lem c.index_rows-rows.result c.index_rows-rows.ensu
 types : (c : tie.After-index_rows-rows)
     → Types (start c).args.packet.now (start c).args.active (lent c.index_rows-rows.result (start c).args.active)
 types c =
-    let y : Bytes (start c).args.packet.now = λ i. omega (arith, c.before.before.before.shared_slice_known-1.given i) in
-    first_types _ _ _ y (row c).well-formed (row c).is (sym c.before.before.type_rule-n.ensures ∙ c.before.if-n-eq0.true)
+    let y : Bytes (start c).args.packet.now = λ i. omega (arith, c.shared_slice_known-1.given i) in
+    first_types _ _ _ y (row c).well-formed (row c).is (sym c.type_rule-n.ensures ∙ c.if-n-eq0.true)
 
 mul_base : tie.Need-overflow_mul-base
 mul_base c = search (rules, (accepts c).1)
@@ -44,15 +44,15 @@ part_first_symbol_end c = omega (arith, (accepts c.before.before).1)
 add_kind : tie.Need-overflow_add-kind
 add_kind c =
     let i = c.before.before.before.before in
-    search (rules, ap (λ (a : Decoded). a.value) c.before.first_symbol-a.ensures, (types i).inside, (row i).size, (accepts i.before).1)
+    search (rules, ap (λ (a : Decoded). a.value) c.first_symbol-a.ensures, (types i).inside, (row i).size, (accepts i.before).1)
 
 returns : tie.Need-returns-then-n-eq0
 returns c =
     let i = c.before.before.before.before in
-    ap (λ (a : Decoded). types_of (a.value + (start i).args.active * 2)) c.before.first_symbol-a.ensures ∙ (types i).is
+    ap (λ (a : Decoded). types_of (a.value + (start i).args.active * 2)) c.first_symbol-a.ensures ∙ (types i).is
 
 returns_2 : tie.Need-returns-else-n-eq0
-returns_2 c = refused_types _ _ _ c.before.type_rule-n.ensures c.if-n-eq0.false
+returns_2 c = refused_types _ _ _ c.type_rule-n.ensures c.if-n-eq0.false
 
 pub frame_type_spec : {M : Type 1} → statement M
 frame_type_spec =

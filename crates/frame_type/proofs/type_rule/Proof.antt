@@ -8,7 +8,7 @@ use Rattle.frame_type.proofs.type_rule.Tie as tie
 
 returns : tie.Need-returns
 unfolding type_rule
-returns c = c.first_refusal.ensures ∙ ap₂ first_of c.before.before.length_rule-of_packet.ensures c.before.active_rule-of_active.ensures
+returns c = c.first_refusal.ensures ∙ ap₂ first_of c.length_rule-of_packet.ensures c.active_rule-of_active.ensures
 
 pub type_rule_spec : {M : Type 1} → statement M
 type_rule_spec = tie.close (tie.spec (λ c κs. search rules) (λ c κs. search rules) (λ c κs. search rules) returns)

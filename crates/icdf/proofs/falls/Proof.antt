@@ -25,7 +25,7 @@ cast_ok : tie.Need-overflow_cast-ok invariant_loop decreases_loop
 cast_ok c = omega (arith, c.shared_slice_known-1.given 0)
 
 loop_holds : tie.Need-loop-k-init invariant_loop decreases_loop
-loop_holds c = (left_first c.before.args.top c.before.args.table.now c.before.requires, omega arith, c.before.requires)
+loop_holds c = (left_first c.args.top c.args.table.now c.requires, omega arith, c.requires)
 
 sub_j : tie.Need-overflow_sub-j invariant_loop decreases_loop
 sub_j c = omega arith
@@ -44,14 +44,14 @@ loop_less c = omega arith
 
 loop_again : tie.Need-loop-k-preserved invariant_loop decreases_loop
 loop_again c =
-    let l = c.before.before.before.loop in
-    let t = c.before.before.before.before.before.args.table.now in
+    let l = c.loop-k in
+    let t = c.args.table.now in
     let above = get_or t (l.k - 1) 0 in
     let x = get_or t l.k 0 in
     let e : l.k + 1 - 1 ≡ l.k = omega arith in (
       rw (e, add-one)
           (and_assoc l.ok (leb x above) (left x (drop (suc l.k) t))
-          ∙ ap (λ (r : List ℕ). l.ok && left above r) (sym (drop-cons t l.k 0 c.before.before.loop-k-test.true))
+          ∙ ap (λ (r : List ℕ). l.ok && left above r) (sym (drop-cons t l.k 0 c.loop-k-test.true))
           ∙ l.invariant.0),
       omega arith,
       omega arith,
@@ -65,7 +65,7 @@ shared_slice_read_result c = omega arith
 
 returns : tie.Need-returns invariant_loop decreases_loop
 returns c =
-    let l = c.before.before.loop in
+    let l = c.loop-k in
     let b = c.before.before.before.before in
     let t = b.args.table.now in
     let e : length t ≡ l.k = omega arith in

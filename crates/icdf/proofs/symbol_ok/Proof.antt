@@ -11,24 +11,24 @@ use Rattle.icdf.proofs.symbol_ok.Statement.{statement}
 use Rattle.icdf.proofs.symbol_ok.Tie as tie
 
 cast_entry : tie.Need-overflow_cast-entry
-cast_entry c = omega (arith, c.shared_slice_known-1.given c.before.before.args.symbol)
+cast_entry c = omega (arith, c.shared_slice_known-1.given c.args.symbol)
 
 cast_result : tie.Need-overflow_cast-result
-cast_result c = omega (arith, c.shared_slice_known-else-k-eq0-1.given (c.before.before.before.before.args.symbol - 1))
+cast_result c = omega (arith, c.shared_slice_known-else-k-eq0-1.given (c.args.symbol - 1))
 
 returns : tie.Need-returns-then-k-eq0
 unfolding symbol_ok
 returns c =
     let b = c.before.before.before in
     let f = before_first b.args.scale b.args.symbol b.args.table.now c.if-k-eq0.true in
-    rw (lt-ltb _ _ c.before.before.if-k-table.true, f, one_shl b.args.scale (omega (arith, b.requires.1)))
+    rw (lt-ltb _ _ c.if-k-table.true, f, one_shl b.args.scale (omega (arith, b.requires.1)))
 
 returns_2 : tie.Need-returns-else-k-eq0
 unfolding symbol_ok
 returns_2 c =
     let b = c.before.before.before.before in
-    let l = before_later b.args.scale b.args.symbol b.args.table.now c.before.if-k-eq0.false in
-    rw (lt-ltb _ _ c.before.before.before.if-k-table.true, l) refl
+    let l = before_later b.args.scale b.args.symbol b.args.table.now c.if-k-eq0.false in
+    rw (lt-ltb _ _ c.if-k-table.true, l) refl
 
 returns_3 : tie.Need-returns-else-k-table
 unfolding symbol_ok

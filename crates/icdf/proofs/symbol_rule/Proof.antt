@@ -8,36 +8,36 @@ use Rattle.icdf.proofs.symbol_rule.Statement.{statement}
 use Rattle.icdf.proofs.symbol_rule.Tie as tie
 
 -- the scale passed
-scaled : (c : tie.Then-scale_ok) → scale_ok c.before.before.before.args.scale ≡ true
-scaled c = sym c.before.scale_ok.ensures ∙ c.if-scale_ok.true
+scaled : (c : tie.Then-scale_ok) → scale_ok c.args.scale ≡ true
+scaled c = sym c.scale_ok.ensures ∙ c.if-scale_ok.true
 
 icdf_ok_requires : tie.Need-icdf_ok-requires
-icdf_ok_requires c κs = in_range_lem 1 8 c.before.before.before.args.scale (scaled c)
+icdf_ok_requires c κs = in_range_lem 1 8 c.args.scale (scaled c)
 
 symbol_ok_requires : tie.Need-symbol_ok-requires
 symbol_ok_requires c κs =
     let b = c.before.before in
-    in_range_lem 1 8 b.before.before.before.args.scale (scaled b)
+    in_range_lem 1 8 b.args.scale (scaled b)
 
 returns : tie.Need-returns-then-symbol_ok
 unfolding symbol_rule
 returns c =
     let b = c.before.before in
-    rw (scaled b.before.before, sym b.before.icdf_ok.ensures ∙ b.if-icdf_ok.true, sym c.before.symbol_ok.ensures ∙ c.if-symbol_ok.true)
+    rw (scaled b.before.before, sym b.icdf_ok.ensures ∙ b.if-icdf_ok.true, sym c.symbol_ok.ensures ∙ c.if-symbol_ok.true)
 
 returns_2 : tie.Need-returns-else-symbol_ok
 unfolding symbol_rule
 returns_2 c =
     let b = c.before.before in
-    rw (scaled b.before.before, sym b.before.icdf_ok.ensures ∙ b.if-icdf_ok.true, sym c.before.symbol_ok.ensures ∙ c.if-symbol_ok.false)
+    rw (scaled b.before.before, sym b.icdf_ok.ensures ∙ b.if-icdf_ok.true, sym c.symbol_ok.ensures ∙ c.if-symbol_ok.false)
 
 returns_3 : tie.Need-returns-else-icdf_ok
 unfolding symbol_rule
-returns_3 c = rw (scaled c.before.before, sym c.before.icdf_ok.ensures ∙ c.if-icdf_ok.false) refl
+returns_3 c = rw (scaled c.before.before, sym c.icdf_ok.ensures ∙ c.if-icdf_ok.false) refl
 
 returns_4 : tie.Need-returns-else-scale_ok
 unfolding symbol_rule
-returns_4 c = rw (sym c.before.scale_ok.ensures ∙ c.if-scale_ok.false)
+returns_4 c = rw (sym c.scale_ok.ensures ∙ c.if-scale_ok.false)
 
 pub symbol_rule_spec : {M : Type 1} → statement M
 symbol_rule_spec =

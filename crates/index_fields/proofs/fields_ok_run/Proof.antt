@@ -29,10 +29,10 @@ returns c =
       seed = p.1.1.1.1.1;
     })
     (λ w. (w.kind, (w.gains, (w.spectrum, ((w.interp, w.fixed), (w.pitch, w.seed))))))
-    (decides_both c.before.before.before.before.before.kind_ok_run.ensures (λ k.
-    decides_both c.before.before.before.before.gains_ok_run.ensures (λ g.
-    decides_both c.before.before.before.spectrum_ok.ensures (λ q.
-    decides_both (rw (to_z-of_z (interp_fits z)) at c.before.interpolation_ok_run.ensures) (λ i.
+    (decides_both c.kind_ok_run.ensures (λ k.
+    decides_both c.gains_ok_run.ensures (λ g.
+    decides_both c.spectrum_ok.ensures (λ q.
+    decides_both (rw (to_z-of_z (interp_fits z)) at c.interpolation_ok_run.ensures) (λ i.
     decides_both c.voicing_ok.ensures (λ v. upto_tested 3 z.args.x.seed)))))))
 
 pub fields_ok_run_spec : {M : Type 1} → statement M

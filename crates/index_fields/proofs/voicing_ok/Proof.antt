@@ -13,7 +13,7 @@ returns : tie.Need-returns-then-x-eq2
 returns c =
     let z = c.before.before.before.before in
     let f : SFits w8 z.args.x.signal = search rules in
-    let v : z.args.x.signal ≡ pos 2 = sym (to_z-of_z f) ∙ ap (to_z w8) c.before.if-x-eq2.true in
+    let v : z.args.x.signal ≡ pos 2 = sym (to_z-of_z f) ∙ ap (to_z w8) c.if-x-eq2.true in
     decides_as (λ p e. p) (λ p. p v) c.pitch_ok_run.ensures
 
 returns_2 : tie.Need-returns

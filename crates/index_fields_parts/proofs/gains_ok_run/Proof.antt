@@ -31,8 +31,8 @@ returns : tie.Need-returns
 returns c =
     let z = c.before.before.before.before.before.before in
     let l = z.args.x.gains in
-    let m = c.before.before.before.first_most_lem in
-    let f : SFits w8 (get_or l 0 (pos 0)) = sfits_of c.before.before.before.before.first-1.given in
+    let m = c.first_most-most in
+    let f : SFits w8 (get_or l 0 (pos 0)) = sfits_of c.first-1.given in
     let g : SFits w8 m.result = search rules in
     let e : c.all_in_range.result ≡ every (in_range (pos 0) (pos 40)) (take (z.args.subframes - 1) (drop 1 l)) = c.all_in_range.ensures in
     rw (to_z-of_z f, to_z-of_z g, m.ensures, e) (gains_tested z.args.mode z.args.subframes z.args.x z.pre (size z))

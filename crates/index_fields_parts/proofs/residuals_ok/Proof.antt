@@ -31,7 +31,7 @@ returns : tie.Need-returns-then-khz-eq16
 returns c =
     let z = c.before.before.before.before.before in
     let e : (book_of z.args.khz).order ≡ 16
-    = ap (λ (t : Bool). (cond t wide_book narrow_book).order) (eq-eqb _ _ c.before.before.before.if-khz-eq16.true) ∙ wide_shaped.order in
+    = ap (λ (t : Bool). (cond t wide_book narrow_book).order) (eq-eqb _ _ c.if-khz-eq16.true) ∙ wide_shaped.order in
     ordered z _ 16 e (rw c.all_in_range.ensures (residuals_tested 16 z.args.x.nlsf (omega (arith, size z))))
 
 part_all_in_range_end_2 : tie.Need-slice_bounds-all_in_range-end-2
@@ -41,7 +41,7 @@ returns_2 : tie.Need-returns
 returns_2 c =
     let z = c.before.before.before.before.before in
     let e : (book_of z.args.khz).order ≡ 10
-    = ap (λ (t : Bool). (cond t wide_book narrow_book).order) (ne_eqb _ _ c.before.before.before.if-khz-eq16.false) ∙ narrow_shaped.order in
+    = ap (λ (t : Bool). (cond t wide_book narrow_book).order) (ne_eqb _ _ c.if-khz-eq16.false) ∙ narrow_shaped.order in
     ordered z _ 10 e (rw c.all_in_range-2.ensures (residuals_tested 10 z.args.x.nlsf (omega (arith, size z))))
 
 pub residuals_ok_spec : {M : Type 1} → statement M

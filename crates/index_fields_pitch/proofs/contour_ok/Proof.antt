@@ -23,10 +23,10 @@ size_bounds khz subframes =
     (λ e. chosen (λ (n : ℕ). (1 ≤ n) × (n ≤ 34)) (eqb subframes 2) (λ f. (omega arith, omega arith)) (λ f. (omega arith, omega arith)))
 
 sub_most : tie.Need-overflow_sub-most
-sub_most c = omega (arith, c.contour_size.ensures, size_bounds c.before.args.khz c.before.args.subframes)
+sub_most c = omega (arith, c.contour_size.ensures, size_bounds c.args.khz c.args.subframes)
 
 cast_most : tie.Need-overflow_cast-most
-cast_most c = omega (arith, c.contour_size.ensures, size_bounds c.before.args.khz c.before.args.subframes)
+cast_most c = omega (arith, c.contour_size.ensures, size_bounds c.args.khz c.args.subframes)
 
 returns : tie.Need-returns
 returns c =

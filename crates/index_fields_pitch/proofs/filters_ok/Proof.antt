@@ -24,7 +24,7 @@ part_all_in_range_end c = omega (arith, size c.before.before, subframes_most c.b
 returns : tie.Need-returns
 returns c =
     let z = c.before.before.before.before in
-    let m = c.before.before.before.filter-most in
+    let m = c.filter_most-most in
     let g : SFits w8 m.result = search rules in
     let e : c.all_in_range.result ≡ every (in_range (pos 0) m.result) (take (z.args.subframes - 0) (drop 0 z.args.t1)) =
     rw (to_z-of_z g) at c.all_in_range.ensures in

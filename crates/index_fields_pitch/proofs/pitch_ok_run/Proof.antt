@@ -27,9 +27,9 @@ returns c =
       unscaled = p.1.1.1.1;
     })
     (λ w. (w.lag, (w.contour, ((w.period, w.filters), (w.scale, w.unscaled)))))
-    (decides_both (rw (to_z-of_z f.0) at c.before.before.before.before.lag_ok.ensures) (λ l.
-    decides_both (rw (to_z-of_z f.1) at c.before.before.contour_ok.ensures) (λ o.
-    decides_both (rw (to_z-of_z f.2) at c.before.before.before.before.before.before.filters_ok-filters.ensures) (λ p.
+    (decides_both (rw (to_z-of_z f.0) at c.lag_ok.ensures) (λ l.
+    decides_both (rw (to_z-of_z f.1) at c.contour_ok.ensures) (λ o.
+    decides_both (rw (to_z-of_z f.2) at c.filters_ok-filters.ensures) (λ p.
     rw (to_z-of_z f.3) at c.scale_ok.ensures))))
 
 pub pitch_ok_run_spec : {M : Type 1} → statement M

@@ -64,7 +64,7 @@ part_ec_dec_icdf8_run_end c =
 ec_dec_icdf8_run_requires : tie.Need-ec_dec_icdf8_run-a-requires invariant_loop decreases_loop
 ec_dec_icdf8_run_requires c κs =
     let z = c.before.before.before.before.before in
-    let i = c.before.before.loop-k.invariant in
+    let i = c.loop-k.invariant in
     let h = z.requires.p_bound.0 in
     (i.core, (omega (arith, z.requires.reading.few), (filter_row z.requires.reading.rows z.args.p _ h (size_is z.args.p h)).good))
 
@@ -73,13 +73,13 @@ cast_out c =
     let z = c.before.before.before.before.before.before.before in
     let h = z.requires.p_bound.0 in
     let t = filter_row z.requires.reading.rows z.args.p _ h (size_is z.args.p h) in
-    omega (arith, c.before.ec_dec_icdf8_run-a.ensures.inside, t.size, size_most z.args.p h)
+    omega (arith, c.ec_dec_icdf8_run-a.ensures.inside, t.size, size_most z.args.p h)
 
 loop_again : tie.Need-loop-k-preserved invariant_loop decreases_loop
 loop_again c =
     let z = c.before.before.before.before.before.before.before.before in
-    let l = c.before.before.before.before.before.loop in
-    let a = c.before.before.ec-dec-icdf8-run in
+    let l = c.loop-k in
+    let a = c.ec_dec_icdf8_run-a in
     let h = z.requires.p_bound.0 in
     let t = filter_row z.requires.reading.rows z.args.p _ h (size_is z.args.p h) in
     let e : to_z w8 a.result.value ≡ pos a.result.value = to_z_pos w8 {n = a.result.value} (omega (arith, a.ensures.inside, t.size, size_most z.args.p h)) in
@@ -96,7 +96,7 @@ loop_again c =
 
 returns : tie.Need-returns invariant_loop decreases_loop
 returns c =
-    let i = c.before.loop-k.invariant in
+    let i = c.loop-k.invariant in
     record { is = sym i.rest ∙ filters_end _ _ _ _ _ _ (omega arith); core = i.core; least = i.least; most = omega arith }
 
 pub filter_indices_spec : {M : Type 1} → statement M

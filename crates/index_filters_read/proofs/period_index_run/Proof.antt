@@ -20,7 +20,7 @@ ec_dec_icdf8_run_requires c κs =
 filter_indices_requires : tie.Need-filter_indices-requires
 filter_indices_requires c κs =
     let z = c.before.before.before.before.before in
-    let a = c.before.ec-dec-icdf8-run in
+    let a = c.ec_dec_icdf8_run-a in
     let t = period_row z.requires.reading.rows in (
       record { core = a.ensures.core; few = omega (arith, a.ensures.most, z.requires.reading.few); rows = z.requires.reading.rows },
       (omega (arith, a.ensures.inside, t.size), z.requires.subframes),
@@ -30,7 +30,7 @@ returns : tie.Need-returns
 unfolding period
 returns c =
     let z = c.before.before.before.before.before.before in
-    let a = c.before.before.ec-dec-icdf8-run in
+    let a = c.ec_dec_icdf8_run-a in
     let t = period_row z.requires.reading.rows in
     let e : to_z w8 a.result.value ≡ pos a.result.value = to_z_pos w8 {n = a.result.value} (omega (arith, a.ensures.inside, t.size)) in
     ran_ask t.is a.ensures (rw e at c.filter_indices.ensures)

@@ -21,7 +21,7 @@ returns c =
     let z = a.before.before.before.before.before in
     let t = scale_row_lem z.requires.rows in
     coded_read z.args.mode 0 scale_row (λ y. said y.scale) (put_scale z.args.x) 0
-    a.before.before.if-mode-eq0.true t.is a.ec_dec_icdf8_run-a.ensures (omega (arith, t.size))
+    a.if-mode-eq0.true t.is a.ec_dec_icdf8_run-a.ensures (omega (arith, t.size))
 
 returns_2 : tie.Need-returns
 unfolding scale

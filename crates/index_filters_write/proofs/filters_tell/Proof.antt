@@ -61,8 +61,8 @@ element_copy_out_ec_enc_icdf8_run c =
 cast_ec_enc_icdf8_run : tie.Need-overflow_cast-x invariant_loop decreases_loop
 cast_ec_enc_icdf8_run c =
     let z = c.before.before.before.before.before.before in
-    let l = c.before.before.before.loop in
-    let u = z.requires.p_bound.2 l.k c.before.before.loop-k-test.true in
+    let l = c.loop-k in
+    let u = z.requires.p_bound.2 l.k c.loop-k-test.true in
     let h = z.requires.p_bound.0 in
     rw (filter_is z.args.p h u)
     (upto_fits (get_or z.args.t4.ltp l.k (pos 0)) (omega (arith, size_is z.args.p h, size_most z.args.p h)) u)
@@ -75,8 +75,8 @@ part_ec_enc_icdf8_run_end c =
 ec_enc_icdf8_run_requires : tie.Need-ec_enc_icdf8_run-q-requires invariant_loop decreases_loop
 ec_enc_icdf8_run_requires c κs =
     let z = c.before.before.before.before.before.before.before in
-    let l = c.before.before.before.before.loop in
-    let u = z.requires.p_bound.2 l.k c.before.before.before.loop-k-test.true in
+    let l = c.loop-k in
+    let u = z.requires.p_bound.2 l.k c.loop-k-test.true in
     let h = z.requires.p_bound.0 in
     let e = size_is z.args.p h in
     let t = filter_row z.requires.writing.rows z.args.p _ h e in
@@ -86,9 +86,9 @@ ec_enc_icdf8_run_requires c κs =
 loop_again : tie.Need-loop-k-preserved invariant_loop decreases_loop
 loop_again c =
     let z = c.before.before.before.before.before.before.before.before.before.before in
-    let l = c.before.before.before.before.before.before.before.loop in
-    let a = c.before.before.ec-enc-icdf8-run in
-    let i = c.before.before.before.before.before.before.loop-k-test.true in
+    let l = c.loop-k in
+    let a = c.ec_enc_icdf8_run-q in
+    let i = c.loop-k-test.true in
     let u = z.requires.p_bound.2 l.k i in
     let h = z.requires.p_bound.0 in
     let t = filter_row z.requires.writing.rows z.args.p _ h (size_is z.args.p h) in
@@ -101,12 +101,12 @@ loop_again c =
     }
 
 same_length : tie.Need-shape_of-buf invariant_loop decreases_loop
-same_length c = c.before.loop-k.invariant.kept
+same_length c = c.loop-k.invariant.kept
 
 returns : tie.Need-returns invariant_loop decreases_loop
 returns c =
     let z = c.before.before.before.before in
-    let l = c.before.loop in
+    let l = c.loop-k in
     told_within (omega (arith, l.invariant.to, subframes_most z.requires.p_bound.1))
     (midway_end l.invariant.told (filters_told_end z.args.n l.k z.args.t4 z.args.p c.loop-k-test.false))
 

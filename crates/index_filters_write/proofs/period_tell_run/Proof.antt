@@ -33,7 +33,7 @@ ec_enc_icdf8_run_requires c κs =
 filters_tell_requires : tie.Need-filters_tell-requires
 filters_tell_requires c κs =
     let z = c.before.before.before.before.before.before.before.before.before.before in
-    let a = c.before.before.before.ec-enc-icdf8-run in
+    let a = c.ec_enc_icdf8_run-q in
     rw (period_is z) (
       record { core = a.ensures.core; few = omega (arith, a.ensures.most, z.requires.writing.few); rows = z.requires.writing.rows },
       (omega (arith, z.requires.subframes.1.most), z.requires.subframes.0, z.requires.by_index),
@@ -43,8 +43,8 @@ returns : tie.Need-returns
 unfolding period
 returns c =
     let z = c.before.before.before.before.before.before.before.before.before.before.before.before.before in
-    let a = c.before.before.before.before.before.before.ec-enc-icdf8-run in
-    let f = c.before.before.filters-tell in
+    let a = c.ec_enc_icdf8_run-q in
+    let f = c.filters_tell in
     let x = z.args.x in
     let p = nat_abs (to_z w8 (of_z w8 x.period)) in
     let e = z.requires.subframes.1.least ∙ ap (λ (v : ℤ). pos (nat_abs v)) (sym (period_is z)) in

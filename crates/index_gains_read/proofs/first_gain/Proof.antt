@@ -23,10 +23,10 @@ returns : tie.Need-returns-then-mode-eq2
 unfolding first_gain
 returns c =
     let z = c.before.before.before.before.before.before.before in
-    let a = c.before.before.ec-dec-icdf8-run in
+    let a = c.ec_dec_icdf8_run-a in
     let t = delta_gain_row z.requires.reading.rows in
     let e : to_z w8 a.result.value ≡ pos a.result.value = to_z_pos w8 {n = a.result.value} (omega (arith, a.ensures.inside, t.size)) in
-    rw (eq-eqb _ 2 c.before.before.before.before.if-mode-eq2.true, e)
+    rw (eq-eqb _ 2 c.if-mode-eq2.true, e)
     (ran_within {n = 16} {m = 32} (omega arith) (ran_ask t.is a.ensures (ran_done a.ensures.core)))
 
 ec_dec_icdf8_run_requires_2 : tie.Need-ec_dec_icdf8_run-h-requires
@@ -37,20 +37,20 @@ ec_dec_icdf8_run_requires_2 c κs =
 ec_dec_icdf8_run_requires_3 : tie.Need-ec_dec_icdf8_run-l-requires
 ec_dec_icdf8_run_requires_3 c κs =
     let z = c.before.before.before.before.before.before in
-    let h = c.before.ec-dec-icdf8-run2 in
+    let h = c.ec_dec_icdf8_run-h in
     (h.ensures.core, (omega (arith, h.ensures.most), (gain_low_row z.requires.reading.rows).good))
 
 returns_2 : tie.Need-returns
 unfolding first_gain
 returns_2 c =
     let z = c.before.before.before.before.before.before.before.before.before.before in
-    let h = c.before.before.before.before.before.ec-dec-icdf8-run2 in
-    let l = c.before.before.before.ec-dec-icdf8-run3 in
+    let h = c.ec_dec_icdf8_run-h in
+    let l = c.ec_dec_icdf8_run-l in
     let t = gain_row z.requires.reading.rows z.args.signal z.requires.signal_bound in
     let u = gain_low_row z.requires.reading.rows in
     let v = h.result.value * 8 + l.result.value in
     let e : to_z w8 v ≡ pos v = to_z_pos w8 {n = v} (omega (arith, h.ensures.inside, t.size, l.ensures.inside, u.size)) in
-    rw (ne_eqb _ 2 c.before.before.before.before.before.before.before.if-mode-eq2.false, e)
+    rw (ne_eqb _ 2 c.if-mode-eq2.false, e)
     (ran_ask t.is h.ensures (ran_ask u.is l.ensures (ran_done l.ensures.core)))
 
 pub first_gain_spec : {M : Type 1} → statement M

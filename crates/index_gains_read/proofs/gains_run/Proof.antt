@@ -7,7 +7,7 @@ use Rattle.index_gains_read.proofs.gains_run.Tie as tie
 
 returns : tie.Need-returns
 unfolding gains
-returns c = ran_bind _ c.before.first_gain-f.ensures c.more_gains.ensures
+returns c = ran_bind _ c.first_gain-f.ensures c.more_gains.ensures
 
 pub gains_run_spec : {M : Type 1} → statement M
 gains_run_spec = tie.close (tie.spec (λ c κs. search rules) (λ c κs. search rules) returns)

@@ -53,19 +53,19 @@ loop_holds c =
 ec_dec_icdf8_run_requires : tie.Need-ec_dec_icdf8_run-a-requires invariant_loop decreases_loop
 ec_dec_icdf8_run_requires c κs =
     let z = c.before.before.before.before.before in
-    let i = c.before.before.loop-k.invariant in
+    let i = c.loop-k.invariant in
     (i.core, (omega (arith, z.requires.reading.few), (delta_gain_row z.requires.reading.rows).good))
 
 cast_out : tie.Need-overflow_cast-out invariant_loop decreases_loop
 cast_out c =
     let z = c.before.before.before.before.before.before.before in
-    omega (arith, c.before.ec_dec_icdf8_run-a.ensures.inside, (delta_gain_row z.requires.reading.rows).size)
+    omega (arith, c.ec_dec_icdf8_run-a.ensures.inside, (delta_gain_row z.requires.reading.rows).size)
 
 loop_again : tie.Need-loop-k-preserved invariant_loop decreases_loop
 loop_again c =
     let z = c.before.before.before.before.before.before.before.before in
-    let l = c.before.before.before.before.before.loop in
-    let a = c.before.before.ec-dec-icdf8-run in
+    let l = c.loop-k in
+    let a = c.ec_dec_icdf8_run-a in
     let t = delta_gain_row z.requires.reading.rows in
     let e : to_z w8 a.result.value ≡ pos a.result.value = to_z_pos w8 {n = a.result.value} (omega (arith, a.ensures.inside, t.size)) in
     rw e
@@ -82,7 +82,7 @@ loop_again c =
 
 returns : tie.Need-returns invariant_loop decreases_loop
 returns c =
-    let i = c.before.loop-k.invariant in
+    let i = c.loop-k.invariant in
     record { is = sym i.rest ∙ gains_end _ _ _ _ _ (omega arith); core = i.core; least = i.least; most = omega arith }
 
 pub more_gains_spec : {M : Type 1} → statement M

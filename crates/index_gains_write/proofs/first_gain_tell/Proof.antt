@@ -34,15 +34,15 @@ ec_enc_icdf8_run_requires : tie.Need-ec_enc_icdf8_run-requires
 ec_enc_icdf8_run_requires c κs =
     let z = c.before.before.before.before.before.before in
     let t = delta_gain_row z.requires.writing.rows in
-    let l : nat_abs (gain z) ≤ 40 = rw (eq-eqb _ _ c.before.before.if-mode-eq2.true) at z.requires.signal_bound.1.most in
+    let l : nat_abs (gain z) ≤ 40 = rw (eq-eqb _ _ c.if-mode-eq2.true) at z.requires.signal_bound.1.most in
     rw (gain_is z) (z.requires.writing.core, (omega (arith, z.requires.writing.few), (t.good, t.writable _ (omega arith))))
 
 returns : tie.Need-returns-then-mode-eq2
 unfolding first_gain
 returns c =
     let z = c.before.before.before.before.before.before.before.before.before in
-    let a = c.before.before.ec-enc-icdf8-run in
-    rw (eq-eqb _ _ c.before.before.before.before.before.if-mode-eq2.true)
+    let a = c.ec_enc_icdf8_run in
+    rw (eq-eqb _ _ c.if-mode-eq2.true)
     (told_within {n = 16} {m = 32} (omega arith)
     (told_ask (delta_gain_row z.requires.writing.rows).is (ap nat_abs (gain_is z)) a.ensures (told_done a.ensures.core)))
 
@@ -50,13 +50,13 @@ ec_enc_icdf8_run_requires_2 : tie.Need-ec_enc_icdf8_run-h-requires
 ec_enc_icdf8_run_requires_2 c κs =
     let z = c.before.before.before.before.before.before in
     let t = gain_row z.requires.writing.rows z.args.signal z.requires.signal_bound.0 in
-    let l : nat_abs (gain z) ≤ 63 = rw (ne_eqb _ _ c.before.before.if-mode-eq2.false) at z.requires.signal_bound.1.most in
+    let l : nat_abs (gain z) ≤ 63 = rw (ne_eqb _ _ c.if-mode-eq2.false) at z.requires.signal_bound.1.most in
     rw (gain_is z) (z.requires.writing.core, (omega (arith, z.requires.writing.few), (t.good, t.writable _ (omega arith))))
 
 ec_enc_icdf8_run_requires_3 : tie.Need-ec_enc_icdf8_run-requires-2
 ec_enc_icdf8_run_requires_3 c κs =
     let z = c.before.before.before.before.before.before.before.before.before.before.before in
-    let h = c.before.before.before.before.ec-enc-icdf8-run2 in
+    let h = c.ec_enc_icdf8_run-h in
     let t = gain_low_row z.requires.writing.rows in
     (h.ensures.core, (omega (arith, z.requires.writing.few, h.ensures.most), (t.good, t.writable _ (omega arith))))
 
@@ -64,10 +64,10 @@ returns_2 : tie.Need-returns
 unfolding first_gain
 returns_2 c =
     let z = c.before.before.before.before.before.before.before.before.before.before.before.before.before.before in
-    let h = c.before.before.before.before.before.before.before.ec-enc-icdf8-run2 in
-    let l = c.before.before.ec-enc-icdf8-run3 in
+    let h = c.ec_enc_icdf8_run-h in
+    let l = c.ec_enc_icdf8_run-2 in
     let e = ap nat_abs (gain_is z) in
-    rw (ne_eqb _ _ c.before.before.before.before.before.before.before.before.before.before.if-mode-eq2.false)
+    rw (ne_eqb _ _ c.if-mode-eq2.false)
     (told_ask (gain_row z.requires.writing.rows z.args.signal z.requires.signal_bound.0).is (ap (λ (g : ℕ). g / 8) e) h.ensures
     (told_ask (gain_low_row z.requires.writing.rows).is (ap (λ (g : ℕ). g % 8) e) l.ensures (told_done l.ensures.core)))
 

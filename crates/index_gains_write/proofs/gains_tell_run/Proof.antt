@@ -20,7 +20,7 @@ returns c =
     let z = c.before.before.before.before.before.before.before.before.before.before in
     let p = z.requires.subframes in
     told_then _ (says_means (first_says z.args.mode z.args.signal z.args.x p.1 (some_gain z) p.2.first))
-    c.before.before.before.before.before.before.first_gain_tell-f.ensures c.before.before.more_gains_tell.ensures
+    c.first_gain_tell-f.ensures c.more_gains_tell.ensures
 
 pub gains_tell_run_spec : {M : Type 1} → statement M
 gains_tell_run_spec =

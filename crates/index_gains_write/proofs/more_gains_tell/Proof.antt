@@ -55,15 +55,15 @@ element_copy_out_ec_enc_icdf8_run c =
 cast_ec_enc_icdf8_run : tie.Need-overflow_cast-x invariant_loop decreases_loop
 cast_ec_enc_icdf8_run c =
     let z = c.before.before.before.before.before.before in
-    let l = c.before.before.before.loop in
-    let u = z.requires.subframes.1 l.k l.invariant.from c.before.before.loop-k-test.true in
+    let l = c.loop-k in
+    let u = z.requires.subframes.1 l.k l.invariant.from c.loop-k-test.true in
     rw (gain_is u) (upto_fits (get_or z.args.t4.gains l.k (pos 0)) (omega arith) u)
 
 ec_enc_icdf8_run_requires : tie.Need-ec_enc_icdf8_run-q-requires invariant_loop decreases_loop
 ec_enc_icdf8_run_requires c κs =
     let z = c.before.before.before.before.before.before.before in
-    let l = c.before.before.before.before.loop in
-    let u = z.requires.subframes.1 l.k l.invariant.from c.before.before.before.loop-k-test.true in
+    let l = c.loop-k in
+    let u = z.requires.subframes.1 l.k l.invariant.from c.loop-k-test.true in
     let t = delta_gain_row z.requires.writing.rows in
     let few : l.q.total ≤ 2 ^ 30 = omega (arith, z.requires.writing.few, l.invariant.told.most, l.invariant.to, subframes_most z.requires.subframes.0) in
     rw (gain_is u) (l.invariant.told.core, (few, (t.good, t.writable _ (omega (arith, u.most)))))
@@ -71,9 +71,9 @@ ec_enc_icdf8_run_requires c κs =
 loop_again : tie.Need-loop-k-preserved invariant_loop decreases_loop
 loop_again c =
     let z = c.before.before.before.before.before.before.before.before.before.before in
-    let l = c.before.before.before.before.before.before.before.loop in
-    let a = c.before.before.ec-enc-icdf8-run in
-    let i = c.before.before.before.before.before.before.loop-k-test.true in
+    let l = c.loop-k in
+    let a = c.ec_enc_icdf8_run-q in
+    let i = c.loop-k-test.true in
     let u = z.requires.subframes.1 l.k l.invariant.from i in
     let s = gains_told_next z.args.n l.k z.args.t4 40 i (omega (arith, subframes_most z.requires.subframes.0, l.invariant.size)) u in
     record {
@@ -85,12 +85,12 @@ loop_again c =
     }
 
 same_length : tie.Need-shape_of-buf invariant_loop decreases_loop
-same_length c = c.before.loop-k.invariant.kept
+same_length c = c.loop-k.invariant.kept
 
 returns : tie.Need-returns invariant_loop decreases_loop
 returns c =
     let z = c.before.before.before.before in
-    let l = c.before.loop in
+    let l = c.loop-k in
     told_within (omega (arith, l.invariant.to, subframes_most z.requires.subframes.0))
     (midway_end l.invariant.told (gains_told_end z.args.n l.k z.args.t4 c.loop-k-test.false))
 

@@ -31,39 +31,39 @@ ec_dec_icdf8_run_requires c κs =
 part_ec_dec_icdf8_run_end_2 : tie.Need-slice_bounds-ec_dec_icdf8_run-end-2
 part_ec_dec_icdf8_run_end_2 c =
     let z = c.before.before.before.before.before in
-    omega (arith, (lag_low_within z.args.khz z.requires.rate).0, c.before.before.lag_low_start-start.ensures, z.requires.reading.rows.size)
+    omega (arith, (lag_low_within z.args.khz z.requires.rate).0, c.lag_low_start-start.ensures, z.requires.reading.rows.size)
 
 ec_dec_icdf8_run_requires_2 : tie.Need-ec_dec_icdf8_run-l-requires
 ec_dec_icdf8_run_requires_2 c κs =
     let z = c.before.before.before.before.before.before in
-    let h = c.before.ec-dec-icdf8-run in
-    let u = lag_low_row z.requires.reading.rows _ _ z.requires.rate c.before.before.before.lag_low_start-start.ensures in
+    let h = c.ec_dec_icdf8_run-h in
+    let u = lag_low_row z.requires.reading.rows _ _ z.requires.rate c.lag_low_start-start.ensures in
     (h.ensures.core, (omega (arith, h.ensures.most, z.requires.reading.few), u.good))
 
 mul_out : tie.Need-overflow_mul-out
 mul_out c =
     let z = c.before.before.before.before.before.before.before.before in
-    let h = c.before.before.before.ec-dec-icdf8-run in
+    let h = c.ec_dec_icdf8_run-h in
     let t = lag_row z.requires.reading.rows in
     omega (arith, high_most h.result.value (z.args.khz / 2) (omega (arith, h.ensures.inside, t.size)) (lag_low_within z.args.khz z.requires.rate).1)
 
 add_out : tie.Need-overflow_add-out
 add_out c =
     let z = c.before.before.before.before.before.before.before.before.before in
-    let h = c.before.before.before.before.ec-dec-icdf8-run in
-    let l = c.before.before.ec-dec-icdf8-run2 in
+    let h = c.ec_dec_icdf8_run-h in
+    let l = c.ec_dec_icdf8_run-l in
     let t = lag_row z.requires.reading.rows in
-    let u = lag_low_row z.requires.reading.rows _ _ z.requires.rate c.before.before.before.before.before.before.lag_low_start-start.ensures in
+    let u = lag_low_row z.requires.reading.rows _ _ z.requires.rate c.lag_low_start-start.ensures in
     let w = lag_low_within z.args.khz z.requires.rate in
     omega (arith, high_most h.result.value (z.args.khz / 2) (omega (arith, h.ensures.inside, t.size)) w.1, l.ensures.inside, u.size, w.1)
 
 cast_out : tie.Need-overflow_cast-out
 cast_out c =
     let z = c.before.before.before.before.before.before.before.before.before in
-    let h = c.before.before.before.before.ec-dec-icdf8-run in
-    let l = c.before.before.ec-dec-icdf8-run2 in
+    let h = c.ec_dec_icdf8_run-h in
+    let l = c.ec_dec_icdf8_run-l in
     let t = lag_row z.requires.reading.rows in
-    let u = lag_low_row z.requires.reading.rows _ _ z.requires.rate c.before.before.before.before.before.before.lag_low_start-start.ensures in
+    let u = lag_low_row z.requires.reading.rows _ _ z.requires.rate c.lag_low_start-start.ensures in
     let w = lag_low_within z.args.khz z.requires.rate in
     omega (arith, high_most h.result.value (z.args.khz / 2) (omega (arith, h.ensures.inside, t.size)) w.1, l.ensures.inside, u.size, w.1)
 
@@ -71,10 +71,10 @@ returns : tie.Need-returns
 unfolding absolute_lag
 returns c =
     let z = c.before.before.before.before.before.before.before.before.before.before in
-    let h = c.before.before.before.before.before.ec-dec-icdf8-run in
-    let l = c.before.before.before.ec-dec-icdf8-run2 in
+    let h = c.ec_dec_icdf8_run-h in
+    let l = c.ec_dec_icdf8_run-l in
     let t = lag_row z.requires.reading.rows in
-    let u = lag_low_row z.requires.reading.rows _ _ z.requires.rate c.before.before.before.before.before.before.before.lag_low_start-start.ensures in
+    let u = lag_low_row z.requires.reading.rows _ _ z.requires.rate c.lag_low_start-start.ensures in
     let w = lag_low_within z.args.khz z.requires.rate in
     let v = h.result.value * (z.args.khz / 2) + l.result.value in
     let e : to_z w16 v ≡ pos v = to_z_pos w16 {n = v} (omega (

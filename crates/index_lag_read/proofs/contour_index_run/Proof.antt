@@ -16,35 +16,35 @@ add_end : tie.Need-overflow_add-end
 add_end c =
     let z = c.before.before.before.before in
     let w = contour_within z.args.khz z.args.subframes z.requires.rate.0 z.requires.rate.1 in
-    omega (arith, w.0, c.contour_size-size.ensures, c.before.contour_start-start.ensures)
+    omega (arith, w.0, c.contour_size-size.ensures, c.contour_start-start.ensures)
 
 part_ec_dec_icdf8_run_end : tie.Need-slice_bounds-ec_dec_icdf8_run-end
 part_ec_dec_icdf8_run_end c =
     let z = c.before.before.before.before in
     let w = contour_within z.args.khz z.args.subframes z.requires.rate.0 z.requires.rate.1 in
-    omega (arith, w.0, c.contour_size-size.ensures, c.before.contour_start-start.ensures, z.requires.reading.rows.size)
+    omega (arith, w.0, c.contour_size-size.ensures, c.contour_start-start.ensures, z.requires.reading.rows.size)
 
 ec_dec_icdf8_run_requires : tie.Need-ec_dec_icdf8_run-a-requires
 ec_dec_icdf8_run_requires c κs =
     let z = c.before.before.before.before.before in
-    let t = contour_row z.requires.reading.rows _ _ _ _ z.requires.rate.0 z.requires.rate.1 c.before.before.contour_start-start.ensures c.before.contour_size-size.ensures in
+    let t = contour_row z.requires.reading.rows _ _ _ _ z.requires.rate.0 z.requires.rate.1 c.contour_start-start.ensures c.contour_size-size.ensures in
     (z.requires.reading.core, (omega (arith, z.requires.reading.few), t.good))
 
 cast_out : tie.Need-overflow_cast-out
 cast_out c =
     let z = c.before.before.before.before.before.before.before in
-    let n = c.before.before.before.contour_size_lem in
-    let t = contour_row z.requires.reading.rows _ _ _ _ z.requires.rate.0 z.requires.rate.1 c.before.before.before.before.contour_start-start.ensures n.ensures in
+    let n = c.contour_size-size in
+    let t = contour_row z.requires.reading.rows _ _ _ _ z.requires.rate.0 z.requires.rate.1 c.contour_start-start.ensures n.ensures in
     let w = contour_within z.args.khz z.args.subframes z.requires.rate.0 z.requires.rate.1 in
-    omega (arith, c.before.ec_dec_icdf8_run-a.ensures.inside, t.size, w.1, n.ensures)
+    omega (arith, c.ec_dec_icdf8_run-a.ensures.inside, t.size, w.1, n.ensures)
 
 returns : tie.Need-returns
 unfolding contour
 returns c =
     let z = c.before.before.before.before.before.before.before.before in
-    let a = c.before.before.ec-dec-icdf8-run in
-    let n = c.before.before.before.before.contour_size_lem in
-    let t = contour_row z.requires.reading.rows _ _ _ _ z.requires.rate.0 z.requires.rate.1 c.before.before.before.before.before.contour_start-start.ensures n.ensures in
+    let a = c.ec_dec_icdf8_run-a in
+    let n = c.contour_size-size in
+    let t = contour_row z.requires.reading.rows _ _ _ _ z.requires.rate.0 z.requires.rate.1 c.contour_start-start.ensures n.ensures in
     let w = contour_within z.args.khz z.args.subframes z.requires.rate.0 z.requires.rate.1 in
     let e : to_z w8 a.result.value ≡ pos a.result.value = to_z_pos w8 {n = a.result.value} (omega (arith, a.ensures.inside, t.size, w.1, n.ensures)) in
     rw e (ran_ask t.is a.ensures (ran_done a.ensures.core))

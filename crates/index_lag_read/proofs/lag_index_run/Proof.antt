@@ -18,36 +18,36 @@ ec_dec_icdf8_run_requires c κs =
 absolute_lag_requires : tie.Need-absolute_lag-requires
 absolute_lag_requires c κs =
     let z = c.before.before.before.before.before.before.before in
-    let a = c.before.before.ec-dec-icdf8-run in
+    let a = c.ec_dec_icdf8_run-a in
     (record { core = a.ensures.core; few = omega (arith, a.ensures.most, z.requires.reading.few); rows = z.requires.reading.rows }, z.requires.rate)
 
 returns : tie.Need-returns-then-a-eq0
 unfolding lag
 returns c =
     let z = c.before.before.before.before.before.before.before.before in
-    let a = c.before.before.before.ec-dec-icdf8-run in
-    rw c.before.before.before.before.before.if-relative.true
-    (ran_ask {n = 32} (delta_lag_row z.requires.reading.rows).is a.ensures (rw (eq-eqb _ _ c.before.if-a-eq0.true) c.absolute_lag.ensures))
+    let a = c.ec_dec_icdf8_run-a in
+    rw c.if-relative.true
+    (ran_ask {n = 32} (delta_lag_row z.requires.reading.rows).is a.ensures (rw (eq-eqb _ _ c.if-a-eq0.true) c.absolute_lag.ensures))
 
 lag_after_requires : tie.Need-lag_after-requires
 lag_after_requires c κs =
     let z = c.before.before.before.before.before.before.before in
-    omega (arith, c.before.before.ec_dec_icdf8_run-a.ensures.inside, (delta_lag_row z.requires.reading.rows).size)
+    omega (arith, c.ec_dec_icdf8_run-a.ensures.inside, (delta_lag_row z.requires.reading.rows).size)
 
 returns_2 : tie.Need-returns-then-relative
 unfolding lag
 returns_2 c =
     let z = c.before.before.before.before.before.before.before.before.before in
-    let a = c.before.before.before.before.ec-dec-icdf8-run in
-    let l = c.before.lag-after in
+    let a = c.ec_dec_icdf8_run-a in
+    let l = c.lag_after in
     let e : l.result ≡ lag_after z.args.before a.result.value = rw (to_z-of_z z.ranges.before) at l.ensures in
-    rw (c.before.before.before.before.before.before.if-relative.true, e)
+    rw (c.if-relative.true, e)
     (ran_within {n = 16} {m = 48} (omega arith)
-    (ran_ask {n = 0} (delta_lag_row z.requires.reading.rows).is a.ensures (rw (ne_eqb _ _ c.before.before.if-a-eq0.false) (ran_done a.ensures.core))))
+    (ran_ask {n = 0} (delta_lag_row z.requires.reading.rows).is a.ensures (rw (ne_eqb _ _ c.if-a-eq0.false) (ran_done a.ensures.core))))
 
 returns_3 : tie.Need-returns
 unfolding lag
-returns_3 c = rw c.before.if-relative.false (ran_within {n = 32} {m = 48} (omega arith) c.absolute_lag-2.ensures)
+returns_3 c = rw c.if-relative.false (ran_within {n = 32} {m = 48} (omega arith) c.absolute_lag-2.ensures)
 
 pub lag_index_run_spec : {M : Type 1} → statement M
 lag_index_run_spec =

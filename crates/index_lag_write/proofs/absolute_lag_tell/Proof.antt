@@ -47,14 +47,14 @@ rem_ec_enc_icdf8_run c =
 part_ec_enc_icdf8_run_end_2 : tie.Need-slice_bounds-ec_enc_icdf8_run-end-2
 part_ec_enc_icdf8_run_end_2 c =
     let z = c.before.before.before.before.before.before.before.before.before.before.before in
-    let e = c.before.before.before.before.before.before.before.before.lag_low_start-start.ensures in
+    let e = c.lag_low_start-start.ensures in
     omega (arith, (lag_low_within z.args.khz z.requires.rate.0).0, e, z.requires.writing.rows.size)
 
 ec_enc_icdf8_run_requires_2 : tie.Need-ec_enc_icdf8_run-requires
 ec_enc_icdf8_run_requires_2 c κs =
     let z = c.before.before.before.before.before.before.before.before.before.before.before.before in
-    let h = c.before.before.before.before.ec-enc-icdf8-run in
-    let e = c.before.before.before.before.before.before.before.before.before.lag_low_start-start.ensures in
+    let h = c.ec_enc_icdf8_run-h in
+    let e = c.lag_low_start-start.ensures in
     let t = lag_low_row z.requires.writing.rows _ _ z.requires.rate.0 e in
     (h.ensures.core, (omega (arith, z.requires.writing.few, h.ensures.most), (t.good, t.writable _ (low_part z.args.khz _ z.requires.rate.0))))
 
@@ -62,9 +62,9 @@ returns : tie.Need-returns
 unfolding absolute_lag
 returns c =
     let z = c.before.before.before.before.before.before.before.before.before.before.before.before.before.before.before in
-    let h = c.before.before.before.before.before.before.before.ec-enc-icdf8-run in
-    let l = c.before.before.ec-enc-icdf8-run2 in
-    let s = c.before.before.before.before.before.before.before.before.before.before.before.before.lag_low_start-start.ensures in
+    let h = c.ec_enc_icdf8_run-h in
+    let l = c.ec_enc_icdf8_run in
+    let s = c.lag_low_start-start.ensures in
     let t = lag_low_row z.requires.writing.rows _ _ z.requires.rate.0 s in
     let e = ap nat_abs (lag_is z) in
     told_ask (lag_row z.requires.writing.rows).is (ap (λ (v : ℕ). v / (z.args.khz / 2)) e) h.ensures

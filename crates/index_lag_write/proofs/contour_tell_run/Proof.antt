@@ -25,7 +25,7 @@ contour_is z = abs_kept w8 _ z.requires.rate.2.most (omega (arith, (within z).1)
 add_end : tie.Need-overflow_add-end
 add_end c =
     let z = c.before.before.before.before in
-    omega (arith, (within z).0, c.contour_size-size.ensures, c.before.contour_start-start.ensures)
+    omega (arith, (within z).0, c.contour_size-size.ensures, c.contour_start-start.ensures)
 
 cast_ec_enc_icdf8_run : tie.Need-overflow_cast-x
 cast_ec_enc_icdf8_run c =
@@ -35,15 +35,15 @@ cast_ec_enc_icdf8_run c =
 part_ec_enc_icdf8_run_end : tie.Need-slice_bounds-ec_enc_icdf8_run-end
 part_ec_enc_icdf8_run_end c =
     let z = c.before.before.before.before.before.before.before in
-    let s = c.before.before.before.before.contour_start-start.ensures in
-    let n = c.before.before.before.contour_size-size.ensures in
+    let s = c.contour_start-start.ensures in
+    let n = c.contour_size-size.ensures in
     omega (arith, (within z).0, s, n, z.requires.writing.rows.size)
 
 ec_enc_icdf8_run_requires : tie.Need-ec_enc_icdf8_run-requires
 ec_enc_icdf8_run_requires c κs =
     let z = c.before.before.before.before.before.before.before.before in
-    let s = c.before.before.before.before.before.contour_start-start.ensures in
-    let n = c.before.before.before.before.contour_size-size.ensures in
+    let s = c.contour_start-start.ensures in
+    let n = c.contour_size-size.ensures in
     let t = contour_row z.requires.writing.rows _ _ _ _ z.requires.rate.0 z.requires.rate.1 s n in
     rw (contour_is z)
     (z.requires.writing.core, (omega (arith, z.requires.writing.few), (t.good, t.writable _ (omega (arith, z.requires.rate.2.most, n, t.size, t.good.some)))))
@@ -52,9 +52,9 @@ returns : tie.Need-returns
 unfolding contour
 returns c =
     let z = c.before.before.before.before.before.before.before.before.before.before.before in
-    let a = c.before.before.ec-enc-icdf8-run in
-    let s = c.before.before.before.before.before.before.before.before.contour_start-start.ensures in
-    let n = c.before.before.before.before.before.before.before.contour_size-size.ensures in
+    let a = c.ec_enc_icdf8_run in
+    let s = c.contour_start-start.ensures in
+    let n = c.contour_size-size.ensures in
     let t = contour_row z.requires.writing.rows _ _ _ _ z.requires.rate.0 z.requires.rate.1 s n in
     told_ask t.is (ap nat_abs (contour_is z)) a.ensures (told_done a.ensures.core)
 

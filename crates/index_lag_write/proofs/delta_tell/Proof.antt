@@ -18,14 +18,14 @@ returns : tie.Need-returns-then-relative
 unfolding lag
 returns c =
     let z = c.before.before.before.before.before.before.before.before in
-    let a = c.before.before.ec-enc-icdf8-run in
+    let a = c.ec_enc_icdf8_run in
     λ khz before x.
-    rw c.before.before.before.before.before.if-relative.true
+    rw c.if-relative.true
     (midway_asked (midway_start {n = 0} z.requires.core) (delta_lag_row z.requires.rows).is refl a.ensures (omega arith))
 
 returns_2 : tie.Need-returns
 unfolding lag
-returns_2 c = λ khz before x. rw c.if-relative.false (midway_start c.before.before.before.requires.core)
+returns_2 c = λ khz before x. rw c.if-relative.false (midway_start c.requires.core)
 
 pub delta_tell_spec : {M : Type 1} → statement M
 delta_tell_spec =

@@ -8,15 +8,15 @@ use Rattle.index_lag_write.proofs.lag_tell_run.Tie as tie
 absolute_lag_tell_requires : tie.Need-absolute_lag_tell-requires
 absolute_lag_tell_requires c κs =
     let z = c.before.before.before.before.before.before.before in
-    let d = c.before.before.before.delta_tell-q.ensures z.args.khz (pos 0) z.args.x in
+    let d = c.delta_tell-q.ensures z.args.khz (pos 0) z.args.x in
     (record { core = d.core; few = omega (arith, d.most, z.requires.writing.few); rows = z.requires.writing.rows }, z.requires.rate)
 
 returns : tie.Need-returns
 returns c =
     let z = c.before.before.before.before.before.before.before.before.before.before in
-    let l = c.before.before.absolute_lag_tell.ensures in
+    let l = c.absolute_lag_tell.ensures in
     λ before.
-    let d = c.before.before.before.before.before.before.delta_tell-q.ensures z.args.khz before z.args.x in
+    let d = c.delta_tell-q.ensures z.args.khz before z.args.x in
     record {
       is = rw d.is l.is;
       core = l.core;

@@ -10,11 +10,11 @@ returns c = rw (eq-eqb _ _ c.if-khz-eq8.true)
 
 returns_2 : tie.Need-returns-then-khz-eq12
 unfolding lag_low_start
-returns_2 c = rw (ne_eqb _ _ c.before.if-khz-eq8.false, eq-eqb _ _ c.if-khz-eq12.true)
+returns_2 c = rw (ne_eqb _ _ c.if-khz-eq8.false, eq-eqb _ _ c.if-khz-eq12.true)
 
 returns_3 : tie.Need-returns-else-khz-eq12
 unfolding lag_low_start
-returns_3 c = rw (ne_eqb _ _ c.before.if-khz-eq8.false, ne_eqb _ _ c.if-khz-eq12.false)
+returns_3 c = rw (ne_eqb _ _ c.if-khz-eq8.false, ne_eqb _ _ c.if-khz-eq12.false)
 
 pub lag_low_start_spec : {M : Type 1} → statement M
 lag_low_start_spec = tie.close (tie.spec returns returns_2 returns_3)

@@ -16,7 +16,7 @@ unfolding next_lag
 returns c =
     let z = c.before.before.before.before in
     let l : SFits w16 z.args.x.lag = search rules in
-    let e : nat_abs z.args.x.signal ≡ 2 = sym (upto_bits w8 z.requires) ∙ c.before.if-x-eq2.true in
+    let e : nat_abs z.args.x.signal ≡ 2 = sym (upto_bits w8 z.requires) ∙ c.if-x-eq2.true in
     rw (to_z-of_z l, eq-eqb _ _ e)
 
 returns_2 : tie.Need-returns

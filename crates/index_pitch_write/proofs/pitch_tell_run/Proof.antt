@@ -92,7 +92,7 @@ returns c =
     (as_set s s.khz s.prevlag (l.lag_tell_run-l.ensures s.prevlag) refl)
     (told_then _ (says_means (contour_says s x t.0 t.1 (shape z) t.2)) k.contour_tell_run-c.ensures
     (told_then _ (says_means (period_says s x t.0 t.1 (shape z) t.2)) p.period_tell_run-p.ensures
-    c.before.before.scale_tell_run.ensures))
+    c.scale_tell_run.ensures))
 
 pub pitch_tell_run_spec : {M : Type 1} → statement M
 pitch_tell_run_spec =

@@ -21,7 +21,7 @@ returns c =
     let z = a.before.before.before.before.before in
     let t = interpolation_row_lem z.requires.rows in
     coded_read z.args.subframes 4 interpolation_row (λ y. said y.interp) (put_interp z.args.x) 4
-    a.before.before.if-subframes-eq4.true t.is a.ec_dec_icdf8_run-a.ensures (omega (arith, t.size))
+    a.if-subframes-eq4.true t.is a.ec_dec_icdf8_run-a.ensures (omega (arith, t.size))
 
 returns_2 : tie.Need-returns
 unfolding interpolation

@@ -16,7 +16,7 @@ returns : tie.Need-returns
 unfolding kind
 returns c =
     let z = c.before.before.before.before.before.before in
-    let a = c.before.before.ec-dec-icdf8-run in
+    let a = c.ec_dec_icdf8_run-a in
     let t = type_row z.requires.reading.rows z.args.active z.requires.active_bound in
     (ran_ask t.is a.ensures (ran_done a.ensures.core), omega (arith, a.ensures.inside, t.size))
 

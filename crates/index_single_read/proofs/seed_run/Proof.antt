@@ -21,7 +21,7 @@ returns : tie.Need-returns
 unfolding seed
 returns c =
     let z = c.before.before.before.before.before.before in
-    let a = c.before.before.ec-dec-icdf8-run in
+    let a = c.ec_dec_icdf8_run-a in
     let t = seed_row z.requires.rows in
     let e : to_z w8 a.result.value ≡ pos a.result.value = to_z_pos w8 {n = a.result.value} (omega (arith, a.ensures.inside, t.size)) in
     rw e (ran_ask t.is a.ensures (ran_done a.ensures.core))

@@ -55,7 +55,7 @@ returns : tie.Need-returns
 unfolding kind
 returns c =
     let z = c.before.before.before.before.before.before.before.before.before.before.before in
-    let a = c.before.before.ec-enc-icdf8-run in
+    let a = c.ec_enc_icdf8_run in
     told_ask (type_row z.requires.writing.rows z.args.active z.requires.active_bound.0).is
     (ap₂ (λ (s o : ℤ). nat_abs s * 2 + nat_abs o - z.args.active * 2) (signal_is z) (offset_is z)) a.ensures (told_done a.ensures.core)
 

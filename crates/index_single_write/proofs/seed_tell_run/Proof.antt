@@ -30,7 +30,7 @@ returns : tie.Need-returns
 unfolding seed
 returns c =
     let z = c.before.before.before.before.before.before.before.before.before in
-    let a = c.before.before.ec-enc-icdf8-run in
+    let a = c.ec_enc_icdf8_run in
     told_ask (seed_row z.requires.writing.rows).is (ap nat_abs (seed_is z)) a.ensures (told_done a.ensures.core)
 
 pub seed_tell_run_spec : {M : Type 1} → statement M

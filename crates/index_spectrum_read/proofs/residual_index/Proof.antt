@@ -22,52 +22,52 @@ ec_dec_icdf8_run_requires c κs =
 ec_dec_icdf8_run_requires_2 : tie.Need-ec_dec_icdf8_run-e-requires
 ec_dec_icdf8_run_requires_2 c κs =
     let z = c.before.before.before.before.before.before.before in
-    let a = c.before.before.before.ec-dec-icdf8-run in
+    let a = c.ec_dec_icdf8_run-a in
     (a.ensures.core, (omega (arith, a.ensures.most, z.requires.reading.few), (extension_row z.requires.reading.rows).good))
 
 returns : tie.Need-returns-then-a-eq0
 unfolding residual
 returns c =
     let z = c.before.before.before.before.before.before.before.before.before.before in
-    let a = c.before.before.before.before.before.before.ec-dec-icdf8-run in
-    let x = c.before.before.ec-dec-icdf8-run2 in
-    let l = c.before.lowered in
+    let a = c.ec_dec_icdf8_run-a in
+    let x = c.ec_dec_icdf8_run-e in
+    let l = c.lowered-value in
     let e : to_z w8 (of_z w8 l.result) ≡ negsuc (3 + x.result.value) = to_z-of_z {w = w8} (sfits_of l.type-inv) ∙ l.ensures in
     rw e
     (ran_ask {n = 16} (residual_row z.requires.reading.rows z.args.k z.requires.k_bound).is a.ensures
-    (rw (eq-eqb _ _ c.before.before.before.before.if-a-eq0.true)
+    (rw (eq-eqb _ _ c.if-a-eq0.true)
     (ran_ask (extension_row z.requires.reading.rows).is x.ensures (ran_done x.ensures.core))))
 
 ec_dec_icdf8_run_requires_3 : tie.Need-ec_dec_icdf8_run-e-requires-then-a-eq8
 ec_dec_icdf8_run_requires_3 c κs =
     let z = c.before.before.before.before.before.before.before.before.before in
-    let a = c.before.before.before.before.before.ec-dec-icdf8-run in
+    let a = c.ec_dec_icdf8_run-a in
     (a.ensures.core, (omega (arith, a.ensures.most, z.requires.reading.few), (extension_row z.requires.reading.rows).good))
 
 returns_2 : tie.Need-returns-then-a-eq8
 unfolding residual
 returns_2 c =
     let z = c.before.before.before.before.before.before.before.before.before.before.before.before in
-    let a = c.before.before.before.before.before.before.before.before.ec-dec-icdf8-run in
-    let x = c.before.before.ec-dec-icdf8-run3 in
-    let l = c.before.raised in
+    let a = c.ec_dec_icdf8_run-a in
+    let x = c.ec_dec_icdf8_run-e-then-a-eq8 in
+    let l = c.raised-value in
     let e : to_z w8 (of_z w8 l.result) ≡ pos (4 + x.result.value) = to_z-of_z {w = w8} (sfits_of l.type-inv) ∙ l.ensures in
     rw e
     (ran_ask {n = 16} (residual_row z.requires.reading.rows z.args.k z.requires.k_bound).is a.ensures
-    (rw (ne_eqb _ _ c.before.before.before.before.before.before.if-a-eq0.false, eq-eqb _ _ c.before.before.before.before.if-a-eq8.true)
+    (rw (ne_eqb _ _ c.if-a-eq0.false, eq-eqb _ _ c.if-a-eq8.true)
     (ran_ask (extension_row z.requires.reading.rows).is x.ensures (ran_done x.ensures.core))))
 
 returns_3 : tie.Need-returns
 unfolding residual
 returns_3 c =
     let z = c.before.before.before.before.before.before.before.before.before.before in
-    let a = c.before.before.before.before.before.before.ec-dec-icdf8-run in
-    let l = c.before.centred in
+    let a = c.ec_dec_icdf8_run-a in
+    let l = c.centred-value in
     let e : to_z w8 (of_z w8 l.result) ≡ pos a.result.value -ℤ pos 4 = to_z-of_z {w = w8} (sfits_of l.type-inv) ∙ l.ensures in
     rw e
     (ran_within {n = 16} {m = 32} (omega arith)
     (ran_ask {n = 0} (residual_row z.requires.reading.rows z.args.k z.requires.k_bound).is a.ensures
-    (rw (ne_eqb _ _ c.before.before.before.before.if-a-eq0.false, ne_eqb _ _ c.before.before.if-a-eq8.false)
+    (rw (ne_eqb _ _ c.if-a-eq0.false, ne_eqb _ _ c.if-a-eq8.false)
     (ran_done a.ensures.core))))
 
 pub residual_index_spec : {M : Type 1} → statement M

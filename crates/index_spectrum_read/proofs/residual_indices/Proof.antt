@@ -65,15 +65,15 @@ add_residual_index c =
 residual_index_requires : tie.Need-residual_index-a-requires invariant_loop decreases_loop
 residual_index_requires c κs =
     let z = c.before.before.before.before.before.before in
-    let i = c.before.before.loop-i.invariant in
+    let i = c.loop-i.invariant in
     (record { core = i.core; few = omega (arith, z.requires.reading.few, i.most); rows = z.requires.reading.rows }, omega (arith, rate_most z.requires.rate.0, c.residual_pick_run-k.ensures))
 
 loop_again : tie.Need-loop-i-preserved invariant_loop decreases_loop
 loop_again c =
     let z = c.before.before.before.before.before.before.before.before.before in
-    let l = c.before.before.before.before.before.loop in
-    let a = c.before.before.residual-index in
-    let p = c.before.before.before.residual-pick-run in
+    let l = c.loop-i in
+    let a = c.residual_index-a in
+    let p = c.residual_pick_run-k in
     let e : run z.args.packet.now l.r (residual (residual_row z.args.khz (residual_pick z.args.selectors.now l.i))) ≡ got a.result.value a.result.state =
     rw p.ensures at a.ensures.is in
     let f : SFits w8 a.result.value = search rules in
@@ -90,7 +90,7 @@ loop_again c =
 
 returns : tie.Need-returns invariant_loop decreases_loop
 returns c =
-    let i = c.before.loop-i.invariant in
+    let i = c.loop-i.invariant in
     record { is = sym i.rest ∙ residuals_end _ _ _ _ _ _ _ (omega arith); core = i.core; least = i.least; most = omega arith }
 
 pub residual_indices_spec : {M : Type 1} → statement M

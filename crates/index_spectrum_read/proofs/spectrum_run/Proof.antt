@@ -34,8 +34,8 @@ ec_dec_icdf8_run_requires c κs =
 residual_indices_requires : tie.Need-residual_indices-requires
 residual_indices_requires c κs =
     let z = c.before.before.before.before.before.before.before.before in
-    let a = c.before.before.before.before.ec-dec-icdf8-run in
-    let s : length c.before.before.selectors_run-s.result ≡ 8 = search rules in
+    let a = c.ec_dec_icdf8_run-a in
+    let s : length c.selectors_run-s.result ≡ 8 = search rules in
     let o = c.order_of.ensures in (
       record { core = a.ensures.core; few = omega (arith, a.ensures.most, z.requires.reading.few); rows = z.requires.reading.rows },
       (z.requires.rate.0, omega (arith, o, order_most z.args.khz), omega (arith, o, order_most z.args.khz)),
@@ -45,13 +45,13 @@ returns : tie.Need-returns
 unfolding spectrum
 returns c =
     let z = c.before.before.before.before.before.before.before.before.before in
-    let a = c.before.before.before.before.before.ec-dec-icdf8-run in
-    let s = c.before.before.before.selectors-run in
+    let a = c.ec_dec_icdf8_run-a in
+    let s = c.selectors_run-s in
     let t = first_index_row z.requires.reading.rows _ (below_four z) in
     let w : to_z w8 a.result.value ≡ pos a.result.value = to_z_pos w8 {n = a.result.value} (omega (arith, a.ensures.inside, t.size)) in
     let x = with_nlsf z.args.x 0 (pos a.result.value) in
     let e = residuals_picked z.args.khz s.result _ (book_of z.args.khz).order 0 x (λ j l. s.ensures j (omega arith)) in
-    ran_ask {n = 512} t.is a.ensures (rw (w, c.before.order_of.ensures, e) at c.residual_indices.ensures)
+    ran_ask {n = 512} t.is a.ensures (rw (w, c.order_of.ensures, e) at c.residual_indices.ensures)
 
 pub spectrum_run_spec : {M : Type 1} → statement M
 spectrum_run_spec =

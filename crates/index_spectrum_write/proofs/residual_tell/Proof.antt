@@ -37,13 +37,13 @@ ec_enc_icdf8_run_requires c κs =
 extension_said_requires : tie.Need-extension_said-requires
 extension_said_requires c κs =
     let z = c.before.before.before.before.before.before.before.before.before in
-    rw (z_is z) (low_end z.args.z (rw (z_is z) at c.before.before.before.before.before.before.if-z-leminus4.true), z.requires.k_bound.1)
+    rw (z_is z) (low_end z.args.z (rw (z_is z) at c.if-z-leminus4.true), z.requires.k_bound.1)
 
 ec_enc_icdf8_run_requires_2 : tie.Need-ec_enc_icdf8_run-requires
 ec_enc_icdf8_run_requires_2 c κs =
     let z = c.before.before.before.before.before.before.before.before.before.before.before in
-    let a = c.before.before.before.before.before.ec-enc-icdf8-run in
-    let e : c.before.extension_said.result ≡ extension_said z.args.z = rw (z_is z) at c.before.extension_said.ensures in
+    let a = c.ec_enc_icdf8_run-q in
+    let e : c.extension_said.result ≡ extension_said z.args.z = rw (z_is z) at c.extension_said.ensures in
     let t = extension_row z.requires.writing.rows in
     (a.ensures.core, (omega (arith, a.ensures.most, z.requires.writing.few), (t.good, t.writable _ (omega (arith, e, z.requires.k_bound.1)))))
 
@@ -51,10 +51,10 @@ returns : tie.Need-returns-then-z-leminus4
 unfolding residual
 returns c =
     let z = c.before.before.before.before.before.before.before.before.before.before.before.before.before.before in
-    let a = c.before.before.before.before.before.before.before.before.ec-enc-icdf8-run in
-    let b = c.before.before.ec-enc-icdf8-run2 in
-    let x = c.before.before.before.before.extension-said in
-    let i = c.before.before.before.before.before.before.before.before.before.before.before.if1 in
+    let a = c.ec_enc_icdf8_run-q in
+    let b = c.ec_enc_icdf8_run in
+    let x = c.extension_said in
+    let i = c.if-z-leminus4 in
     let l : le_z z.args.z (negsuc 3) ≡ true = rw (z_is z) at i.true in
     let f : 0 ≡ residual_said z.args.z = rw l in
     let e : x.result ≡ extension_said z.args.z = rw (z_is z) at x.ensures in
@@ -70,13 +70,13 @@ ec_enc_icdf8_run_requires_3 c κs =
 extension_said_requires_2 : tie.Need-extension_said-requires-then-z-ge4
 extension_said_requires_2 c κs =
     let z = c.before.before.before.before.before.before.before.before.before.before in
-    rw (z_is z) (high_end z.args.z (rw (z_is z) at c.before.before.before.before.before.before.if-z-ge4.true), z.requires.k_bound.1)
+    rw (z_is z) (high_end z.args.z (rw (z_is z) at c.if-z-ge4.true), z.requires.k_bound.1)
 
 ec_enc_icdf8_run_requires_4 : tie.Need-ec_enc_icdf8_run-requires-then-z-ge4
 ec_enc_icdf8_run_requires_4 c κs =
     let z = c.before.before.before.before.before.before.before.before.before.before.before.before in
-    let a = c.before.before.before.before.before.ec-enc-icdf8-run3 in
-    let e : c.before.extension_said-then-z-ge4.result ≡ extension_said z.args.z = rw (z_is z) at c.before.extension_said-then-z-ge4.ensures in
+    let a = c.ec_enc_icdf8_run-q-then-z-ge4 in
+    let e : c.extension_said-then-z-ge4.result ≡ extension_said z.args.z = rw (z_is z) at c.extension_said-then-z-ge4.ensures in
     let t = extension_row z.requires.writing.rows in
     (a.ensures.core, (omega (arith, a.ensures.most, z.requires.writing.few), (t.good, t.writable _ (omega (arith, e, z.requires.k_bound.1)))))
 
@@ -84,11 +84,11 @@ returns_2 : tie.Need-returns-then-z-ge4
 unfolding residual
 returns_2 c =
     let z = c.before.before.before.before.before.before.before.before.before.before.before.before.before.before.before in
-    let a = c.before.before.before.before.before.before.before.before.ec-enc-icdf8-run3 in
-    let b = c.before.before.ec-enc-icdf8-run4 in
-    let x = c.before.before.before.before.extension-said2 in
-    let i = c.before.before.before.before.before.before.before.before.before.before.before.before.if1 in
-    let j = c.before.before.before.before.before.before.before.before.before.before.before.if2 in
+    let a = c.ec_enc_icdf8_run-q-then-z-ge4 in
+    let b = c.ec_enc_icdf8_run-then-z-ge4 in
+    let x = c.extension_said-then-z-ge4 in
+    let i = c.if-z-leminus4 in
+    let j = c.if-z-ge4 in
     let l : le_z z.args.z (negsuc 3) ≡ false = rw (z_is z) at i.false in
     let h : le_z (pos 4) z.args.z ≡ true = rw (z_is z) at j.true in
     let f : 8 ≡ residual_said z.args.z = rw (l, h) in
@@ -100,16 +100,16 @@ ec_enc_icdf8_run_requires_5 : tie.Need-ec_enc_icdf8_run-requires-2
 ec_enc_icdf8_run_requires_5 c κs =
     let z = c.before.before.before.before.before.before.before in
     let t = residual_row z.requires.writing.rows z.args.k z.requires.k_bound.0 in
-    (z.requires.writing.core, (omega (arith, z.requires.writing.few), (t.good, t.writable _ (omega (arith, c.before.centred_said.ensures.2)))))
+    (z.requires.writing.core, (omega (arith, z.requires.writing.few), (t.good, t.writable _ (omega (arith, c.centred_said.ensures.2)))))
 
 returns_3 : tie.Need-returns
 unfolding residual
 returns_3 c =
     let z = c.before.before.before.before.before.before.before.before.before.before in
-    let a = c.before.before.ec-enc-icdf8-run5 in
-    let v = c.before.before.before.before.centred-said in
-    let i = c.before.before.before.before.before.before.before.if1 in
-    let j = c.before.before.before.before.before.before.if2 in
+    let a = c.ec_enc_icdf8_run-2 in
+    let v = c.centred_said in
+    let i = c.if-z-leminus4 in
+    let j = c.if-z-ge4 in
     let l : le_z z.args.z (negsuc 3) ≡ false = rw (z_is z) at i.false in
     let h : le_z (pos 4) z.args.z ≡ false = rw (z_is z) at j.false in
     let c : v.result ≡ nat_abs (z.args.z +ℤ pos 4) = rw (z_is z) at v.ensures.0 in

@@ -59,25 +59,25 @@ element_copy_out_residual_tell c =
 add_residual_tell_2 : tie.Need-overflow_add-base invariant_loop decreases_loop
 add_residual_tell_2 c =
     let z = c.before.before.before.before.before.before.before.before in
-    omega (arith, rate_most z.requires.rate.0, c.before.before.residual_pick_run-k.ensures)
+    omega (arith, rate_most z.requires.rate.0, c.residual_pick_run-k.ensures)
 
 residual_tell_requires : tie.Need-residual_tell-q-requires invariant_loop decreases_loop
 residual_tell_requires c κs =
     let z = c.before.before.before.before.before.before.before.before in
-    let l = c.before.before.before.before.loop in
-    let u = z.requires.by_index (l.i + 1) (omega arith) (omega (arith, c.before.before.before.loop-i-test.true)) in
+    let l = c.loop-i in
+    let u = z.requires.by_index (l.i + 1) (omega arith) (omega (arith, c.loop-i-test.true)) in
     let few : l.q.total ≤ 2 ^ 29 = omega (arith, z.requires.writing.few, l.invariant.told.most, l.invariant.to, z.requires.rate.2) in (
       record { core = l.invariant.told.core; few = few; rows = z.requires.writing.rows },
-      (omega (arith, rate_most z.requires.rate.0, c.before.before.residual_pick_run-k.ensures), rw (abs_kept w8 _ u (omega arith)) u),
+      (omega (arith, rate_most z.requires.rate.0, c.residual_pick_run-k.ensures), rw (abs_kept w8 _ u (omega arith)) u),
     )
 
 loop_again : tie.Need-loop-i-preserved invariant_loop decreases_loop
 loop_again c =
     let z = c.before.before.before.before.before.before.before.before.before.before.before in
-    let l = c.before.before.before.before.before.before.before.loop in
-    let a = c.before.before.residual-tell in
-    let p = c.before.before.before.before.before.residual-pick-run in
-    let i = c.before.before.before.before.before.before.loop-i-test.true in
+    let l = c.loop-i in
+    let a = c.residual_tell-q in
+    let p = c.residual_pick_run-k in
+    let i = c.loop-i-test.true in
     let v = get_or z.args.t4.nlsf (l.i + 1) (pos 0) in
     let u = z.requires.by_index (l.i + 1) (omega arith) (omega (arith, i)) in
     let m = z.args.selectors.now in
@@ -93,12 +93,12 @@ loop_again c =
     }
 
 same_length : tie.Need-shape_of-buf invariant_loop decreases_loop
-same_length c = c.before.loop-i.invariant.kept
+same_length c = c.loop-i.invariant.kept
 
 returns : tie.Need-returns invariant_loop decreases_loop
 returns c =
     let z = c.before.before.before.before.before in
-    let l = c.before.loop in
+    let l = c.loop-i in
     told_within (omega (arith, l.invariant.to, z.requires.rate.2))
     (midway_end l.invariant.told (residuals_told_end z.args.n l.i z.args.t4 z.args.khz z.args.selectors.now c.loop-i-test.false))
 

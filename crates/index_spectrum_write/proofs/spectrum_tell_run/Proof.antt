@@ -53,8 +53,8 @@ selectors_run_requires c κs = index_below c.before.before.before.before.before.
 residuals_tell_requires : tie.Need-residuals_tell-requires
 residuals_tell_requires c κs =
     let z = c.before.before.before.before.before.before.before.before.before.before.before.before in
-    let a = c.before.before.before.before.before.before.ec-enc-icdf8-run in
-    let s : length c.before.before.before.selectors_run-s.result ≡ 8 = search rules in
+    let a = c.ec_enc_icdf8_run-q in
+    let s : length c.selectors_run-s.result ≡ 8 = search rules in
     let o = c.order_of.ensures in (
       record { core = a.ensures.core; few = omega (arith, a.ensures.most, z.requires.writing.few); rows = z.requires.writing.rows },
       (
@@ -66,13 +66,13 @@ residuals_tell_requires c κs =
 returns : tie.Need-returns
 returns c =
     let z = c.before.before.before.before.before.before.before.before.before.before.before.before.before.before.before in
-    let a = c.before.before.before.before.before.before.before.before.before.ec-enc-icdf8-run in
-    let s = c.before.before.before.before.before.before.selectors-run in
-    let f = c.before.before.residuals-tell in
+    let a = c.ec_enc_icdf8_run-q in
+    let s = c.selectors_run-s in
+    let f = c.residuals_tell in
     let e = residuals_picked z.args.khz s.result _ (book_of z.args.khz).order 0 z.args.t4 (λ j l. s.ensures j (omega arith)) in
     spectrum_told {n = 512} z.args.khz z.args.signal z.args.t4 (nlsf_size z) z.requires.rate.2.index
     (first_index_row z.requires.writing.rows _ (below_four z)).is (ap nat_abs (index_is z)) a.ensures
-    (rw (c.before.before.before.order_of.ensures, e) at f.ensures)
+    (rw (c.order_of.ensures, e) at f.ensures)
 
 pub spectrum_tell_run_spec : {M : Type 1} → statement M
 spectrum_tell_run_spec =

@@ -53,7 +53,7 @@ abbrev tested : tie.After-value_at_run-prevlag → tie.Then-whole
 tested v = v.before.before.before.before.before.before
 
 is_whole : (t : tie.Then-whole) → whole (start t).args.input.now ≡ true
-is_whole t = sym t.before.whole.ensures ∙ t.if-whole.true
+is_whole t = sym t.whole.ensures ∙ t.if-whole.true
 
 value_at_run_requires : tie.Need-value_at_run-prevlag-requires
 value_at_run_requires c κs =
@@ -75,14 +75,14 @@ returns c =
     let s = (start t).args.input.now in
     let e =
     same s t1.number_at-khz.ensures t2.number_at-subframes.ensures t3.number_at-active.ensures t4.number_at-mode.ensures
-    v.before.number_at-prevtype.ensures (to_z-of_z {w = w16} (sfits_of v.value-at-run.type-inv) ∙ v.value_at_run-prevlag.ensures) in
-    printed_put (put_whole s (is_whole t) e c.put_read.ensures) (omega (arith, c.before.before.put_read-arg-1.given.0.1))
+    v.number_at-prevtype.ensures (to_z-of_z {w = w16} (sfits_of v.value-at-run.type-inv) ∙ v.value_at_run-prevlag.ensures) in
+    printed_put (put_whole s (is_whole t) e c.put_read.ensures) (omega (arith, c.put_read-arg-1.given.0.1))
 
 returns_2 : tie.Need-returns
 returns_2 c =
     let t = c.before.before in
-    let s = t.before.before.before.args.input.now in
-    printed_put (put_cut s (sym t.before.whole.ensures ∙ t.if-whole.false) c.put_cut_run.ensures) (search rules)
+    let s = t.args.input.now in
+    printed_put (put_cut s (sym t.whole.ensures ∙ t.if-whole.false) c.put_cut_run.ensures) (search rules)
 
 pub lister_text_spec : {M : Type 1} → statement M
 lister_text_spec =

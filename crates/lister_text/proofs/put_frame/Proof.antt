@@ -126,7 +126,7 @@ returns c =
     let p = take (16 * (counted o).blocks_of_run-n.result) o.zeros-pulses.result in
     let v = nat_abs (to_z w8 (of_z w8 a.a.indices.offset)) in
     let u = excitation_text a.packet.now a.a.state p a.khz a.subframes a.a.prevtype v in
-    put_as (put_then {u = u} i.put_indices_run-place.ensures c.before.before.before.put_pulses.ensures)
+    put_as (put_then {u = u} i.put_indices_run-place.ensures c.put_pulses.ensures)
     (same_text (indices_text a.khz a.subframes a.a.indices) a.packet.now a.a.state a.khz a.subframes (blanks o)
     z.pre.1.1.0 f)
     (omega arith)

@@ -34,7 +34,7 @@ returns c =
     let a = (start r).args in
     let q = decode_pulses a.packet.now a.d a.pulses.now a.f.khz a.f.subframes a.f.signal a.f.offset in
     let e = ap (λ (p : Pulsed). p.pulses) {y = q} r.silk_decode_pulses.ensures in
-    put_as c.before.before.put_pulses_run.ensures (ap₂ pulses_text {v = q.pulses} n.blocks_of_run-blocks.ensures e)
+    put_as c.put_pulses_run.ensures (ap₂ pulses_text {v = q.pulses} n.blocks_of_run-blocks.ensures e)
     (omega (arith, n.blocks_of_run-blocks.ensures, few (start r)))
 
 pub put_pulses_spec : {M : Type 1} → statement M

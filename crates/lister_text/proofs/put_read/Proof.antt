@@ -28,13 +28,13 @@ setting z = z.args.s
 reading : (r : tie.After-silk_decode_indices-a) → r.silk_decode_indices-a.result ≡ indices_of (start r).args.packet.now (setting (start r))
 reading r =
     let z = start r in
-    let d = ap (λ (a : Decoded). a.state) r.before.before.before.ec_dec_init.ensures in
-    r.silk_decode_indices-a.ensures ∙ ap₂ (λ (q : Dec) (x : Indices). decode_indices z.args.packet.now q x (setting z)) d r.before.blank.ensures
+    let d = ap (λ (a : Decoded). a.state) r.ec_dec_init.ensures in
+    r.silk_decode_indices-a.ensures ∙ ap₂ (λ (q : Dec) (x : Indices). decode_indices z.args.packet.now q x (setting z)) d r.blank.ensures
 
 accepted : (r : tie.After-silk_decode_indices-a) → r.silk_decode_indices-a.result.refusal ≡ 0 → Listable (setting (start r)) r.silk_decode_indices-a.result
 accepted r h =
     let z = start r in
-    let y : Bytes z.args.packet.now = λ i. omega (arith, r.before.before.before.before.shared_slice_known-1.given i) in
+    let y : Bytes z.args.packet.now = λ i. omega (arith, r.shared_slice_known-1.given i) in
     let e = ap (λ (a : IndicesRead). a.refusal) (reading r) in
     subst⁻¹ (Listable (setting z)) (reading r) (listable z.args.packet.now (setting z) y (sym e ∙ h))
 
@@ -49,15 +49,15 @@ refused b s a h = rw (ne_eqb a.refusal 0 h)
 put_frame_requires : tie.Need-put_frame-requires
 put_frame_requires c κs =
     let r = c.before.before.before in
-    let l = accepted r c.before.if-a-eq0.true in
+    let l = accepted r c.if-a-eq0.true in
     (search rules, ((l.rate, l.subframes), (l.signal, l.offset)))
 
 returns : tie.Need-returns-then-a-eq0
 returns c =
     let r = c.before.before.before.before.before.before in
     let z = start r in
-    put_as c.before.before.put_frame.ensures
-    (read z.args.packet.now (setting z) r.silk_decode_indices-a.result c.before.before.before.before.if-a-eq0.true
+    put_as c.put_frame.ensures
+    (read z.args.packet.now (setting z) r.silk_decode_indices-a.result c.if-a-eq0.true
     ∙ ap (read_text z.args.packet.now (setting z)) (reading r))
     (omega arith)
 
@@ -71,8 +71,8 @@ returns_2 : tie.Need-returns
 returns_2 c =
     let r = c.before.before.before.before.before.before in
     let z = start r in
-    put_as c.before.before.put_refused_run.ensures
-    (refused z.args.packet.now (setting z) r.silk_decode_indices-a.result c.before.before.before.before.if-a-eq0.false
+    put_as c.put_refused_run.ensures
+    (refused z.args.packet.now (setting z) r.silk_decode_indices-a.result c.if-a-eq0.false
     ∙ ap (read_text z.args.packet.now (setting z)) (reading r))
     (omega arith)
 

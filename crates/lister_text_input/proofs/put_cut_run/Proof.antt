@@ -12,7 +12,7 @@ nine : {l b : List ℕ} {n i : ℕ} → Put 15 l 0 (refused_text n) b i → n �
 nine t e = rw e at t
 
 returns : tie.Need-returns
-returns c = nine c.before.before.put_refused_run.ensures refl
+returns c = nine c.put_refused_run.ensures refl
 
 pub put_cut_run_spec : {M : Type 1} → statement M
 put_cut_run_spec = tie.close (tie.spec (λ c κs. search rules) (λ c. search rules) returns)

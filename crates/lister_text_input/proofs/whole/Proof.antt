@@ -20,7 +20,7 @@ returns : tie.Need-returns
 returns c =
     let b = c.before in
     let a = b.before in
-    tested a.before.before.args.input.now a.byte_at.ensures.0 b.byte_at-2.ensures.0 c.byte_at-3.ensures.0
+    tested a.args.input.now a.byte_at.ensures.0 b.byte_at-2.ensures.0 c.byte_at-3.ensures.0
 
 pub whole_spec : {M : Type 1} → statement M
 whole_spec =

@@ -17,6 +17,6 @@ put_counted_run_spec =
     (λ c. search rules) (λ c.
     let b = c.before.before.before.before.before.before in
     let s = b.before.before.before.before in
-    let a = s.before.before.before.before.before.args in
+    let a = s.args in
     let e = rw (to_z_pos w16 {n = length a.xs.now} (omega arith)) at s.put_start_run-place.ensures in
-    put_as (put_counted a.word.now a.xs.now e b.put_numbers_run-place.ensures c.before.before.put_byte_run.ensures) refl (omega arith)))
+    put_as (put_counted a.word.now a.xs.now e b.put_numbers_run-place.ensures c.put_byte_run.ensures) refl (omega arith)))

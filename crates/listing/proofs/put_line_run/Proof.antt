@@ -11,8 +11,8 @@ returns : tie.Need-returns
 unfolding line
 returns c =
     let b = c.before.before.before.before.before.before in
-    let a = b.before.before.before.before.args in
-    put_as (put_then b.put_start_run-place.ensures c.before.before.put_byte_run.ensures) (append_assoc a.word.now (spaced a.xs.now) (10 ∷ []))
+    let a = b.args in
+    put_as (put_then b.put_start_run-place.ensures c.put_byte_run.ensures) (append_assoc a.word.now (spaced a.xs.now) (10 ∷ []))
     (omega arith)
 
 pub put_line_run_spec : {M : Type 1} → statement M

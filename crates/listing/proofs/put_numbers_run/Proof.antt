@@ -30,24 +30,24 @@ loop_holds c = (search rules, search rules, put_none _ _)
 
 put_spaced_run_requires : tie.Need-put_spaced_run-place-requires invariant_loop decreases_loop
 put_spaced_run_requires c κs =
-    let p = c.before.before.before.loop-i.invariant.2 in
+    let p = c.loop-i.invariant.2 in
     omega (arith, p.behind, p.most)
 
 loop_again : tie.Need-loop-i-preserved invariant_loop decreases_loop
 loop_again c =
     let b = c.before.before.before.before.before.before in
-    let xs = b.before.before.args.xs.now in
+    let xs = b.args.xs.now in
     let i = b.loop-i.i in
-    let f : SFits w16 (get_or xs i (pos 0)) = sfits_of c.before.before.before.before.x-1.given in (
+    let f : SFits w16 (get_or xs i (pos 0)) = sfits_of c.x-1.given in (
       search rules,
       search rules,
-      put_as (put_then b.loop-i.invariant.2 (rw (to_z-of_z f) at c.before.before.put_spaced_run-place.ensures)) (spaced_more xs i (search rules)) (omega arith),
+      put_as (put_then b.loop-i.invariant.2 (rw (to_z-of_z f) at c.put_spaced_run-place.ensures)) (spaced_more xs i (search rules)) (omega arith),
     )
 
 returns : tie.Need-returns invariant_loop decreases_loop
 returns c =
     let b = c.before in
-    let xs = b.before.before.args.xs.now in
+    let xs = b.args.xs.now in
     let e : b.loop-i.i ≡ length xs = omega arith in
     put_as b.loop-i.invariant.2 (ap (λ (k : ℕ). spaced (take k xs)) e ∙ ap spaced (take-length xs)) (omega arith)
 

@@ -12,8 +12,8 @@ use Rattle.listing.proofs.put_refused_run.Tie as tie
 returns : tie.Need-returns
 unfolding ascii refused_text
 returns c =
-    let n = c.before.before.before.before.before.before.before.args.number in
-    put_as c.before.before.put_line_run.ensures (rw (to_z_pos w16 {n = n} (omega arith))) (omega arith)
+    let n = c.args.number in
+    put_as c.put_line_run.ensures (rw (to_z_pos w16 {n = n} (omega arith))) (omega arith)
 
 pub put_refused_run_spec : {M : Type 1} → statement M
 put_refused_run_spec =

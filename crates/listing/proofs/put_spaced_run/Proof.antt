@@ -8,7 +8,7 @@ use Rattle.listing.proofs.put_spaced_run.Tie as tie
 returns : tie.Need-returns
 returns c =
     let b = c.before.before.before.before.before.before in
-    put_then b.put_byte_run-place.ensures (rw (to_z-of_z b.before.before.before.ranges.x) at c.before.before.put_number_run.ensures)
+    put_then b.put_byte_run-place.ensures (rw (to_z-of_z b.ranges.x) at c.put_number_run.ensures)
 
 pub put_spaced_run_spec : {M : Type 1} → statement M
 put_spaced_run_spec =

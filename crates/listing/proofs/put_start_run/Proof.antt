@@ -6,7 +6,7 @@ use Rattle.listing.proofs.put_start_run.Tie as tie
 
 returns : tie.Need-returns
 returns c =
-    put_then c.before.before.before.before.before.before.put_word_run-place.ensures c.before.before.put_numbers_run.ensures
+    put_then c.put_word_run-place.ensures c.put_numbers_run.ensures
 
 pub put_start_run_spec : {M : Type 1} → statement M
 put_start_run_spec =

@@ -24,23 +24,23 @@ loop_holds c = (search rules, search rules, put_none _ _)
 
 put_byte_run_requires : tie.Need-put_byte_run-place-requires invariant_loop decreases_loop
 put_byte_run_requires c κs =
-    let p = c.before.before.before.loop-i.invariant.2 in
+    let p = c.loop-i.invariant.2 in
     omega (arith, p.behind, p.most)
 
 loop_again : tie.Need-loop-i-preserved invariant_loop decreases_loop
 loop_again c =
     let b = c.before.before.before.before.before.before in
-    let w = b.before.before.before.args.word.now in
+    let w = b.args.word.now in
     let i = b.loop-i.i in (
       search rules,
       search rules,
-      put_as (put_then b.loop-i.invariant.2 c.before.before.put_byte_run-place.ensures) (sym (rw add-one (take-suc w i 0 (search rules)))) (omega arith),
+      put_as (put_then b.loop-i.invariant.2 c.put_byte_run-place.ensures) (sym (rw add-one (take-suc w i 0 (search rules)))) (omega arith),
     )
 
 returns : tie.Need-returns invariant_loop decreases_loop
 returns c =
     let b = c.before in
-    let w = b.before.before.before.args.word.now in
+    let w = b.args.word.now in
     let e : b.loop-i.i ≡ length w = omega arith in
     put_as b.loop-i.invariant.2 (ap (λ (k : ℕ). take k w) e ∙ take-length w) (omega arith)
 

@@ -27,29 +27,29 @@ as_natural (pos n) d u = (tt, omega arith)
 as_natural (negsuc n) d u = absurd (omega arith)
 
 -- the indices behind the reading of the first: 17 numbers of 8 bits, of an accepted call
-first_fits : (b : tie.After-v-1) → SFits w8 (at b.before.args.t2 0)
+first_fits : (b : tie.After-v-1) → SFits w8 (at b.args.t2 0)
 first_fits b = sfits_of b.v-1.given
 
-all_there : (b : tie.After-v-1) → length b.before.args.t2 ≡ 17
+all_there : (b : tie.After-v-1) → length b.args.t2 ≡ 17
 all_there b = search rules
 
-taken : (b : tie.After-v-1) → let a = b.before.args in Accepted a.vector.now a.t2 a.khz
-taken b = let a = b.before.args in decode_accepted a.vector.now a.t2 a.khz b.before.requires
+taken : (b : tie.After-v-1) → let a = b.args in Accepted a.vector.now a.t2 a.khz
+taken b = let a = b.args in decode_accepted a.vector.now a.t2 a.khz b.requires
 
 cast_v : tie.Need-overflow_cast-v
-cast_v c = rw (to_z-of_z (first_fits c)) (as_natural (at c.before.args.t2 0) (taken c).first0 (taken c).first)
+cast_v c = rw (to_z-of_z (first_fits c)) (as_natural (at c.args.t2 0) (taken c).first0 (taken c).first)
 
 -- what the arm of a book asks, and that its answer is the call's
-asks : (b : tie.After-v-1) {k : Book} {n : ℕ} → let a = b.before.args in Under a.khz k n
+asks : (b : tie.After-v-1) {k : Book} {n : ℕ} → let a = b.args in Under a.khz k n
     → Indexed n a.vector.now (nat_abs (to_z w8 (of_z w8 (at a.t2 0)))) (take n (drop 1 a.t2))
 asks b u =
-    let a = b.before.args in
+    let a = b.args in
     rw (to_z-of_z (first_fits b)) (indexed u a.t2 a.vector.now (all_there b) (taken b))
 
-answers : (b : tie.After-v-1) {k : Book} {n : ℕ} {s : Stable} → let a = b.before.args in Under a.khz k n
+answers : (b : tie.After-v-1) {k : Book} {n : ℕ} {s : Stable} → let a = b.args in Under a.khz k n
     → s ≡ spectrum_of k (nat_abs (to_z w8 (of_z w8 (at a.t2 0)))) (take n (drop 1 a.t2))
     → s ≡ decoded (book_of a.khz) a.t2
-answers b u e = (rw (to_z-of_z (first_fits b)) at e) ∙ decoded_as u b.before.args.t2 (taken b).first0
+answers b u e = (rw (to_z-of_z (first_fits b)) at e) ∙ decoded_as u b.args.t2 (taken b).first0
 
 pub decode_spec : {M : Type 1} → statement M
 decode_spec =
@@ -60,16 +60,16 @@ decode_spec =
     (λ c. search rules)
     (λ c. search rules)
     (λ c. search rules)
-    (λ c κs. let t = c.before.before.before in asks t.before (wide_under t.before.before.args.khz t.if-khz-eq16.true))
+    (λ c κs. let t = c.before.before.before in asks t.before (wide_under t.args.khz t.if-khz-eq16.true))
     (λ c. search rules)
     (λ c.
     let t = c.before.before.before.before.before in
-    answers t.before (wide_under t.before.before.args.khz t.if-khz-eq16.true) c.before.wide_run.ensures)
+    answers t.before (wide_under t.args.khz t.if-khz-eq16.true) c.wide_run.ensures)
     (λ c. search rules)
     (λ c. search rules)
     (λ c. search rules)
-    (λ c κs. let t = c.before.before.before in asks t.before (narrow_under t.before.before.args.khz t.if-khz-eq16.false))
+    (λ c κs. let t = c.before.before.before in asks t.before (narrow_under t.args.khz t.if-khz-eq16.false))
     (λ c. search rules)
     (λ c.
     let t = c.before.before.before.before.before in
-    answers t.before (narrow_under t.before.before.args.khz t.if-khz-eq16.false) c.before.narrow_run.ensures))
+    answers t.before (narrow_under t.args.khz t.if-khz-eq16.false) c.narrow_run.ensures))

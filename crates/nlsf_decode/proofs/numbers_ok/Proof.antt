@@ -11,8 +11,8 @@ use Rattle.nlsf_decode.proofs.numbers_ok.Tie as tie
 returns : tie.Need-returns
 unfolding numbers_ok
 returns c =
-    let f : SFits w8 (at c.before.before.args.t1 0) = sfits_of c.first-1.given in
-    rw (to_z-of_z f, c.before.places_ok-small.ensures)
+    let f : SFits w8 (at c.args.t1 0) = sfits_of c.first-1.given in
+    rw (to_z-of_z f, c.places_ok-small.ensures)
 
 pub numbers_ok_spec : {M : Type 1} → statement M
 numbers_ok_spec = tie.close (tie.spec (λ c κs. search rules) (λ c. search rules) returns)

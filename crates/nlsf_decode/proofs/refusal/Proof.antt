@@ -9,16 +9,16 @@ use Rattle.nlsf_decode.proofs.refusal.Tie as tie
 returns : tie.Need-returns-then-vector-order_of
 unfolding decode_refusal
 returns c =
-    rw (sym c.before.before.before.numbers_ok.ensures ∙ c.before.before.if-numbers_ok.true, eq-eqb _ _ (c.if-vector-order_of.true ∙ c.before.order_of.ensures))
+    rw (sym c.numbers_ok.ensures ∙ c.if-numbers_ok.true, eq-eqb _ _ (c.if-vector-order_of.true ∙ c.order_of.ensures))
 
 returns_2 : tie.Need-returns-else-vector-order_of
 unfolding decode_refusal
 returns_2 c =
-    rw (sym c.before.before.before.numbers_ok.ensures ∙ c.before.before.if-numbers_ok.true, ne_eqb _ _ (λ h. c.if-vector-order_of.false (h ∙ sym c.before.order_of.ensures)))
+    rw (sym c.numbers_ok.ensures ∙ c.if-numbers_ok.true, ne_eqb _ _ (λ h. c.if-vector-order_of.false (h ∙ sym c.order_of.ensures)))
 
 returns_3 : tie.Need-returns-else-numbers_ok
 unfolding decode_refusal
-returns_3 c = rw (sym c.before.numbers_ok.ensures ∙ c.if-numbers_ok.false)
+returns_3 c = rw (sym c.numbers_ok.ensures ∙ c.if-numbers_ok.false)
 
 pub refusal_spec : {M : Type 1} → statement M
 refusal_spec =

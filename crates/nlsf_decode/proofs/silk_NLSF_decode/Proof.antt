@@ -8,20 +8,20 @@ use Rattle.nlsf_decode.proofs.silk_NLSF_decode.Statement.{statement}
 use Rattle.nlsf_decode.proofs.silk_NLSF_decode.Tie as tie
 
 decode_requires : tie.Need-decode-m-requires
-decode_requires c κs = sym c.before.before.refusal-n.ensures ∙ c.before.if-n-eq0.true
+decode_requires c κs = sym c.refusal-n.ensures ∙ c.if-n-eq0.true
 
 returns : tie.Need-returns-then-n-eq0
 returns c =
     let b = c.before.before.before.before in
-    let a = b.before.before.before.args in
-    decode_answers a.vector.now a.indices a.khz c.before.decode-m.new.0 c.before.decode-m.result
-    (sym b.refusal-n.ensures ∙ c.before.before.before.if-n-eq0.true)
-    c.before.decode-m.ensures
+    let a = b.args in
+    decode_answers a.vector.now a.indices a.khz c.decode-m.new.0 c.decode-m.result
+    (sym b.refusal-n.ensures ∙ c.if-n-eq0.true)
+    c.decode-m.ensures
 
 returns_2 : tie.Need-returns-else-n-eq0
 returns_2 c =
-    let a = c.before.before.before.before.args in
-    let e = c.before.refusal-n.ensures in
+    let a = c.args in
+    let e = c.refusal-n.ensures in
     ap (λ (n : ℕ). called a.vector.now n 0) e
     ∙ decode_refuses a.vector.now a.indices a.khz (λ h. c.if-n-eq0.false (e ∙ h))
 

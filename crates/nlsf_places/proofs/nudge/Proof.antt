@@ -53,11 +53,11 @@ module _ (x : ℤ) (f : SFits w8 x) where
   product = rw reads (to_z-of_z times)
 
 -- what the machine adds
-sums : (c : tie.After-toward_zero) → let x = c.before.args.x in
+sums : (c : tie.After-toward_zero) → let x = c.args.x in
     to_z w32 (of_z w32 (to_z w32 (of_z w32 (to_z w8 (of_z w8 x))) *ℤ pos 1024)) +ℤ to_z w32 (of_z w32 c.toward_zero.result) ≡ x *ℤ pos 1024 +ℤ toward_zero x
 sums c =
-    let x = c.before.args.x in
-    let f = c.before.ranges.x in
+    let x = c.args.x in
+    let f = c.ranges.x in
     let e : c.toward_zero.result ≡ toward_zero x = rw (to_z-of_z f) at c.toward_zero.ensures in
     rw (product x f, to_z-of_z {w = w32} (sfits_of c.toward_zero.type-inv), e)
 
@@ -68,12 +68,12 @@ mul_result : tie.Need-overflow_mul-result
 mul_result c = rw (reads c.args.x c.ranges.x) (times c.args.x c.ranges.x)
 
 add_result : tie.Need-overflow_add-result
-add_result c = rw (sums c) (sum c.before.args.x c.before.ranges.x)
+add_result c = rw (sums c) (sum c.args.x c.ranges.x)
 
 returns : tie.Need-returns
 returns c =
-    let x = c.before.args.x in
-    rw (sums c, to_z-of_z (sum x c.before.ranges.x)) (summed x)
+    let x = c.args.x in
+    rw (sums c, to_z-of_z (sum x c.ranges.x)) (summed x)
 
 pub nudge_spec : {M : Type 1} → statement M
 nudge_spec = tie.close (tie.spec cast_result mul_result (λ c κs. search rules) add_result returns)

@@ -22,8 +22,8 @@ number value weight r = quot_z (r *ℤ pos 16384) (pos weight) +ℤ pos (value *
 
 -- what the machine holds
 reads : (c : tie.After-moved-z)
-    → to_z w32 (of_z w32 c.moved-z.result) ≡ number c.before.args.value c.before.args.weight c.before.args.r
-reads c = to_z-of_z {w = w32} (sfits_of c.moved.type-inv) ∙ (rw (to_z-of_z c.before.ranges.r) at c.moved-z.ensures)
+    → to_z w32 (of_z w32 c.moved-z.result) ≡ number c.args.value c.args.weight c.args.r
+reads c = to_z-of_z {w = w32} (sfits_of c.moved.type-inv) ∙ (rw (to_z-of_z c.ranges.r) at c.moved-z.ensures)
 
 inside : (z : ℤ) → lt_z (pos 32767) z ≡ false → lt_z z (pos 0) ≡ false → SFits w16 z
 inside z e f =
@@ -32,29 +32,29 @@ inside z e f =
 returns : tie.Need-returns-then-z-gt32767
 unfolding placed
 returns c =
-    let a = c.before.before.args in
+    let a = c.args in
     held_hi (pos 0) (pos 32767) (number a.value a.weight a.r) (rw (reads c.before) at c.if-z-gt32767.true)
 
 returns_2 : tie.Need-returns-then-z-lt0
 unfolding placed
 returns_2 c =
-    let a = c.before.before.before.args in
+    let a = c.args in
     let e = reads c.before.before in
-    held_lo (pos 0) (pos 32767) (number a.value a.weight a.r) (rw e at c.before.if-z-gt32767.false) (rw e at c.if-z-lt0.true)
+    held_lo (pos 0) (pos 32767) (number a.value a.weight a.r) (rw e at c.if-z-gt32767.false) (rw e at c.if-z-lt0.true)
 
 cast_result : tie.Need-overflow_cast-result
 cast_result c =
-    let a = c.before.before.before.args in
+    let a = c.args in
     let e = reads c.before.before in
-    rw e (inside (number a.value a.weight a.r) (rw e at c.before.if-z-gt32767.false) (rw e at c.if-z-lt0.false))
+    rw e (inside (number a.value a.weight a.r) (rw e at c.if-z-gt32767.false) (rw e at c.if-z-lt0.false))
 
 returns_3 : tie.Need-returns
 unfolding placed
 returns_3 c =
-    let a = c.before.before.before.args in
+    let a = c.args in
     let e = reads c.before.before in
     let z = number a.value a.weight a.r in
-    let o : lt_z (pos 32767) z ≡ false = rw e at c.before.if-z-gt32767.false in
+    let o : lt_z (pos 32767) z ≡ false = rw e at c.if-z-gt32767.false in
     let u : lt_z z (pos 0) ≡ false = rw e at c.if-z-lt0.false in
     rw (e, to_z-of_z (inside z o u)) (held_own (pos 0) (pos 32767) z o u)
 

@@ -118,7 +118,7 @@ fitting b =
     near (lent s) s.args.vector.now s.args.xs.now s.pre
     (λ i.
     let l = list_of (get_or s.args.selectors.now (i / 2) 0) i in
-    omega (arith, b.before.before.before.before.before.before.shared_slice_known-2-1.given (2 * i + l)))
+    omega (arith, b.shared_slice_known-2-1.given (2 * i + l)))
 
 -- the residual that the machine has at the odd place
 odd_residual : (c : tie.After-residual-r invariant_loop decreases_loop) → let b = head c in
@@ -130,8 +130,8 @@ odd_residual c =
     let k = b.loop-k.k - 1 in
     let j = 2 * k + 1 in
     let x = at s.args.xs.now j in
-    let f : SFits w8 x = sfits_of c.before.before.residual-arg-1.given in
-    let l : c.before.predictor.result ≡ predictor_of t.lists (get_or t.selectors k 0 / 16 % 2) j = c.before.predictor.ensures in
+    let f : SFits w8 x = sfits_of c.residual-arg-1.given in
+    let l : c.predictor.result ≡ predictor_of t.lists (get_or t.selectors k 0 / 16 % 2) j = c.predictor.ensures in
     let p = l ∙ odd_by t.selectors t.lists k in
     let r = to_z w32 b.loop-k.r in
     let g = scaled s.args.step x in
@@ -144,7 +144,7 @@ last_share_run_requires : tie.Need-last_share_run-q-requires invariant_loop decr
 last_share_run_requires c κs =
     let s = c.before.before.before.before.before.before in
     let o = s.requires in
-    (c.before.before.shares-shares.ensures, (omega (arith, o.some, o.book), o.rising))
+    (c.shares-shares.ensures, (omega (arith, o.some, o.book), o.rising))
 
 loop_holds : tie.Need-loop-k-init invariant_loop decreases_loop
 loop_holds c =
@@ -173,7 +173,7 @@ residual_requires c κs =
     let s = start b in
     let j = 2 * (b.loop-k.k - 1) + 1 in
     let x = at s.args.xs.now j in
-    let f : SFits w8 x = sfits_of c.before.residual-arg-1.given in
+    let f : SFits w8 x = sfits_of c.residual-arg-1.given in
     let w = within_at 10 10 s.args.xs.now s.pre.tens j in
     let n : Mag 29200 (to_z w32 b.loop-k.r) = rw b.loop-k.invariant.left (fitting b (2 * b.loop-k.k)) in
     rw (to_z-of_z f) (((w.1, w.0), s.pre.small), n)
@@ -184,8 +184,8 @@ weigh_run_requires c κs =
     let s = start b in
     let e : 2 * b.loop-k.k ≡ suc (2 * (b.loop-k.k - 1) + 1) = omega arith in
     record {
-      shares = b.before.before.before.before.shares-shares.ensures;
-      roots = b.before.before.before.roots-roots.ensures;
+      shares = b.shares-shares.ensures;
+      roots = b.roots-roots.ensures;
       rising = s.pre.rising;
       inside = omega (arith, s.pre.book, b.loop-k.invariant.here);
       behind = b.loop-k.invariant.share ∙ ap (share_at s.args.values.now) e;
@@ -197,7 +197,7 @@ place_requires c κs =
     let b = head d in
     let j = 2 * (b.loop-k.k - 1) + 1 in
     let w = (start b).pre.heavy j (omega (arith, b.loop-k.inv.here)) in
-    (rw (odd_residual d) (fitting b j), omega (arith, c.before.weigh_run-w.ensures.weight_value, w))
+    (rw (odd_residual d) (fitting b j), omega (arith, c.weigh_run-w.ensures.weight_value, w))
 
 -- behind the odd place
 midway : (c : tie.After-place invariant_loop decreases_loop) → let d = odd_res c in
@@ -206,12 +206,12 @@ midway : (c : tie.After-place invariant_loop decreases_loop) → let d = odd_res
     let j = 2 * (b.loop-k.k - 1) + 1 in
     let v = set b.loop-k.vector j (to_z w16 (of_z w16 c.place.result)) in
     let r = to_z w32 (of_z w32 d.residual-r.result) in
-    Came (lent s) s.args.vector.now s.args.xs.now v r c.before.before.weigh_run-w.result.share j
+    Came (lent s) s.args.vector.now s.args.xs.now v r c.weigh_run-w.result.share j
 midway c =
     let d = odd_res c in
     let b = head d in
     let s = start b in
-    let w = c.before.before.weigh-run in
+    let w = c.weigh_run-w in
     let j = 2 * (b.loop-k.k - 1) + 1 in
     let r = odd_residual d in
     let p = puts (lent s) s.args.vector.now s.args.xs.now s.pre j (omega (arith, b.loop-k.inv.here)) in
@@ -232,8 +232,8 @@ even_residual c =
     let i = 2 * k in
     let x = at s.args.xs.now i in
     let r = to_z w32 (of_z w32 d.residual-r.result) in
-    let f : SFits w8 x = sfits_of c.before.before.residual-arg-in-loop-k-1.given in
-    let l : c.before.predictor-in-loop-k.result ≡ predictor_of t.lists (get_or t.selectors k 0 % 2) i = c.before.predictor-in-loop-k.ensures in
+    let f : SFits w8 x = sfits_of c.residual-arg-in-loop-k-1.given in
+    let l : c.predictor-in-loop-k.result ≡ predictor_of t.lists (get_or t.selectors k 0 % 2) i = c.predictor-in-loop-k.ensures in
     let p = l ∙ even_by t.selectors t.lists k in
     let g = scaled s.args.step x in
     to_z-of_z {w = w32} (sfits_of c.residual2.type-inv)
@@ -254,7 +254,7 @@ residual_requires_2 c κs =
     let s = start b in
     let i = 2 * (b.loop-k.k - 1) in
     let x = at s.args.xs.now i in
-    let f : SFits w8 x = sfits_of c.before.residual-arg-in-loop-k-1.given in
+    let f : SFits w8 x = sfits_of c.residual-arg-in-loop-k-1.given in
     let w = within_at 10 10 s.args.xs.now s.pre.tens i in
     let n : Mag 29200 (to_z w32 (of_z w32 (odd_res m).residual-r.result)) = rw (midway m).left (fitting b (i + 1)) in
     rw (to_z-of_z f) (((w.1, w.0), s.pre.small), n)
@@ -265,8 +265,8 @@ weigh_run_requires_2 c κs =
     let b = head (odd_res m) in
     let s = start b in
     record {
-      shares = b.before.before.before.before.shares-shares.ensures;
-      roots = b.before.before.before.roots-roots.ensures;
+      shares = b.shares-shares.ensures;
+      roots = b.roots-roots.ensures;
       rising = s.pre.rising;
       inside = omega (arith, s.pre.book, b.loop-k.inv.here);
       behind = (midway m).share ∙ ap (share_at s.args.values.now) (omega arith);
@@ -279,7 +279,7 @@ place_requires_2 c κs =
     let o = (start b).pre in
     let i = 2 * (b.loop-k.k - 1) in
     let w = o.heavy i (omega (arith, o.some, b.loop-k.inv.here)) in
-    (rw (even_residual d) (fitting b i), omega (arith, c.before.weigh_run-u.ensures.weight_value, w))
+    (rw (even_residual d) (fitting b i), omega (arith, c.weigh_run-u.ensures.weight_value, w))
 
 loop_again : tie.Need-loop-k-preserved invariant_loop decreases_loop
 loop_again c =
@@ -287,7 +287,7 @@ loop_again c =
     let m = odd d in
     let b = head (odd_res m) in
     let s = start b in
-    let w = c.before.before.weigh-run2 in
+    let w = c.weigh_run-u in
     let i = 2 * (b.loop-k.k - 1) in
     let r = even_residual d in
     let p = puts (lent s) s.args.vector.now s.args.xs.now s.pre i (omega (arith, b.loop-k.inv.here)) in
@@ -322,7 +322,7 @@ write_even c =
     omega (arith, (midway m).done.long, (start b).pre.some, b.loop-k.inv.here)
 
 loop_less : tie.Need-loop-k-smaller invariant_loop decreases_loop
-loop_less c = omega (arith, (odd_res (odd (even_res c))).before.before.before.before.loop-k-test.taken)
+loop_less c = omega (arith, (odd_res (odd (even_res c))).loop-k-test.taken)
 
 pub places_run_spec : {M : Type 1} → statement M
 places_run_spec =

@@ -22,15 +22,15 @@ fits c =
     parts_fit (s +ℤ t) (omega (arith, up_sum s t, a.0, b.0)) (omega (arith, down_sum s t, a.1, b.1))
 
 -- what the machine adds
-sums : (c : tie.After-scale) → to_z w32 (of_z w32 c.before.predict.result) +ℤ to_z w32 (of_z w32 c.scale.result)
-    ≡ predicted c.before.before.args.p c.before.before.args.behind +ℤ scaled c.before.before.args.step
-    c.before.before.args.x
+sums : (c : tie.After-scale) → to_z w32 (of_z w32 c.predict.result) +ℤ to_z w32 (of_z w32 c.scale.result)
+    ≡ predicted c.args.p c.args.behind +ℤ scaled c.args.step
+    c.args.x
 sums c =
-    let a = c.before.before.args in
-    let f = c.before.before.ranges in
-    let e : c.before.predict.result ≡ predicted a.p a.behind = rw (to_z-of_z f.behind) at c.before.predict.ensures in
+    let a = c.args in
+    let f = c.ranges in
+    let e : c.predict.result ≡ predicted a.p a.behind = rw (to_z-of_z f.behind) at c.predict.ensures in
     let g : c.scale.result ≡ scaled a.step a.x = rw (to_z-of_z f.x) at c.scale.ensures in
-    rw (to_z-of_z {w = w32} (sfits_of c.before.predict.type-inv), to_z-of_z {w = w32} (sfits_of c.scale.type-inv), e, g)
+    rw (to_z-of_z {w = w32} (sfits_of c.predict.type-inv), to_z-of_z {w = w32} (sfits_of c.scale.type-inv), e, g)
 
 add_result : tie.Need-overflow_add-result
 add_result c = rw (sums c) (fits c.before.before)

@@ -20,10 +20,10 @@ product c =
 
 -- what the machine multiplies
 reads : (c : tie.After-nudge)
-    → to_z w32 (of_z w32 c.nudge.result) *ℤ to_z w32 c.before.args.step ≡ nudged c.before.args.x *ℤ pos c.before.args.step
+    → to_z w32 (of_z w32 c.nudge.result) *ℤ to_z w32 c.args.step ≡ nudged c.args.x *ℤ pos c.args.step
 reads c =
-    let e : c.nudge.result ≡ nudged c.before.args.x = rw (to_z-of_z c.before.ranges.x) at c.nudge.ensures in
-    rw (to_z-of_z {w = w32} (sfits_of c.nudge.type-inv), e, to_z_pos w32 {n = c.before.args.step} (omega arith))
+    let e : c.nudge.result ≡ nudged c.args.x = rw (to_z-of_z c.ranges.x) at c.nudge.ensures in
+    rw (to_z-of_z {w = w32} (sfits_of c.nudge.type-inv), e, to_z_pos w32 {n = c.args.step} (omega arith))
 
 mul_result : tie.Need-overflow_mul-result
 mul_result c = rw (reads c) (product c.before)
@@ -32,7 +32,7 @@ returns : tie.Need-returns
 unfolding scaled
 returns c =
     let p = product c.before in
-    rw (reads c, to_z-of_z p) (to_z-of_z {w = w32} (shr_fits (nudged c.before.args.x *ℤ pos c.before.args.step) 65536 p))
+    rw (reads c, to_z-of_z p) (to_z-of_z {w = w32} (shr_fits (nudged c.args.x *ℤ pos c.args.step) 65536 p))
 
 pub scale_spec : {M : Type 1} → statement M
 scale_spec = tie.close (tie.spec (λ c κs. search rules) (λ c. search rules) mul_result returns)

@@ -22,7 +22,7 @@ start q = q.before.before.before
 
 -- the lengths are right past that test, and the sum's sign is the gap set's rule
 lengths_right : (c : tie.Then-lengths_ok) → let a = (start c).args in lengths_ok a.vector.now a.gaps.now ≡ true
-lengths_right c = sym c.before.lengths_ok.ensures ∙ c.if-lengths_ok.true
+lengths_right c = sym c.lengths_ok.ensures ∙ c.if-lengths_ok.true
 
 -- that test, from behind the sum
 abbrev measured : tie.After-ruled_sum_run-sum → tie.Then-lengths_ok
@@ -47,7 +47,7 @@ returns : tie.Need-returns-then-stays_run
 returns c =
     let q = c.before.before.before in
     let a = (start q).args in
-    stays_answers a.vector.now a.gaps.now (lengths_right q) (sym c.before.stays_run.ensures ∙ c.if-stays_run.true)
+    stays_answers a.vector.now a.gaps.now (lengths_right q) (sym c.stays_run.ensures ∙ c.if-stays_run.true)
 
 ruled_sum_run_requires : tie.Need-ruled_sum_run-sum-requires
 ruled_sum_run_requires c κs =
@@ -59,22 +59,22 @@ stabilise_run_requires : tie.Need-stabilise_run-m-requires
 stabilise_run_requires c κs =
     let r = c.before.before in
     let a = (start (measured r)).args in
-    let t = rule_is r true c.before.if-sum-ge0.true in (
+    let t = rule_is r true c.if-sum-ge0.true in (
       (
         ready a.vector.now a.gaps.now (accepted a.vector.now a.gaps.now (lengths_right (measured r)) t),
         ruled_total (length a.vector.now) a.gaps.now _
             (to_z-of_z {w = w32} (sfits_of r.ruled-sum-run.type-inv) ∙ r.ruled_sum_run-sum.ensures) t,
       ),
-      sym r.before.before.stays_run.ensures ∙ r.before.if-stays_run.false,
+      sym r.stays_run.ensures ∙ r.if-stays_run.false,
     )
 
 returns_2 : tie.Need-returns-then-sum-ge0
 returns_2 c =
     let r = c.before.before.before.before in
     let a = (start (measured r)).args in
-    stabilise_answers a.vector.now a.gaps.now c.before.stabilise_run-m.new.0 c.before.stabilise_run-m.result
-    (accepted a.vector.now a.gaps.now (lengths_right (measured r)) (rule_is r true c.before.before.before.if-sum-ge0.true))
-    c.before.stabilise_run-m.ensures
+    stabilise_answers a.vector.now a.gaps.now c.stabilise_run-m.new.0 c.stabilise_run-m.result
+    (accepted a.vector.now a.gaps.now (lengths_right (measured r)) (rule_is r true c.if-sum-ge0.true))
+    c.stabilise_run-m.ensures
 
 returns_3 : tie.Need-returns-else-sum-ge0
 returns_3 c =
@@ -84,8 +84,8 @@ returns_3 c =
 
 returns_4 : tie.Need-returns-else-lengths_ok
 returns_4 c =
-    let a = c.before.before.before.args in
-    refused_lengths a.vector.now a.gaps.now (sym c.before.lengths_ok.ensures ∙ c.if-lengths_ok.false)
+    let a = c.args in
+    refused_lengths a.vector.now a.gaps.now (sym c.lengths_ok.ensures ∙ c.if-lengths_ok.false)
 
 pub silk_NLSF_stabilize_spec : {M : Type 1} → statement M
 silk_NLSF_stabilize_spec =

@@ -75,13 +75,13 @@ loop_holds c =
 -- ---- the loop: the gaps, the vector handed in, the sums of the gaps, and what holds before a turn
 
 abbrev gaps : tie.At-loop-m invariant_loop decreases_loop → List ℤ
-gaps b = b.before.before.before.before.before.args.g.now
+gaps b = b.args.g.now
 
 abbrev given : tie.At-loop-m invariant_loop decreases_loop → List ℤ
-given b = b.before.before.before.before.before.args.v.now
+given b = b.args.v.now
 
 abbrev sums : tie.At-loop-m invariant_loop decreases_loop → List ℤ
-sums b = b.before.slacks_run.new.1.0
+sums b = b.slacks_run.new.1.0
 
 turn : (b : tie.At-loop-m invariant_loop decreases_loop) → Turn (gaps b) (given b) b.loop-m.v b.loop-m.w (sums b) b.loop-m.m
 turn b = b.loop-m.invariant.1.1
@@ -132,7 +132,7 @@ on c =
     let b = searched (found c) in
     let t = turn b in
     run_on (gaps b) t.values (found c).place_run-i.result b.loop-m.m (stabilise (gaps b) (given b))
-    (found c).before.before.loop-m-test.true t.broken (place_is (found c)) t.rest
+    (found c).loop-m-test.true t.broken (place_is (found c)) t.rest
 
 as_given : (c : tie.After-move_at_run invariant_loop decreases_loop) → length c.move_at_run.new.0 ≡ length (given (searched (found c)))
 as_given c =
@@ -158,7 +158,7 @@ returns c =
     let b = searched (found d) in
     let h = moved d in
     let n = as_long _ _ _ _ _ h in
-    let up = subst (λ (j : ℕ). UpTo (suc j) d.move-at-run.last.1.0) n (c.before.rises_run.ensures.0 c.if-rises_run.true) in
+    let up = subst (λ (j : ℕ). UpTo (suc j) d.move-at-run.last.1.0) n (c.rises_run.ensures.0 c.if-rises_run.true) in
     let k = rises_keeps _ _ _ _ _ h up in
     ap (λ (l : List ℤ). record { vector = l; moves = b.loop-m.m + 1 }) (kept_stored _ _ _ _ _ h k)
     ∙ run_stop (gaps b) (new d) (b.loop-m.m + 1) (stabilise (gaps b) (given b)) h.long h.rule.good k (on d)
@@ -168,7 +168,7 @@ loop_again c =
     let d = mended c.before in
     let h = moved d in
     let n = as_long _ _ _ _ _ h in
-    let down = subst (λ (j : ℕ). Falls (suc j) d.move-at-run.last.1.0) n (c.before.rises_run.ensures.1 c.if-rises_run.false) in
+    let down = subst (λ (j : ℕ). Falls (suc j) d.move-at-run.last.1.0) n (c.rises_run.ensures.1 c.if-rises_run.false) in
     (omega arith, (as_given d, record { values = new d; held = h; rest = on d; broken = falls_not _ _ _ _ _ h down }))
 
 -- ---- behind the loop
@@ -182,14 +182,14 @@ abbrev left : tie.After-fall_back_run invariant_loop decreases_loop → tie.At-l
 left c = c.before.before.before
 
 same_length_2 : tie.Need-shape_of-v invariant_loop decreases_loop
-same_length_2 c = c.before.fall_back_run.auto.0 ∙ (left c.before).loop-m.inv.1.0
+same_length_2 c = c.fall_back_run.auto.0 ∙ (left c.before).loop-m.inv.1.0
 
 returns_2 : tie.Need-returns invariant_loop decreases_loop
 returns_2 c =
     let b = left c.before in
     let t = turn b in
-    run_out (gaps b) t.values c.before.fall_back_run.new.0 b.loop-m.m (stabilise (gaps b) (given b)) (omega arith)
-    (c.before.fall_back_run.ensures ∙ stored_fallback _ _ _ _ _ t.held) t.rest
+    run_out (gaps b) t.values c.fall_back_run.new.0 b.loop-m.m (stabilise (gaps b) (given b)) (omega arith)
+    (c.fall_back_run.ensures ∙ stored_fallback _ _ _ _ _ t.held) t.rest
 
 pub stabilise_run_spec : {M : Type 1} → statement M
 stabilise_run_spec =

@@ -25,12 +25,12 @@ same_within g v s u e f r l =
 abbrev sorted_to : tie.After-silk_insertion_sort_increasing_all_values_int16 → List ℤ
 sorted_to s = s.silk_insertion_sort_increasing_all_values_int16.new.0
 
-sorted_is : (s : tie.After-silk_insertion_sort_increasing_all_values_int16) → sorted_to s ≡ sorted s.before.before.args.v.now
+sorted_is : (s : tie.After-silk_insertion_sort_increasing_all_values_int16) → sorted_to s ≡ sorted s.args.v.now
 sorted_is s = s.silk_insertion_sort_increasing_all_values_int16.ensures
 
 sorted_long : (s : tie.After-silk_insertion_sort_increasing_all_values_int16)
-    → length (sorted_to s) ≡ length s.before.before.args.v.now
-sorted_long s = ap length (sorted_is s) ∙ length_sorted s.before.before.args.v.now
+    → length (sorted_to s) ≡ length s.args.v.now
+sorted_long s = ap length (sorted_is s) ∙ length_sorted s.args.v.now
 
 go_up_requires : tie.Need-go_up-requires
 go_up_requires c κs =
@@ -56,8 +56,8 @@ unfolding fallback
 returns c =
     let u = c.before.before.before.before in
     let s = u.before.before.before in
-    let g = s.before.before.args.g.now in
-    c.before.go_down.ensures ∙ ap (lowered (drop 1 g)) (u.go_up.ensures ∙ ap (raised g) (sorted_is s))
+    let g = s.args.g.now in
+    c.go_down.ensures ∙ ap (lowered (drop 1 g)) (u.go_up.ensures ∙ ap (raised g) (sorted_is s))
 
 pub fall_back_run_spec : {M : Type 1} → statement M
 fall_back_run_spec =

@@ -31,24 +31,24 @@ loop_holds c =
     (omega arith, (down_start f v, sym (subst (λ (n : ℕ). behind f n ≡ top) (length_lowered (drop 1 c.args.g.now) v) (behind_end f))))
 
 slice_copy_out_lower_one : tie.Need-slice_copy_out-lower_one invariant_loop decreases_loop
-slice_copy_out_lower_one c = omega (arith, c.before.loop-k.invariant.1.0.long)
+slice_copy_out_lower_one c = omega (arith, c.loop-k.invariant.1.0.long)
 
 shared_slice_copy_out_lower_one : tie.Need-bounds-g-k invariant_loop decreases_loop
-shared_slice_copy_out_lower_one c = omega (arith, c.before.before.before.requires.0)
+shared_slice_copy_out_lower_one c = omega (arith, c.requires.0)
 
 lower_one_requires : tie.Need-lower_one-x-requires invariant_loop decreases_loop
 lower_one_requires c κs =
     let b = c.before.before.before in
-    let g = b.before.args.g.now in
-    let v = b.before.args.v.now in
+    let g = b.args.g.now in
+    let v = b.args.v.now in
     let f = lowered (drop 1 g) v in
     let k : SFits w16 (at g b.loop-k.k) = sfits_of c.lower_one-arg-in-loop-k-1.given in
-    let m = behind_most f b.loop-k.k b.before.requires.1 in
-    let t = down_turn g v b.loop-k.k (b.loop-k.k - 1) (omega arith) b.loop-k.invariant.0 b.before.requires.0 b.before.requires.1 in
+    let m = behind_most f b.loop-k.k b.requires.1 in
+    let t = down_turn g v b.loop-k.k (b.loop-k.k - 1) (omega arith) b.loop-k.invariant.0 b.requires.0 b.requires.1 in
     rw (to_z-of_z k, b.loop-k.invariant.1.1) (omega (arith, m.1), (omega (arith, m.0), omega (arith, t.1)))
 
 slice_set_from_x : tie.Need-bounds-v-j invariant_loop decreases_loop
-slice_set_from_x c = omega (arith, c.before.before.before.before.loop-k.invariant.1.0.long)
+slice_set_from_x c = omega (arith, c.loop-k.invariant.1.0.long)
 
 cast_next : tie.Need-overflow_cast-next invariant_loop decreases_loop
 cast_next c =
@@ -57,15 +57,15 @@ cast_next c =
 loop_again : tie.Need-loop-k-preserved invariant_loop decreases_loop
 loop_again c =
     let b = c.before.before.before.before in
-    let g = b.before.args.g.now in
-    let v = b.before.args.v.now in
+    let g = b.args.g.now in
+    let v = b.args.v.now in
     let f = lowered (drop 1 g) v in
     let j = b.loop-k.k - 1 in
     let d = b.loop-k.invariant.1.0 in
-    let x : SFits w16 (at b.loop-k.v j) = sfits_of c.before.before.lower_one-arg-1.given in
-    let k : SFits w16 (at g b.loop-k.k) = sfits_of c.before.lower_one-arg-in-loop-k-1.given in
+    let x : SFits w16 (at b.loop-k.v j) = sfits_of c.lower_one-arg-1.given in
+    let k : SFits w16 (at g b.loop-k.k) = sfits_of c.lower_one-arg-in-loop-k-1.given in
     let r : SFits w16 c.lower_one-x.result = sfits_of c.lower-one.type-inv in
-    let t = down_turn g v b.loop-k.k j (omega arith) b.loop-k.invariant.0 b.before.requires.0 b.before.requires.1 in
+    let t = down_turn g v b.loop-k.k j (omega arith) b.loop-k.invariant.0 b.requires.0 b.requires.1 in
     let e : c.lower_one-x.result ≡ min_z (at b.loop-k.v j) (behind f b.loop-k.k -ℤ at g b.loop-k.k) =
     rw (to_z-of_z x, to_z-of_z k, b.loop-k.invariant.1.1) at c.lower_one-x.ensures in
     let q : c.lower_one-x.result ≡ at f j =
@@ -76,8 +76,8 @@ loop_again c =
 returns : tie.Need-returns invariant_loop decreases_loop
 returns c =
     let b = c.before in
-    let g = b.before.args.g.now in
-    let v = b.before.args.v.now in
+    let g = b.args.g.now in
+    let v = b.args.v.now in
     let e : b.loop-k.k ≡ 0 = omega arith in
     down_end (lowered (drop 1 g) v) v b.loop-k.v (length_lowered (drop 1 g) v)
     (subst (Down (lowered (drop 1 g) v) v b.loop-k.v) e b.loop-k.invariant.1.0)

@@ -30,13 +30,13 @@ loop_holds c = (omega arith, (up_start (raised c.args.g.now c.args.v.now) c.args
 
 shared_slice_copy_out_raise_one : tie.Need-bounds-g-i invariant_loop decreases_loop
 shared_slice_copy_out_raise_one c =
-    let b = c.before.before in omega (arith, b.loop-i.invariant.1.0.long, b.before.requires.1.0)
+    let b = c.before.before in omega (arith, b.loop-i.invariant.1.0.long, b.requires.1.0)
 
 raise_one_requires : tie.Need-raise_one-x-requires invariant_loop decreases_loop
 raise_one_requires c κs =
     let b = c.before.before.before in
-    let k : SFits w16 (at b.before.args.g.now b.loop-i.i) = sfits_of c.raise_one-arg-in-loop-i-1.given in
-    rw (to_z-of_z k) (b.before.requires.1.1.none b.loop-i.i)
+    let k : SFits w16 (at b.args.g.now b.loop-i.i) = sfits_of c.raise_one-arg-in-loop-i-1.given in
+    rw (to_z-of_z k) (b.requires.1.1.none b.loop-i.i)
 
 loop_less : tie.Need-loop-i-smaller invariant_loop decreases_loop
 loop_less c =
@@ -45,30 +45,30 @@ loop_less c =
 loop_again : tie.Need-loop-i-preserved invariant_loop decreases_loop
 loop_again c =
     let b = c.before.before.before.before in
-    let g = b.before.args.g.now in
-    let v = b.before.args.v.now in
+    let g = b.args.g.now in
+    let v = b.args.v.now in
     let i = b.loop-i.i in
     let u = b.loop-i.invariant.1.0 in
-    let x : SFits w16 (at b.loop-i.v i) = sfits_of c.before.before.raise_one-arg-1.given in
-    let k : SFits w16 (at g i) = sfits_of c.before.raise_one-arg-in-loop-i-1.given in
+    let x : SFits w16 (at b.loop-i.v i) = sfits_of c.raise_one-arg-1.given in
+    let k : SFits w16 (at g i) = sfits_of c.raise_one-arg-in-loop-i-1.given in
     let r : SFits w16 c.raise_one-x.result = sfits_of c.raise-one.type-inv in
     let h : i < length v = omega (arith, u.long) in
     let e : c.raise_one-x.result ≡ max_z (at b.loop-i.v i) (sat16 (at (pos 0 ∷ raised g v) i +ℤ at g i)) =
     rw (to_z-of_z x, to_z-of_z k, b.loop-i.invariant.1.1) at c.raise_one-x.ensures in
-    let p = b.before.requires.1 in
+    let p = b.requires.1 in
     let q : c.raise_one-x.result ≡ at (raised g v) i =
     e ∙ ap (λ (z : ℤ). max_z z (sat16 (at (pos 0 ∷ raised g v) i +ℤ at g i))) (u.old i (omega arith))
     ∙ sym (raised_at g v i h p.0 (p.1.none 0) p.1.first) in
     rw (to_z-of_z r) (omega arith, (up_step (raised g v) v b.loop-i.v i c.raise_one-x.result h q u, q ∙ ap (at (pos 0 ∷ raised g v)) (sym (add-one i))))
 
 same_length : tie.Need-shape_of-v invariant_loop decreases_loop
-same_length c = c.before.loop-i.invariant.1.0.long
+same_length c = c.loop-i.invariant.1.0.long
 
 returns : tie.Need-returns invariant_loop decreases_loop
 returns c =
     let b = c.before in
-    let g = b.before.args.g.now in
-    let v = b.before.args.v.now in
+    let g = b.args.g.now in
+    let v = b.args.v.now in
     up_end (raised g v) v b.loop-i.v b.loop-i.i (omega (arith, b.loop-i.invariant.1.0.long)) (length_raised g v) b.loop-i.invariant.1.0
 
 pub go_up_spec : {M : Type 1} → statement M

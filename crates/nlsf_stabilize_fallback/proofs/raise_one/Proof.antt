@@ -72,21 +72,21 @@ returns c =
     at_top _ _ _ f.x f.prev f.gap s.requires (rw (y_is _ _ _ f.x f.prev f.gap s.requires) at c.if-y-gt32767.true)
 
 cast_if2 : tie.Need-overflow_cast-x
-cast_if2 c = rw (to_z-of_z c.before.ranges.x) (wide c.before.ranges.x)
+cast_if2 c = rw (to_z-of_z c.ranges.x) (wide c.ranges.x)
 
 cast_result : tie.Need-overflow_cast-result
 cast_result c =
     let s = c.before.before in
     let f = s.ranges in
     let y = y_is _ _ _ f.x f.prev f.gap s.requires in
-    rw y (narrow _ _ _ f.x f.prev f.gap s.requires (rw y at c.before.if-y-gt32767.false))
+    rw y (narrow _ _ _ f.x f.prev f.gap s.requires (rw y at c.if-y-gt32767.false))
 
 returns_2 : tie.Need-returns-then-x-y
 returns_2 c =
     let s = c.before.before in
     let f = s.ranges in
     let y = y_is _ _ _ f.x f.prev f.gap s.requires in
-    let e : lt_z (pos 32767) (s.args.prev +ℤ s.args.gap) ≡ false = rw y at c.before.if-y-gt32767.false in
+    let e : lt_z (pos 32767) (s.args.prev +ℤ s.args.gap) ≡ false = rw y at c.if-y-gt32767.false in
     rw (y, to_z-of_z (narrow _ _ _ f.x f.prev f.gap s.requires e))
     (at_sum _ _ _ f.x f.prev f.gap s.requires e (rw (y, x_is _ _ _ f.x f.prev f.gap s.requires) at c.if-x-y.true))
 
@@ -96,7 +96,7 @@ returns_3 c =
     let f = s.ranges in
     let y = y_is _ _ _ f.x f.prev f.gap s.requires in
     rw (to_z-of_z f.x)
-    (at_own _ _ _ f.x f.prev f.gap s.requires (rw y at c.before.if-y-gt32767.false) (rw (y, x_is _ _ _ f.x f.prev f.gap s.requires) at c.if-x-y.false))
+    (at_own _ _ _ f.x f.prev f.gap s.requires (rw y at c.if-y-gt32767.false) (rw (y, x_is _ _ _ f.x f.prev f.gap s.requires) at c.if-x-y.false))
 
 pub raise_one_spec : {M : Type 1} → statement M
 raise_one_spec = tie.close (tie.spec cast_y cast_y_2 add_y returns cast_if2 cast_result returns_2 returns_3)

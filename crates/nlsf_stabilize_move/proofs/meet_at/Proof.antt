@@ -24,7 +24,7 @@ start c = c.before.before.before.before
 odd_is : (c : tie.After-odd_of) → let s = start c in c.odd_of.result ≡ odd (at s.args.g.now s.args.i)
 odd_is c =
     let s = start c in
-    let k : SFits w16 (at s.args.g.now s.args.i) = sfits_of c.before.odd_of-arg-1.given in
+    let k : SFits w16 (at s.args.g.now s.args.i) = sfits_of c.odd_of-arg-1.given in
     rw (to_z-of_z k) at c.odd_of.ensures
 
 meet_requires : tie.Need-meet-requires

@@ -39,7 +39,7 @@ returns : tie.Need-returns-then-i-eq0
 returns c u h =
     let s = c.before.before in
     let k : SFits w16 (at s.args.g.now 0) = sfits_of c.v-1.given in
-    rw (to_z-of_z k) (moved_first _ _ _ _ _ h s.args.i c.before.if-i-eq0.true)
+    rw (to_z-of_z k) (moved_first _ _ _ _ _ h s.args.i c.if-i-eq0.true)
 
 slice_set_from_v : tie.Need-bounds-v-0
 slice_set_from_v c = let s = c.before.before in omega (arith, same_long s, (held s).some)
@@ -54,7 +54,7 @@ module _ (c : tie.After-room-1) where
   place = start.args.i
 
   some : 0 < place
-  some = omega (arith, c.before.if-i-eq0.false)
+  some = omega (arith, c.if-i-eq0.false)
 
   room_fits : SFits w32 (at start.args.w.now 17)
   room_fits = sfits_of c.room-1.given
@@ -145,7 +145,7 @@ element_copy_out_low c = omega (arith, inside (pair c), (held (begin c)).few)
 -- the lower value, over the numbers themselves, whatever values are held
 low_is : (c : tie.After-low-1) (u : List ℤ) → let s = begin c.before in
     Held s.args.g.now u s.args.v.now s.args.w.now s.args.s.now
-    → to_z w32 (of_z w32 c.before.meet_at-m.result) +ℤ to_z w32 (of_z w32 (at s.args.s.now s.args.i))
+    → to_z w32 (of_z w32 c.meet_at-m.result) +ℤ to_z w32 (of_z w32 (at s.args.s.now s.args.i))
     ≡ new_low s.args.g.now s.args.i (at u (s.args.i - 1)) (at u s.args.i)
 low_is c u h =
     let b = c.before in
@@ -175,7 +175,7 @@ high_fits : (c : tie.After-low-1) → let s = begin c.before in SFits w32 (low c
 high_fits c = let m = high_most c in parts_fit _ (omega (arith, m.0)) (omega (arith, m.1))
 
 held_low : (c : tie.After-low-1) → let s = begin c.before in
-    to_z w32 (of_z w32 c.before.meet_at-m.result) +ℤ to_z w32 (of_z w32 (at s.args.s.now s.args.i)) ≡ low c
+    to_z w32 (of_z w32 c.meet_at-m.result) +ℤ to_z w32 (of_z w32 (at s.args.s.now s.args.i)) ≡ low c
 held_low c = let s = begin c.before in low_is c (values s) (held s)
 
 add_low : tie.Need-overflow_add-low

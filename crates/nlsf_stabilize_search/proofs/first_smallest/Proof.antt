@@ -70,7 +70,7 @@ returns : tie.Need-returns invariant_loop decreases_loop
 returns c n e =
     let b = c.before in
     let q : b.loop-i.i ≡ n = omega arith in
-    subst (λ (m : ℕ). First (step b.before.before.before.args.w.now) m b.loop-i.place) q b.loop-i.invariant.2.first
+    subst (λ (m : ℕ). First (step b.args.w.now) m b.loop-i.place) q b.loop-i.invariant.2.first
 
 pub first_smallest_spec : {M : Type 1} → statement M
 first_smallest_spec =

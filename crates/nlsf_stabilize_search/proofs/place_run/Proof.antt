@@ -11,8 +11,8 @@ first_smallest_requires c κs =
 
 returns : tie.Need-returns-then-n-le10
 returns c =
-    let a = c.before.before.before.before.args in
-    let found = c.first-smallest in
+    let a = c.args in
+    let found = c.first_smallest in
     part_searched a.w.now a.n 11 found.result (omega arith) (omega arith) (omega arith) found.ensures
 
 first_smallest_requires_2 : tie.Need-first_smallest-requires-2
@@ -21,8 +21,8 @@ first_smallest_requires_2 c κs =
 
 returns_2 : tie.Need-returns
 returns_2 c =
-    let a = c.before.before.before.before.args in
-    let found = c.first-smallest2 in
+    let a = c.args in
+    let found = c.first_smallest-2 in
     part_searched a.w.now a.n 17 found.result (omega arith) (omega arith) (omega arith) found.ensures
 
 pub place_run_spec : {M : Type 1} → statement M

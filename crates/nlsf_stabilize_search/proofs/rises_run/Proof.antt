@@ -27,18 +27,18 @@ loop_holds c =
     ((omega arith, omega arith), to_z-of_z {w = w32} (sfits_of c.x-1.given), record { each = λ k h. absurd (not-suc-le-zero h) })
 
 -- the test as the contract has it: the value at i is less than the value before it, or not
-test : (c : tie.After-y-1 invariant_loop decreases_loop) (t : Bool) → let b = c.before.before in let w = b.before.before.args.w.now in
+test : (c : tie.After-y-1 invariant_loop decreases_loop) (t : Bool) → let b = c.before.before in let w = b.args.w.now in
     lt_z (to_z w32 (of_z w32 (at w b.loop-i.i))) (to_z w32 b.loop-i.x) ≡ t → lt_z (at w (suc (b.loop-i.i - 1))) (at w (b.loop-i.i - 1)) ≡ t
 test c t e =
     let b = c.before.before in
-    let f : SFits w32 (at b.before.before.args.w.now b.loop-i.i) = sfits_of c.y-1.given in
+    let f : SFits w32 (at b.args.w.now b.loop-i.i) = sfits_of c.y-1.given in
     let q : suc (b.loop-i.i - 1) ≡ b.loop-i.i = omega (arith, b.loop-i.invariant.0) in
     rw q (rw (to_z-of_z f, b.loop-i.invariant.1) at e)
 
 returns : tie.Need-returns-then-y-x invariant_loop decreases_loop
 returns c =
     let b = c.before.before.before in
-    let w = b.before.before.args.w.now in
+    let w = b.args.w.now in
     let k = b.loop-i.i - 1 in (
       λ e. absurd (false≢true e),
       λ e. record { place = k; within = omega arith; less = lt_z_true (at w (suc k)) (at w k) (test c.before true c.if-y-x.true) },
@@ -47,19 +47,19 @@ returns c =
 loop_again : tie.Need-loop-i-preserved invariant_loop decreases_loop
 loop_again c =
     let b = c.before.before.before in
-    let w = b.before.before.args.w.now in
+    let w = b.args.w.now in
     let i = b.loop-i.i in
     let e : i + 1 - 1 ≡ i = omega arith in
     let f : i - 1 + 1 ≡ i = omega (arith, b.loop-i.invariant.0) in (
       (omega arith, omega arith),
-      to_z-of_z {w = w32} (sfits_of c.before.y-1.given) ∙ ap (at w) (sym e),
+      to_z-of_z {w = w32} (sfits_of c.y-1.given) ∙ ap (at w) (sym e),
       subst (λ (m : ℕ). UpTo m w) (f ∙ sym e)
           (up_to_more w (i - 1) b.loop-i.invariant.2 (lt_z_false (at w (suc (i - 1))) (at w (i - 1)) (test c.before false c.if-y-x.false))),
     )
 
 returns_2 : tie.Need-returns invariant_loop decreases_loop
 returns_2 c =
-    (λ e. record { each = λ k h. c.before.loop-i.invariant.2.each k (omega arith) }, λ e. absurd (true≢false e))
+    (λ e. record { each = λ k h. c.loop-i.invariant.2.each k (omega arith) }, λ e. absurd (true≢false e))
 
 pub rises_run_spec : {M : Type 1} → statement M
 rises_run_spec =

@@ -29,15 +29,15 @@ loop_holds c =
     (omega arith, (filled_start a.g.now a.v.now a.w.now a.s.now c.requires.0.0 c.requires.0.1, refl))
 
 -- the gap read, and the sum with it
-gap : (c : tie.After-sum-1 invariant_loop decreases_loop) → SFits w16 (at c.before.before.before.args.g.now c.before.before.loop-i.i)
+gap : (c : tie.After-sum-1 invariant_loop decreases_loop) → SFits w16 (at c.args.g.now c.loop-i.i)
 gap c = sfits_of c.sum-1.given
 
-next : (c : tie.After-sum-1 invariant_loop decreases_loop) → NextSum c.before.before.before.args.g.now c.before.before.loop-i.i
-    (to_z w32 c.before.before.loop-i.sum +ℤ at c.before.before.before.args.g.now c.before.before.loop-i.i)
+next : (c : tie.After-sum-1 invariant_loop decreases_loop) → NextSum c.args.g.now c.loop-i.i
+    (to_z w32 c.loop-i.sum +ℤ at c.args.g.now c.loop-i.i)
 next c =
     let b = c.before.before in
-    let p = b.before.requires.1 in
-    next_sum b.before.args.g.now (length b.before.args.v.now) b.loop-i.i (to_z w32 b.loop-i.sum)
+    let p = b.requires.1 in
+    next_sum b.args.g.now (length b.args.v.now) b.loop-i.i (to_z w32 b.loop-i.sum)
     p.0.0 p.0.1 (omega arith) b.loop-i.invariant.1.1
 
 cast_sum : tie.Need-overflow_cast-sum invariant_loop decreases_loop
@@ -48,7 +48,7 @@ add_sum c = rw (read16 (gap c)) (sum_fits _ (next c))
 
 -- the value read
 value : (c : tie.After-w-1 invariant_loop decreases_loop)
-    → SFits w16 (at c.before.before.before.before.args.v.now c.before.before.before.loop-i.i)
+    → SFits w16 (at c.args.v.now c.loop-i.i)
 value c = sfits_of c.w-1.given
 
 cast_w : tie.Need-overflow_cast-w invariant_loop decreases_loop
@@ -63,19 +63,19 @@ loop_again : tie.Need-loop-i-preserved invariant_loop decreases_loop
 loop_again c =
     let b = c.before.before.before in
     let n = next c.before in
-    let g = b.before.args.g.now in
-    let v = b.before.args.v.now in
+    let g = b.args.g.now in
+    let v = b.args.v.now in
     let l = b.loop in
     rw (read16 (value c), read16 (gap c.before), to_z-of_z (sum_fits _ n), to_z-of_z (slack_fits _ _ (value c) n)) (
       omega arith,
-      (filled_step g v l.w l.s l.i _ (omega arith) b.before.requires.1.1.1 n (value c) l.invariant.1.0, n.is),
+      (filled_step g v l.w l.s l.i _ (omega arith) b.requires.1.1.1 n (value c) l.invariant.1.0, n.is),
     )
 
 returns : tie.Need-returns invariant_loop decreases_loop
 returns c =
     let b = c.before in
-    let p = b.before.requires.1 in
-    filled_end b.before.args.g.now b.before.args.v.now b.loop-i.w b.loop-i.s b.loop-i.i (omega arith)
+    let p = b.requires.1 in
+    filled_end b.args.g.now b.args.v.now b.loop-i.w b.loop-i.s b.loop-i.i (omega arith)
     p.1.0 p.1.1 p.0.1 p.0.0 b.loop-i.invariant.1.0
 
 pub slacks_run_spec : {M : Type 1} → statement M

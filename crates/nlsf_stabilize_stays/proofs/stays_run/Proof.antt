@@ -29,15 +29,15 @@ loop_holds : tie.Need-loop-i-init invariant_loop decreases_loop
 loop_holds c = (omega arith, parts_fit (pos 0) (omega arith) (omega arith), refl, λ k h. absurd (omega arith))
 
 -- the values read
-value : (c : tie.After-x-1 invariant_loop decreases_loop) → SFits w16 (at c.before.before.before.args.v.now c.before.before.loop-i.i)
+value : (c : tie.After-x-1 invariant_loop decreases_loop) → SFits w16 (at c.args.v.now c.loop-i.i)
 value c = sfits_of c.x-1.given
 
 value_2 : (c : tie.After-y-1 invariant_loop decreases_loop)
-    → SFits w16 (at c.before.before.before.before.args.v.now (c.before.before.before.loop-i.i + 1))
+    → SFits w16 (at c.args.v.now (c.loop-i.i + 1))
 value_2 c = sfits_of c.y-1.given
 
 value_3 : (c : tie.After-x-then-i-v-1 invariant_loop decreases_loop)
-    → SFits w16 (at c.before.before.before.before.args.v.now c.before.before.before.loop-i.i)
+    → SFits w16 (at c.args.v.now c.loop-i.i)
 value_3 c = sfits_of c.x-then-i-v-1.given
 
 cast_x : tie.Need-overflow_cast-x invariant_loop decreases_loop
@@ -47,7 +47,7 @@ cast_y : tie.Need-overflow_cast-y invariant_loop decreases_loop
 cast_y c = rw (to_z-of_z (value_2 c)) (wide (value_2 c))
 
 lost_requires : tie.Need-lost-requires invariant_loop decreases_loop
-lost_requires c κs = near c.before.before.before.before.loop-i.invariant.1
+lost_requires c κs = near c.loop-i.invariant.1
 
 lost_requires_2 : tie.Need-lost-requires-in-loop-i invariant_loop decreases_loop
 lost_requires_2 c κs = rw (read16 (value c.before.before.before.before)) (near (value c.before.before.before.before))
@@ -64,45 +64,45 @@ next c = c.before.before.before.before
 
 -- the tests as the laws have them
 first : (c : tie.After-lost invariant_loop decreases_loop) → let b = turn c in
-    c.lost.result ≡ lost_at b.before.args.g.now b.before.args.v.now b.loop-i.i
+    c.lost.result ≡ lost_at b.args.g.now b.args.v.now b.loop-i.i
 first c =
     let b = turn c in
-    let h : SFits w16 (at b.before.args.g.now b.loop-i.i) = sfits_of c.before.lost-arg-1.given in
+    let h : SFits w16 (at b.args.g.now b.loop-i.i) = sfits_of c.lost-arg-1.given in
     rw (read16 (value c.before.before.before), to_z-of_z h, b.loop-i.inv.2) at c.lost.ensures
 
 second : (c : tie.After-lost-in-loop-i invariant_loop decreases_loop) → let b = turn_2 c in
-    c.lost-in-loop-i.result ≡ lost_at b.before.args.g.now b.before.args.v.now (suc b.loop-i.i)
+    c.lost-in-loop-i.result ≡ lost_at b.args.g.now b.args.v.now (suc b.loop-i.i)
 second c =
     let b = turn_2 c in
-    let h : SFits w16 (at b.before.args.g.now (b.loop-i.i + 1)) = sfits_of c.before.lost-arg-in-loop-i-1.given in
+    let h : SFits w16 (at b.args.g.now (b.loop-i.i + 1)) = sfits_of c.lost-arg-in-loop-i-1.given in
     let y = next c in
     rw (read16 (value y.before), read16 (value_2 y), to_z-of_z h, add-one b.loop-i.i) at c.lost-in-loop-i.ensures
 
-both : (c : tie.After-lost-in-loop-i invariant_loop decreases_loop) (t : Bool) → c.before.before.lost.result || c.lost-in-loop-i.result ≡ t
-    → let b = turn_2 c in let g = b.before.args.g.now in let v = b.before.args.v.now in
+both : (c : tie.After-lost-in-loop-i invariant_loop decreases_loop) (t : Bool) → c.lost.result || c.lost-in-loop-i.result ≡ t
+    → let b = turn_2 c in let g = b.args.g.now in let v = b.args.v.now in
     lost_at g v b.loop-i.i || lost_at g v (suc b.loop-i.i) ≡ t
 both c t e = rw (first c.before.before, second c) at e
 
 returns : tie.Need-returns-then-lost invariant_loop decreases_loop
 returns c =
     let b = turn_2 c.before in
-    stays_not b.before.args.g.now b.before.args.v.now b.before.pre b.loop-i.i (omega arith)
+    stays_not b.args.g.now b.args.v.now b.before.pre b.loop-i.i (omega arith)
     (both c.before true c.if-lost.true)
 
 loop_again : tie.Need-loop-i-preserved invariant_loop decreases_loop
 loop_again c =
     let b = turn_2 c.before in
-    let v = b.before.args.v.now in
+    let v = b.args.v.now in
     let i = b.loop-i.i in
     let f = value_2 (next c.before) in
-    let p = passed_two b.before.args.g.now v i b.loop-i.inv.3 (both c.before false c.if-lost.false) in
+    let p = passed_two b.args.g.now v i b.loop-i.inv.3 (both c.before false c.if-lost.false) in
     rw (read16 f) (omega arith, f, ap (at v) (add-one i) ∙ ap (at (pos 0 ∷ v)) (sym (add-two i)), λ k h. p k (omega arith))
 
 cast_x_2 : tie.Need-overflow_cast-x-then-i-v invariant_loop decreases_loop
 cast_x_2 c = rw (to_z-of_z (value_3 c)) (wide (value_3 c))
 
 lost_requires_3 : tie.Need-lost-requires-then-i-v invariant_loop decreases_loop
-lost_requires_3 c κs = near c.before.before.before.before.loop-i.invariant.1
+lost_requires_3 c κs = near c.loop-i.invariant.1
 
 ends_requires : tie.Need-ends-requires invariant_loop decreases_loop
 ends_requires c κs = rw (read16 (value_3 c.before.before.before)) (near (value_3 c.before.before.before))
@@ -110,29 +110,29 @@ ends_requires c κs = rw (read16 (value_3 c.before.before.before)) (near (value_
 returns_2 : tie.Need-returns-then-i-v invariant_loop decreases_loop
 returns_2 c =
     let b = c.before.before.before.before.before.before.before in
-    let g = b.before.args.g.now in
-    let v = b.before.args.v.now in
+    let g = b.args.g.now in
+    let v = b.args.v.now in
     let i = b.loop-i.i in
     let x = value_3 c.before.before.before.before in
-    let k : SFits w16 (at g i) = sfits_of c.before.before.before.lost-arg-then-i-v-1.given in
-    let l : SFits w16 (at g (i + 1)) = sfits_of c.before.ends-arg-1.given in
-    let e : c.before.before.lost-then-i-v.result ≡ lost_at g v i =
-    rw (read16 x, to_z-of_z k, b.loop-i.invariant.2) at c.before.before.lost-then-i-v.ensures in
+    let k : SFits w16 (at g i) = sfits_of c.lost-arg-then-i-v-1.given in
+    let l : SFits w16 (at g (i + 1)) = sfits_of c.ends-arg-1.given in
+    let e : c.lost-then-i-v.result ≡ lost_at g v i =
+    rw (read16 x, to_z-of_z k, b.loop-i.invariant.2) at c.lost-then-i-v.ensures in
     let d : c.ends.result ≡ ends_at g v (suc i) = rw (read16 x, to_z-of_z l, add-one i) at c.ends.ensures in
-    rw (e, d) (stays_odd g v b.before.requires i (omega arith) b.loop-i.invariant.3)
+    rw (e, d) (stays_odd g v b.requires i (omega arith) b.loop-i.invariant.3)
 
 ends_requires_2 : tie.Need-ends-requires-2 invariant_loop decreases_loop
-ends_requires_2 c κs = near c.before.before.before.loop-i.invariant.1
+ends_requires_2 c κs = near c.loop-i.invariant.1
 
 returns_3 : tie.Need-returns invariant_loop decreases_loop
 returns_3 c =
     let b = c.before.before.before.before in
-    let g = b.before.args.g.now in
-    let v = b.before.args.v.now in
+    let g = b.args.g.now in
+    let v = b.args.v.now in
     let i = b.loop-i.i in
-    let l : SFits w16 (at g i) = sfits_of c.before.ends-arg-2-1.given in
+    let l : SFits w16 (at g i) = sfits_of c.ends-arg-2-1.given in
     let d : c.ends-2.result ≡ ends_at g v i = rw (to_z-of_z l, b.loop-i.invariant.2) at c.ends-2.ensures in
-    d ∙ stays_last g v b.before.requires i (omega arith) b.loop-i.invariant.3
+    d ∙ stays_last g v b.requires i (omega arith) b.loop-i.invariant.3
 
 pub stays_run_spec : {M : Type 1} → statement M
 stays_run_spec =

@@ -7,7 +7,7 @@ use Rattle.nlsf_unpack.proofs.residual_pick_run.Statement.{statement}
 use Rattle.nlsf_unpack.proofs.residual_pick_run.Tie as tie
 
 cast_s : tie.Need-overflow_cast-s
-cast_s c = omega (arith, c.shared_slice_known-1.given (c.before.args.i / 2))
+cast_s c = omega (arith, c.shared_slice_known-1.given (c.args.i / 2))
 
 returns : tie.Need-returns-then-i-eq0
 returns c = rw (eq-eqb _ _ c.if-i-eq0.true)

@@ -9,7 +9,7 @@ use Rattle.nlsf_weights.proofs.last_share_run.Statement.{statement}
 use Rattle.nlsf_weights.proofs.last_share_run.Tie as tie
 
 cast_share : tie.Need-overflow_cast-values
-cast_share c = omega (arith, c.shared_slice_known-3-1.given (length c.before.before.before.args.values.now - 1))
+cast_share c = omega (arith, c.shared_slice_known-3-1.given (length c.args.values.now - 1))
 
 share_requires : tie.Need-share-requires
 share_requires c κs =

@@ -16,35 +16,35 @@ few c = let s = c.before.before in omega (arith, c.ec_ilog-i.ensures, length_few
 
 -- the digits behind the first, and where the line begins
 abbrev digits : tie.After-shared_slice_known-2-1 → ℕ
-digits d = d.before.before.before.args.s * 256 % 4294967296 / 2 ^ d.before.ec_ilog-i.result % 128
+digits d = d.args.s * 256 % 4294967296 / 2 ^ d.ec_ilog-i.result % 128
 
 abbrev start : tie.After-shared_slice_known-2-1 → ℕ
-start d = get_or d.before.before.before.args.roots.now d.before.ec_ilog-i.result 0
+start d = get_or d.args.roots.now d.ec_ilog-i.result 0
 
-start_is : (d : tie.After-shared_slice_known-2-1) → start d ≡ start_of d.before.ec_ilog-i.result
-start_is d = start_in d.before.before.before.requires.0 d.before.ec_ilog-i.result (omega (arith, few d.before))
+start_is : (d : tie.After-shared_slice_known-2-1) → start d ≡ start_of d.ec_ilog-i.result
+start_is d = start_in d.requires.0 d.ec_ilog-i.result (omega (arith, few d.before))
 
 small : (d : tie.After-shared_slice_known-2-1) → start d ≤ 46214
-small d = omega (arith, start_is d, start_small d.before.ec_ilog-i.result)
+small d = omega (arith, start_is d, start_small d.ec_ilog-i.result)
 
 line : (d : tie.After-shared_slice_known-2-1) → 213 * digits d * start d ≤ 1250134914
 line d = line_small (digits d) (start d) (omega arith) (small d)
 
 inside : tie.Need-bounds-roots-i
-inside c = omega (arith, few c.before, roots_long c.before.before.before.requires.0)
+inside c = omega (arith, few c.before, roots_long c.requires.0)
 
-digits_are : (d : tie.After-shared_slice_known-2-1) → let s = d.before.before.before.args.s in
+digits_are : (d : tie.After-shared_slice_known-2-1) → let s = d.args.s in
     digits d ≡ s * 256 / 2 ^ bit_length s % 128
 digits_are d =
-    let s = d.before.before.before.args.s in
-    let e : s * 256 % 4294967296 ≡ s * 256 = omega (arith, d.before.before.before.requires.1.1) in
-    ap₂ (λ (n i : ℕ). n / 2 ^ i % 128) e d.before.ec_ilog-i.ensures
+    let s = d.args.s in
+    let e : s * 256 % 4294967296 ≡ s * 256 = omega (arith, d.requires.1.1) in
+    ap₂ (λ (n i : ℕ). n / 2 ^ i % 128) e d.ec_ilog-i.ensures
 
 returns : tie.Need-returns
 returns c =
-    let p = c.before.before.before.requires.1 in
-    ap₂ (λ (y f : ℕ). y + 213 * f * y / 65536) (start_is c ∙ ap start_of c.before.ec_ilog-i.ensures) (digits_are c)
-    ∙ root_is c.before.before.before.args.s p.0 p.1
+    let p = c.requires.1 in
+    ap₂ (λ (y f : ℕ). y + 213 * f * y / 65536) (start_is c ∙ ap start_of c.ec_ilog-i.ensures) (digits_are c)
+    ∙ root_is c.args.s p.0 p.1
 
 pub root_spec : {M : Type 1} → statement M
 root_spec =

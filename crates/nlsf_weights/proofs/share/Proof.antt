@@ -7,13 +7,13 @@ use Rattle.nlsf_weights.proofs.share.Statement.{statement}
 use Rattle.nlsf_weights.proofs.share.Tie as tie
 
 inside : tie.Need-bounds-shares-x
-inside c = omega (arith, c.before.requires.1.1, shares_long c.before.requires.0)
+inside c = omega (arith, c.requires.1.1, shares_long c.requires.0)
 
 cast_result_2 : tie.Need-overflow_cast-result-2
-cast_result_2 c = omega (arith, c.shared_slice_known-1.given (c.before.args.x - c.before.args.a))
+cast_result_2 c = omega (arith, c.shared_slice_known-1.given (c.args.x - c.args.a))
 
 returns : tie.Need-returns
-returns c = let a = c.before.args in share_in c.before.requires.0 (a.x - a.a) c.before.requires.1.1
+returns c = let a = c.args in share_in c.requires.0 (a.x - a.a) c.requires.1.1
 
 pub share_spec : {M : Type 1} → statement M
 share_spec =

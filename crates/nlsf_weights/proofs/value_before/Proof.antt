@@ -10,7 +10,7 @@ use Rattle.nlsf_weights.proofs.value_before.Statement.{statement}
 use Rattle.nlsf_weights.proofs.value_before.Tie as tie
 
 cast_result : tie.Need-overflow_cast-result
-cast_result c = omega (arith, c.shared_slice_known-1.given (c.before.before.args.i - 1))
+cast_result c = omega (arith, c.shared_slice_known-1.given (c.args.i - 1))
 
 returns : tie.Need-returns-then-i-gt0
 returns c =

@@ -15,7 +15,7 @@ abbrev start : tie.After-share-q → tie.Start
 start d = d.before.before.before.before.before.before
 
 cast_share : tie.Need-overflow_cast-values
-cast_share c = omega (arith, c.shared_slice_known-4-1.given c.before.before.before.before.before.args.i)
+cast_share c = omega (arith, c.shared_slice_known-4-1.given c.args.i)
 
 share_requires : tie.Need-share-q-requires
 share_requires c κs =
@@ -23,7 +23,7 @@ share_requires c κs =
     let v = s.args.values.now in
     let k = s.args.i in
     let t = step_at v s.requires.rising k (omega (arith, s.requires.inside)) in
-    let a = c.before.value_before.ensures in
+    let a = c.value_before.ensures in
     let x = edge_value v k s.requires.inside in
     (s.requires.shares, (omega (arith, t.up, a, x), omega (arith, t.near, a, x)))
 
@@ -32,7 +32,7 @@ share_is d =
     let s = start d in
     d.share-q.ensures
     ∙ ap₂ (λ (x a : ℕ). 1024 / (x - a)) (sym (edge_value s.args.values.now s.args.i s.pre.inside))
-    d.before.before.value_before.ensures
+    d.value_before.ensures
 
 -- both shares together
 record Sum (d : tie.After-share-q) : Type 0 where

@@ -42,8 +42,8 @@ weigh_run_requires c κs =
     let v = s.args.values.now in
     let e : b.loop-k.k ≡ suc (b.loop-k.k - 1) = omega arith in
     record {
-      shares = b.before.before.before.before.shares-shares.ensures;
-      roots = b.before.before.before.roots-roots.ensures;
+      shares = b.shares-shares.ensures;
+      roots = b.roots-roots.ensures;
       rising = s.requires.1.1;
       inside = omega (arith, b.loop-k.invariant.0.0);
       behind = b.loop-k.invariant.2 ∙ ap (share_at v) e;
@@ -52,7 +52,7 @@ weigh_run_requires c κs =
 loop_again : tie.Need-loop-k-preserved invariant_loop decreases_loop
 loop_again c =
     let b = c.before.before.before.before in
-    let v = b.before.before.before.before.before.before.before.args.values.now in
+    let v = b.args.values.now in
     let i = b.loop-k.k - 1 in
     let w = b.loop-k.weights in
     let x = c.weigh_run-w.result.weight in
@@ -67,8 +67,8 @@ loop_again c =
 
 returns : tie.Need-returns invariant_loop decreases_loop
 returns c =
-    let e : c.before.loop-k.k ≡ 0 = omega arith in
-    rw e at c.before.loop-k.invariant.1
+    let e : c.loop-k.k ≡ 0 = omega arith in
+    rw e at c.loop-k.invariant.1
 
 pub weights_run_spec : {M : Type 1} → statement M
 weights_run_spec =

@@ -39,36 +39,36 @@ module _ (x : ℤ) (f : SFits w16 x) where
   fits = parts_fit (pos (nat_abs x)) (omega (arith, small)) (omega arith)
 
 cast_result : tie.Need-overflow_cast-result
-cast_result c = let f = c.before.ranges.x in rw (to_z-of_z f) (sfits_widen {w = w16} tt f)
+cast_result c = let f = c.ranges.x in rw (to_z-of_z f) (sfits_widen {w = w16} tt f)
 
 sub_result : tie.Need-overflow_sub-result
 sub_result c =
-    let f = c.before.ranges.x in
-    let x = c.before.args.x in
+    let f = c.ranges.x in
+    let x = c.args.x in
     rw (read x f, away x (rw (to_z-of_z f) at c.if-x-lt0.true)) (fits x f)
 
 cast_result_2 : tie.Need-overflow_cast-result-then-x-lt0
 cast_result_2 c =
-    let f = c.before.ranges.x in
-    let x = c.before.args.x in
+    let f = c.ranges.x in
+    let x = c.args.x in
     let s = small x f in
     rw (read x f, away x (rw (to_z-of_z f) at c.if-x-lt0.true), to_z-of_z (fits x f)) (tt, omega arith)
 
 returns : tie.Need-returns-then-x-lt0
 returns c =
-    let f = c.before.ranges.x in
-    let x = c.before.args.x in
+    let f = c.ranges.x in
+    let x = c.args.x in
     rw (read x f, away x (rw (to_z-of_z f) at c.if-x-lt0.true), to_z-of_z (fits x f)) (refl, small x f)
 
 cast_result_3 : tie.Need-overflow_cast-result-2
 cast_result_3 c =
-    let f = c.before.ranges.x in
-    let x = c.before.args.x in
+    let f = c.ranges.x in
+    let x = c.args.x in
     let s = small x f in
     rw (to_z-of_z f) (plain x (rw (to_z-of_z f) at c.if-x-lt0.false), omega arith)
 
 returns_2 : tie.Need-returns
-returns_2 c = let f = c.before.ranges.x in rw (to_z-of_z f) (refl, small c.before.args.x f)
+returns_2 c = let f = c.ranges.x in rw (to_z-of_z f) (refl, small c.args.x f)
 
 pub magnitude_spec : {M : Type 1} → statement M
 magnitude_spec =

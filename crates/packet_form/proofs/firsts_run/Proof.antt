@@ -11,7 +11,7 @@ use Rattle.packet_form.proofs.firsts_run.Tie as tie
 returns : tie.Need-returns-then-f
 returns c =
     let b = c.before.before.before in
-    let a = b.before.before.args in
+    let a = b.args in
     let r = c.lengths_run.ensures in
     let v = b.if-f.true in (
       (
@@ -24,7 +24,7 @@ returns c =
 
 returns_2 : tie.Need-returns
 returns_2 c =
-    let a = c.before.before.args in
+    let a = c.args in
     let v = c.if-f.false in
     ((sym (none_first a.f a.s.now v), omega (arith, head_equal a.f a.s.now v)), (omega arith, omega arith))
 

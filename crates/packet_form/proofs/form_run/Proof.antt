@@ -29,34 +29,34 @@ code_three s b e h i j = code_is s b 3 e (omega arith)
 returns : tie.Need-returns-then-code-eq0
 returns c =
     let b = c.before.before in
-    let s = b.before.before.args.s.now in
-    plainly s _ (plain_of 1 false) c.plain.ensures (form_0 s (code_is s _ 0 b.byte_at-code.ensures.0 c.before.if-code-eq0.true))
+    let s = b.args.s.now in
+    plainly s _ (plain_of 1 false) c.plain.ensures (form_0 s (code_is s _ 0 b.byte_at-code.ensures.0 c.if-code-eq0.true))
     (omega arith)
 
 returns_2 : tie.Need-returns-then-code-eq1
 returns_2 c =
     let b = c.before.before.before in
-    let s = b.before.before.args.s.now in
-    plainly s _ (plain_of 2 false) c.plain-then-code-eq1.ensures (form_1 s (code_is s _ 1 b.byte_at-code.ensures.0 c.before.if-code-eq1.true))
+    let s = b.args.s.now in
+    plainly s _ (plain_of 2 false) c.plain-then-code-eq1.ensures (form_1 s (code_is s _ 1 b.byte_at-code.ensures.0 c.if-code-eq1.true))
     (omega arith)
 
 returns_3 : tie.Need-returns-then-code-eq2
 returns_3 c =
     let b = c.before.before.before.before in
-    let s = b.before.before.args.s.now in
-    plainly s _ (plain_of 2 true) c.plain-then-code-eq2.ensures (form_2 s (code_is s _ 2 b.byte_at-code.ensures.0 c.before.if-code-eq2.true))
+    let s = b.args.s.now in
+    plainly s _ (plain_of 2 true) c.plain-then-code-eq2.ensures (form_2 s (code_is s _ 2 b.byte_at-code.ensures.0 c.if-code-eq2.true))
     (omega arith)
 
 returns_4 : tie.Need-returns-then-b-eq1
 returns_4 c =
     let d = c.before.before in
     let b = d.before.before.before.before in
-    let s = b.before.before.args.s.now in
+    let s = b.args.s.now in
     let p = c.padding_run-p.ensures in
     let t : code_of s ≡ 3 =
-    code_three s b.byte_at-code.result b.byte_at-code.ensures.0 d.before.before.before.if-code-eq0.false d.before.before.if-code-eq1.false
-    d.before.if-code-eq2.false in (
-      form_padded s t d.byte_at-b.result d.byte_at-b.ensures.0 c.before.if-b-eq1.true _ _ p.0.1 p.0.0,
+    code_three s b.byte_at-code.result b.byte_at-code.ensures.0 d.if-code-eq0.false d.if-code-eq1.false
+    d.if-code-eq2.false in (
+      form_padded s t d.byte_at-b.result d.byte_at-b.ensures.0 c.if-b-eq1.true _ _ p.0.1 p.0.0,
       record { count = omega arith; own = omega arith; lens = p.1.1; pad = p.1.0 },
     )
 
@@ -64,10 +64,10 @@ returns_5 : tie.Need-returns
 returns_5 c =
     let d = c.before in
     let b = d.before.before.before.before in
-    let s = b.before.before.args.s.now in
+    let s = b.args.s.now in
     let t : code_of s ≡ 3 =
-    code_three s b.byte_at-code.result b.byte_at-code.ensures.0 d.before.before.before.if-code-eq0.false d.before.before.if-code-eq1.false
-    d.before.if-code-eq2.false in (
+    code_three s b.byte_at-code.result b.byte_at-code.ensures.0 d.if-code-eq0.false d.if-code-eq1.false
+    d.if-code-eq2.false in (
       form_unpadded s t d.byte_at-b.result d.byte_at-b.ensures.0 c.if-b-eq1.false,
       record { count = omega arith; own = omega arith; lens = omega arith; pad = omega arith },
     )

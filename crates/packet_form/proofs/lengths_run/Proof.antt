@@ -59,7 +59,7 @@ abbrev decreases_loop : tie.decreases-loop-k
 decreases_loop s at n value₀ width₀ k₀ value width k = n - k
 
 loop_holds : tie.Need-loop-k-init invariant_loop decreases_loop
-loop_holds c = start c.before.args.s.now c.before.args.at c.before.args.n
+loop_holds c = start c.args.s.now c.args.at c.args.n
 
 length_run_requires : tie.Need-length_run-c-requires invariant_loop decreases_loop
 length_run_requires c κs = omega arith
@@ -76,20 +76,20 @@ add_k c = omega arith
 loop_again : tie.Need-loop-k-preserved invariant_loop decreases_loop
 loop_again c =
     let b = c.before.before.before.before in
-    let a = b.before.before.args in
-    let r = c.before.before.length_run-c.ensures in
+    let a = b.args in
+    let r = c.length_run-c.ensures in
     turn a.s.now a.at a.n b.loop-k.value b.loop-k.width b.loop-k.k _ _ b.loop-k.invariant
-    c.before.before.before.loop-k-test.true
+    c.loop-k-test.true
     r.0.0 r.0.1 r.1.0 r.1.1
 
 returns : tie.Need-returns invariant_loop decreases_loop
 unfolding lengths widths total
 returns c =
-    let i = c.before.loop-k.invariant in
-    let a = c.before.before.before.args in
-    let k = c.before.loop-k.k in
+    let i = c.loop-k.invariant in
+    let a = c.args in
+    let k = c.loop-k.k in
     let e : a.n - k ≡ 0 = omega (arith, c.loop-k-test.false) in
-    let r = drop (a.at + c.before.loop-k.width) a.s.now in
+    let r = drop (a.at + c.loop-k.width) a.s.now in
     let x : total (lengths (a.n - k) r) ≡ 0 = ap (λ (m : ℕ). total (lengths m r)) e in
     let y : widths (a.n - k) r ≡ 0 = ap (λ (m : ℕ). widths m r) e in
     ((omega (arith, i.values), omega (arith, i.bytes)), (omega (arith, i.small), omega (arith, i.short)))

@@ -37,7 +37,7 @@ abbrev decreases_loop : tie.decreases-loop-n
 decreases_loop s at n₀ n = length s - n
 
 loop_holds : tie.Need-loop-n-init invariant_loop decreases_loop
-loop_holds c = start c.before.args.s.now c.before.args.at
+loop_holds c = start c.args.s.now c.args.at
 
 add_byte_at : tie.Need-overflow_add-at invariant_loop decreases_loop
 add_byte_at c = omega arith
@@ -47,17 +47,17 @@ add_n c = omega arith
 
 loop_less : tie.Need-loop-n-smaller invariant_loop decreases_loop
 loop_less c =
-    let a = c.before.before.before.before.args in
-    let n = c.before.before.loop-n.n in
+    let a = c.args in
+    let n = c.loop-n.n in
     let l : a.at + n < length a.s.now = inside a.s.now (a.at + n)
-    (omega (arith, c.before.byte_at.ensures.0, c.loop-n-test.true)) in
+    (omega (arith, c.byte_at.ensures.0, c.loop-n-test.true)) in
     omega arith
 
 loop_again : tie.Need-loop-n-preserved invariant_loop decreases_loop
 loop_again c =
-    let a = c.before.before.before.before.args in
-    let n = c.before.before.loop-n.n in
-    turn a.s.now a.at n c.before.before.loop-n.invariant (omega (arith, c.before.byte_at.ensures.0, c.loop-n-test.true))
+    let a = c.args in
+    let n = c.loop-n.n in
+    turn a.s.now a.at n c.loop-n.invariant (omega (arith, c.byte_at.ensures.0, c.loop-n-test.true))
 
 mul_value : tie.Need-overflow_mul-value invariant_loop decreases_loop
 mul_value c = omega arith
@@ -74,10 +74,10 @@ add_t8 c = omega arith
 returns : tie.Need-returns invariant_loop decreases_loop
 returns c =
     let b = c.before.before in
-    let a = b.before.before.before.args in
-    let n = b.before.loop-n.n in
-    let i = b.before.loop-n.invariant in
-    let p = pad_last a.s.now (a.at + n) (λ e. c.before.loop-n-test.false (b.byte_at.ensures.0 ∙ e)) in
+    let a = b.args in
+    let n = b.loop-n.n in
+    let i = b.loop-n.invariant in
+    let p = pad_last a.s.now (a.at + n) (λ e. c.loop-n-test.false (b.byte_at.ensures.0 ∙ e)) in
     let v = c.byte_at-2.ensures in
     ((omega (arith, i.bytes, p.1, v.0), omega (arith, i.many, p.0)), (omega (arith, i.most, v.1), omega (arith, i.most)))
 

@@ -12,17 +12,17 @@ use Rattle.packet_frame.proofs.part.Tie as tie
 returns : tie.Need-returns-then-size-s
 unfolding part_of
 returns c =
-    let a = c.before.before.before.args in
-    rw (le-leb _ _ c.before.before.if-start-s.true, le-leb _ _ c.before.if-size-s.true)
+    let a = c.args in
+    rw (le-leb _ _ c.if-start-s.true, le-leb _ _ c.if-size-s.true)
     (ap (λ (k : ℕ). take k (drop a.start a.s.now)) (add-sub_cancel_left a.start a.size))
 
 returns_2 : tie.Need-returns-else-size-s
 unfolding part_of
-returns_2 c = rw (le-leb _ _ c.before.before.if-start-s.true, lt-leb _ _ c.before.if-size-s.false)
+returns_2 c = rw (le-leb _ _ c.if-start-s.true, lt-leb _ _ c.if-size-s.false)
 
 returns_3 : tie.Need-returns-else-start-s
 unfolding part_of
-returns_3 c = rw (lt-leb _ _ c.before.if-start-s.false)
+returns_3 c = rw (lt-leb _ _ c.if-start-s.false)
 
 pub part_spec : {M : Type 1} → statement M
 part_spec =

@@ -11,16 +11,16 @@ inside_run_requires : tie.Need-inside_run-requires
 inside_run_requires c κs =
     let z = c.before.before.before.before in
     let a = z.args in
-    next_inside a.s.now a.f a.last a.at a.k z.requires c.before.before.if-f.true c.if-k-f.true
+    next_inside a.s.now a.f a.last a.at a.k z.requires c.if-f.true c.if-k-f.true
 
 returns : tie.Need-returns-then-k-f
 returns c =
     let z = c.before.before.before.before.before in
     let a = z.args in
-    let v = c.before.before.before.if-f.true in
+    let v = c.if-f.true in
     let r = c.inside_run.ensures in
     record {
-      value = r.0.0 ∙ next_written a.s.now a.f a.last a.at a.k z.requires v c.before.if-k-f.true;
+      value = r.0.0 ∙ next_written a.s.now a.f a.last a.at a.k z.requires v c.if-k-f.true;
       place = λ w h. next_place a.s.now a.f a.last a.at a.k z.requires v _ r.0.1;
       small = r.1.0;
       short = r.1.1;
@@ -32,7 +32,7 @@ returns_2 c =
     let a = z.args in
     let n = z.requires in
     record {
-      value = next_rest a.s.now a.f a.last a.at a.k n c.before.before.if-f.true (λ h. omega (arith, c.if-k-f.false));
+      value = next_rest a.s.now a.f a.last a.at a.k n c.if-f.true (λ h. omega (arith, c.if-k-f.false));
       place = λ w h. absurd (omega (arith, c.if-k-f.false));
       small = next_small a.s.now a.f a.last a.at a.k n;
       short = omega arith;

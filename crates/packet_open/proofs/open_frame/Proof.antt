@@ -11,7 +11,7 @@ returns : tie.Need-returns
 returns c =
     let f = c.before in
     let r = f.before in
-    let a = r.before.before.args in
+    let a = r.args in
     let s = a.packet.now in
     let part : f.packet_frame-frame.result.now ≡ frame_at s r.packet_read-a.result a.k = f.packet_frame-frame.ensures in
     let opened : c.ec_dec_init.result ≡ dec_open f.packet_frame-frame.result.now = c.ec_dec_init.ensures in

@@ -17,7 +17,7 @@ long : (e : tie.Else-k-eq0) → ((start e).args.k - 1) / 255 + 1 ≡ length (pad
 long e = pad_some_length (start e).args.k e.if-k-eq0.false
 
 returns : tie.Need-returns-then-k-eq0
-returns c = put_as (put_none _ _) (pad_none c.before.before.args.k c.if-k-eq0.true) (omega arith)
+returns c = put_as (put_none _ _) (pad_none c.args.k c.if-k-eq0.true) (omega arith)
 
 put_byte_run_requires : tie.Need-put_byte_run-requires
 put_byte_run_requires c κs =

@@ -21,24 +21,24 @@ loop_holds c = (search rules, search rules, put_none _ _)
 put_byte_run_requires : tie.Need-put_byte_run-place-requires invariant_loop decreases_loop
 put_byte_run_requires c κs =
     let b = c.before.before in
-    let a = b.before.before.args in
+    let a = b.args in
     let p = b.loop-k.invariant.2 in
     omega (arith, p.behind, length-replicate b.loop-k.k a.b)
 
 loop_again : tie.Need-loop-k-preserved invariant_loop decreases_loop
 loop_again c =
     let b = c.before.before.before.before.before in
-    let a = b.before.before.args in
+    let a = b.args in
     let k = b.loop-k.k in (
       search rules,
       search rules,
-      put_as (put_then b.loop-k.invariant.2 c.before.before.put_byte_run-place.ensures) (replicate-append-replicate k 1 a.b) (omega arith),
+      put_as (put_then b.loop-k.invariant.2 c.put_byte_run-place.ensures) (replicate-append-replicate k 1 a.b) (omega arith),
     )
 
 returns : tie.Need-returns invariant_loop decreases_loop
 returns c =
     let b = c.before in
-    let a = b.before.before.args in
+    let a = b.args in
     let e : b.loop-k.k ≡ a.n = omega arith in
     put_as b.loop-k.invariant.2 (ap (λ (k : ℕ). replicate k a.b) e) (omega arith)
 

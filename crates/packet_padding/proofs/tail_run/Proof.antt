@@ -17,10 +17,10 @@ some zero h = absurd (h refl)
 some (suc n) h = let e : suc n - 1 ≡ n = omega arith in rw e
 
 returns : tie.Need-returns-then-k-eq0
-returns c = none c.before.args.k c.if-k-eq0.true
+returns c = none c.args.k c.if-k-eq0.true
 
 returns_2 : tie.Need-returns
-returns_2 c = some c.before.args.k c.if-k-eq0.false
+returns_2 c = some c.args.k c.if-k-eq0.false
 
 pub tail_run_spec : {M : Type 1} → statement M
 tail_run_spec = tie.close

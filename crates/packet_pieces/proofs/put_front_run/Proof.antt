@@ -46,7 +46,7 @@ returns c =
 returns_2 : tie.Need-returns
 returns_2 c =
     let b = c.before.before.before in
-    let a = b.before.before.before.args in
+    let a = b.args in
     let e = front_one a.toc a.three a.b a.k c.if-three.false in
     put_as b.put_byte_run-place.ensures e (omega (arith, ap length e))
 

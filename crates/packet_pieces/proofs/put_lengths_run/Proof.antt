@@ -28,16 +28,16 @@ loop_holds : tie.Need-loop-k-init invariant_loop decreases_loop
 loop_holds c = (search rules, search rules, put_as (put_none _ _) none (omega arith))
 
 cast_size : tie.Need-overflow_cast-size invariant_loop decreases_loop
-cast_size c = omega (arith, c.before.before.before.before.before.requires.1 c.before.before.loop-k.k)
+cast_size c = omega (arith, c.requires.1 c.loop-k.k)
 
 put_length_run_requires : tie.Need-put_length_run-place-requires invariant_loop decreases_loop
 put_length_run_requires c κs =
     let b = c.before.before.before in
-    let a = b.before.before.before.args in
+    let a = b.args in
     let ns = a.sizes.now in
     let k = b.loop-k.k in
     let p = b.loop-k.invariant.2 in (
-      b.before.before.before.requires.1 k,
+      b.requires.1 k,
       omega (
         arith,
         p.behind,
@@ -51,20 +51,20 @@ put_length_run_requires c κs =
 loop_again : tie.Need-loop-k-preserved invariant_loop decreases_loop
 loop_again c =
     let b = c.before.before.before.before.before.before in
-    let a = b.before.before.before.args in
+    let a = b.args in
     let ns = a.sizes.now in
     let k = b.loop-k.k in
     let e : codes_of ns k ++ length_code (get_or ns k 0) ≡ codes_of ns (k + 1) = codes_more ns k (omega arith) in (
       search rules,
       search rules,
-      put_as (put_then b.loop-k.invariant.2 c.before.before.put_length_run-place.ensures) e
+      put_as (put_then b.loop-k.invariant.2 c.put_length_run-place.ensures) e
           (omega (arith, ap length e, length-append (codes_of ns k) (length_code (get_or ns k 0)))),
     )
 
 returns : tie.Need-returns invariant_loop decreases_loop
 returns c =
     let b = c.before in
-    let a = b.before.before.before.args in
+    let a = b.args in
     let ns = a.sizes.now in
     let e : b.loop-k.k ≡ a.n = omega arith in
     let f : codes_of ns b.loop-k.k ≡ codes_of ns a.n = ap (λ (k : ℕ). codes_of ns k) e in

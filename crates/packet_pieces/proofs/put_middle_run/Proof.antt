@@ -31,7 +31,7 @@ returns c =
 
 returns_2 : tie.Need-returns
 returns_2 c =
-    let a = c.before.before.before.args in
+    let a = c.args in
     put_as (put_none _ _) (middle_none a.varied a.sizes.now c.if-varied.false) (omega arith)
 
 pub put_middle_run_spec : {M : Type 1} → statement M

@@ -32,7 +32,7 @@ by_word c = c.before.before.before
 -- ---- the pieces
 
 abbrev front : tie.After-tail_run-zeros → List ℕ
-front t = front_of (start t).args.toc (start t).args.three t.before.count_byte-b.result (start t).args.k
+front t = front_of (start t).args.toc (start t).args.three t.count_byte-b.result (start t).args.k
 
 abbrev middle : tie.After-tail_run-zeros → List ℕ
 middle t = middle_of (start t).args.varied (start t).args.sizes.now
@@ -47,7 +47,7 @@ whole : (t : tie.After-tail_run-zeros) → front t ++ (middle t ++ (frames t ++ 
     ≡ whole_of (start t).args.toc (start t).args.three (start t).args.k (start t).args.varied (start t).args.sizes.now (frames t)
 whole t =
     let a = (start t).args in
-    ap (λ (b : ℕ). front_of a.toc a.three b a.k ++ (middle t ++ (frames t ++ zeros t))) t.before.count_byte-b.ensures.0
+    ap (λ (b : ℕ). front_of a.toc a.three b a.k ++ (middle t ++ (frames t ++ zeros t))) t.count_byte-b.ensures.0
     ∙ ap (λ (n : ℕ). front_of a.toc a.three (count_byte (length a.sizes.now) a.varied a.k) a.k
     ++ (middle t ++ (frames t ++ replicate n 0))) t.tail_run-zeros.ensures
 

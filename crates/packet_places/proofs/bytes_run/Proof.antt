@@ -72,7 +72,7 @@ array_write_size c = omega arith
 returns : tie.Need-returns-then-n-k invariant_loop decreases_loop
 returns c =
     let b = c.before.before in
-    let a = b.before.args in
+    let a = b.args in
     let ns = listed a.s.now a.at a.n a.last in
     let m = many a.s.now a.at a.n a.last in
     let e : a.n ≡ b.loop-k.k = omega arith in
@@ -87,10 +87,10 @@ shared_slice_read_length : tie.Need-bounds-s-at invariant_loop decreases_loop
 shared_slice_read_length c = omega arith
 
 cast_length : tie.Need-overflow_cast-length invariant_loop decreases_loop
-cast_length c = let b = c.before.before.before in omega (arith, c.shared_slice_known-1.given (b.before.args.at + b.loop-k.k))
+cast_length c = let b = c.before.before.before in omega (arith, c.shared_slice_known-1.given (b.args.at + b.loop-k.k))
 
 cast_size_2 : tie.Need-overflow_cast-size-in-loop-k invariant_loop decreases_loop
-cast_size_2 c = let b = c.before.before.before in omega (arith, c.shared_slice_known-1.given (b.before.args.at + b.loop-k.k))
+cast_size_2 c = let b = c.before.before.before in omega (arith, c.shared_slice_known-1.given (b.args.at + b.loop-k.k))
 
 mul_size_2 : tie.Need-offset_bounds-size-k-in-loop-k invariant_loop decreases_loop
 mul_size_2 c = omega arith
@@ -101,7 +101,7 @@ array_write_size_2 c = omega arith
 add_place : tie.Need-overflow_add-place invariant_loop decreases_loop
 add_place c =
     let b = c.before.before.before in
-    omega (arith, b.loop-k.invariant.1.near, c.shared_slice_known-1.given (b.before.args.at + b.loop-k.k))
+    omega (arith, b.loop-k.invariant.1.near, c.shared_slice_known-1.given (b.args.at + b.loop-k.k))
 
 add_k : tie.Need-overflow_add-k invariant_loop decreases_loop
 add_k c = omega arith
@@ -112,11 +112,11 @@ loop_less c = omega arith
 loop_again : tie.Need-loop-k-preserved invariant_loop decreases_loop
 loop_again c =
     let b = c.before.before.before in
-    let a = b.before.args in
+    let a = b.args in
     let k = b.loop-k.k in
     let m = many a.s.now a.at a.n a.last in
-    let l : k < a.n = omega (arith, c.before.if-n-k.false) in
-    let v = byte a.s.now a.at a.n a.last b.before.requires.4 k l in (
+    let l : k < a.n = omega (arith, c.if-n-k.false) in
+    let v = byte a.s.now a.at a.n a.last b.requires.4 k l in (
       omega arith,
       one_more (listed a.s.now a.at a.n a.last) a.head _ _ _ _ _ b.loop-k.invariant.1 (omega (arith, m)) (omega (arith, m)) v
           (omega (arith, c.shared_slice_known-1.given (a.at + k))),

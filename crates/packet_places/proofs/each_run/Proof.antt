@@ -16,17 +16,17 @@ decreases_loop s f head last p₀ n at₀ place₀ k₀ p at place k = n - k
 abbrev start : tie.At-loop-k invariant_loop decreases_loop → tie.Start invariant_loop decreases_loop
 start b = b.before.before.before
 
-below : (c : tie.In-loop-k invariant_loop decreases_loop) → c.before.loop-k.k < 12
+below : (c : tie.In-loop-k invariant_loop decreases_loop) → c.loop-k.k < 12
 below c = omega (arith, c.loop-k-test.true, (start c.before).pre.1)
 
-near : (c : tie.In-loop-k invariant_loop decreases_loop) → (c.before.loop-k.place + 1275 ≤ 31684) × (c.before.loop-k.at ≤ 20024)
-near c = turn_near (start c.before).pre.0 c.before.loop-k.invariant (below c)
+near : (c : tie.In-loop-k invariant_loop decreases_loop) → (c.loop-k.place + 1275 ≤ 31684) × (c.loop-k.at ≤ 20024)
+near c = turn_near (start c.before).pre.0 c.loop-k.invariant (below c)
 
 loop_holds : tie.Need-loop-k-init invariant_loop decreases_loop
-loop_holds c = turn_start c.before.before.requires.0
+loop_holds c = turn_start c.requires.0
 
 next_run_requires : tie.Need-next_run-c-requires invariant_loop decreases_loop
-next_run_requires c κs = turn_next (start c.before).pre.0 c.before.loop-k.invariant (omega (arith, c.loop-k-test.true))
+next_run_requires c κs = turn_next (start c.before).pre.0 c.loop-k.invariant (omega (arith, c.loop-k-test.true))
 
 add_at : tie.Need-overflow_add-at-in-loop-k invariant_loop decreases_loop
 add_at c = let n = c.before.before in omega (arith, (near n.before).1, n.next_run-c.ensures.short)
@@ -38,7 +38,7 @@ loop_again : tie.Need-loop-k-preserved invariant_loop decreases_loop
 loop_again c =
     let n = c.before.before.before in
     let b = n.before.before in
-    turn_more (start b).requires.0 (start b).requires.1 b.loop-k.invariant (omega (arith, n.before.loop-k-test.true)) n.next_run-c.ensures
+    turn_more (start b).requires.0 (start b).requires.1 b.loop-k.invariant (omega (arith, n.loop-k-test.true)) n.next_run-c.ensures
 
 returns : tie.Need-returns invariant_loop decreases_loop
 returns c = let b = c.before in turn_end b.loop-k.p (start b).requires.0 b.loop-k.invariant (omega (arith, c.loop-k-test.false))
@@ -50,12 +50,12 @@ each_run_spec =
     (λ c. omega (arith, (near c.before).0))
     (λ c. omega (arith, below c.before))
     (λ c. omega (arith, below c.before))
-    (λ c. omega (arith, c.before.next_run-c.ensures.small))
+    (λ c. omega (arith, c.next_run-c.ensures.small))
     (λ c. omega (arith, below c.before.before))
     (λ c. omega (arith, below c.before.before))
     add_at
     add_place
     (λ c. omega (arith, below c.before.before.before.before))
-    (λ c. omega (arith, c.before.before.before.before.loop-k-test.true))
+    (λ c. omega (arith, c.loop-k-test.true))
     loop_again
     returns)

@@ -16,11 +16,11 @@ decreases_loop s f head last p₀ n at₀ place₀ k₀ p at place k = 4 - k
 abbrev start : tie.At-loop-k invariant_loop decreases_loop → tie.Start invariant_loop decreases_loop
 start b = b.before.before.before
 
-near : (c : tie.In-loop-k invariant_loop decreases_loop) → (c.before.loop-k.place + 1275 ≤ 31684) × (c.before.loop-k.at ≤ 20024)
-near c = turn_near (start c.before).pre.0 c.before.loop-k.invariant (omega (arith, c.loop-k-test.true))
+near : (c : tie.In-loop-k invariant_loop decreases_loop) → (c.loop-k.place + 1275 ≤ 31684) × (c.loop-k.at ≤ 20024)
+near c = turn_near (start c.before).pre.0 c.loop-k.invariant (omega (arith, c.loop-k-test.true))
 
 loop_holds : tie.Need-loop-k-init invariant_loop decreases_loop
-loop_holds c = turn_start c.before.before.requires.0
+loop_holds c = turn_start c.requires.0
 
 returns : tie.Need-returns-then-n-k invariant_loop decreases_loop
 returns c =
@@ -36,7 +36,7 @@ loop_again : tie.Need-loop-k-preserved invariant_loop decreases_loop
 loop_again c =
     let n = c.before.before.before in
     let b = n.before.before.before in
-    turn_more (start b).requires.0 (omega (arith, (start b).requires.1)) b.loop-k.invariant (omega (arith, n.before.if-n-k.false))
+    turn_more (start b).requires.0 (omega (arith, (start b).requires.1)) b.loop-k.invariant (omega (arith, n.if-n-k.false))
     n.next_run-c.ensures
 
 returns_2 : tie.Need-returns invariant_loop decreases_loop
@@ -49,13 +49,13 @@ few_run_spec =
     tie.close
     (tie.spec invariant_loop decreases_loop (λ c. search rules) loop_holds returns next_run_requires
     (λ c. omega (arith, (near c.before.before).0))
-    (λ c. omega (arith, c.before.before.loop-k-test.true))
-    (λ c. omega (arith, c.before.before.loop-k-test.true))
-    (λ c. omega (arith, c.before.next_run-c.ensures.small))
-    (λ c. omega (arith, c.before.before.before.loop-k-test.true))
-    (λ c. omega (arith, c.before.before.before.loop-k-test.true))
+    (λ c. omega (arith, c.loop-k-test.true))
+    (λ c. omega (arith, c.loop-k-test.true))
+    (λ c. omega (arith, c.next_run-c.ensures.small))
+    (λ c. omega (arith, c.loop-k-test.true))
+    (λ c. omega (arith, c.loop-k-test.true))
     (λ c. let n = c.before.before in omega (arith, (near n.before.before).1, n.next_run-c.ensures.short))
     (λ c. let n = c.before.before.before in omega (arith, (near n.before.before).0, n.next_run-c.ensures.small))
-    (λ c. omega (arith, c.before.before.before.before.before.loop-k-test.true))
-    (λ c. omega (arith, c.before.before.before.before.before.loop-k-test.true))
+    (λ c. omega (arith, c.loop-k-test.true))
+    (λ c. omega (arith, c.loop-k-test.true))
     loop_again returns_2)

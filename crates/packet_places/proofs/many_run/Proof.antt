@@ -35,7 +35,7 @@ bytes_run_requires c κs =
       omega (arith, z.requires.1),
       start_near a.s.now a.f a.head a.last p,
       last_small a.s.now a.f a.head a.last p,
-      ones a.s.now a.f a.head a.last p c.before.before.before.if-f.true c.if-head-at.true,
+      ones a.s.now a.f a.head a.last p c.if-f.true c.if-head-at.true,
     )
 
 returns : tie.Need-returns-then-head-at
@@ -43,7 +43,7 @@ returns c =
     let z = c.before.before.before.before.before.before in
     let a = z.args in
     let p = z.requires.0 in
-    let e = sizes_read a.s.now a.f a.head a.last p c.before.before.before.before.if-f.true in
+    let e = sizes_read a.s.now a.f a.head a.last p c.if-f.true in
     subst (λ (ns : List ℕ). Stands ns a.head c.bytes_run.result) e c.bytes_run.ensures
 
 pub many_run_spec : {M : Type 1} → statement M

@@ -12,23 +12,23 @@ use Rattle.packet_plan.proofs.plan_run.Tie as tie
 
 returns : tie.Need-returns-then-len-gt-LONGEST_PACKET
 returns c =
-    let a = c.before.before.before.args in
+    let a = c.args in
     let s = a.sizes.now in
     stopped a.len a.config a.n s a.length _ 1 (omega arith) c.stop.ensures
-    (stops_1 a.len a.config a.n s a.length c.before.if-len-gt-LONGEST_PACKET.true)
+    (stops_1 a.len a.config a.n s a.length c.if-len-gt-LONGEST_PACKET.true)
 
 room_run_requires : tie.Need-room_run-requires
 room_run_requires c κs =
-    let a = c.before.before.before.before.args in
-    (c.before.before.if-len-gt-LONGEST_PACKET.false, eqb-true a.n (total a.sizes.now) (sym c.before.adds_up.ensures ∙ c.if-adds_up.true))
+    let a = c.args in
+    (c.if-len-gt-LONGEST_PACKET.false, eqb-true a.n (total a.sizes.now) (sym c.adds_up.ensures ∙ c.if-adds_up.true))
 
 returns_3 : tie.Need-returns
 returns_3 c =
-    let a = c.before.before.before.before.before.args in
+    let a = c.args in
     let s = a.sizes.now in
     stopped a.len a.config a.n s a.length _ 6 (omega arith) c.stop-2.ensures
-    (stops_6 a.len a.config a.n s a.length c.before.before.before.if-len-gt-LONGEST_PACKET.false
-    (eqb-false a.n (total s) (sym c.before.before.adds_up.ensures ∙ c.before.if-adds_up.false)))
+    (stops_6 a.len a.config a.n s a.length c.if-len-gt-LONGEST_PACKET.false
+    (eqb-false a.n (total s) (sym c.adds_up.ensures ∙ c.if-adds_up.false)))
 
 pub plan_run_spec : {M : Type 1} → statement M
 plan_run_spec =

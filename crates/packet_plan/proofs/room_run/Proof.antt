@@ -33,7 +33,7 @@ returns c =
     let a = z.args in
     let s = a.sizes.now in
     too_long a.len a.config a.n s a.length _ z.requires.0 z.requires.1 c.stop.ensures
-    (omega (arith, z.requires.1, c.before.if-n-gt-LONGEST_PACKET.true, total_bare s))
+    (omega (arith, z.requires.1, c.if-n-gt-LONGEST_PACKET.true, total_bare s))
 
 returns_2 : tie.Need-returns-then-width-gt40000
 returns_2 c =
@@ -41,10 +41,10 @@ returns_2 c =
     let z = w.before.before.before.before in
     let a = z.args in
     too_long a.len a.config a.n a.sizes.now a.length _ z.requires.0 z.requires.1 c.stop-then-width-gt40000.ensures
-    (w.widths_run-width.ensures.more c.before.if-width-gt40000.true)
+    (w.widths_run-width.ensures.more c.if-width-gt40000.true)
 
 own_run_requires : tie.Need-own_run-shortest-requires
-own_run_requires c κs = omega (arith, c.before.before.widths_run-width.ensures.most, c.before.before.before.before.if-n-gt-LONGEST_PACKET.false)
+own_run_requires c κs = omega (arith, c.widths_run-width.ensures.most, c.if-n-gt-LONGEST_PACKET.false)
 
 returns_3 : tie.Need-returns-then-m-shortest
 returns_3 c =
@@ -54,10 +54,10 @@ returns_3 c =
     let a = z.args in
     let s = a.sizes.now in
     let k = known s a.length w.widths_run-width.result a.n _ _ _ z.requires.1 w.widths_run-width.ensures
-    q.before.before.before.if-width-gt40000.false
-    q.before.before.code_run-code.ensures q.before.own_run-shortest.ensures q.asked-m.ensures in
+    q.if-width-gt40000.false
+    q.code_run-code.ensures q.own_run-shortest.ensures q.asked-m.ensures in
     no_room a.len a.config a.n s a.length _ z.requires.0 z.requires.1 c.stop-then-m-shortest.ensures
-    (λ i j. omega (arith, c.before.if-m-shortest.true, k.least, k.wanted))
+    (λ i j. omega (arith, c.if-m-shortest.true, k.least, k.wanted))
 
 returns_4 : tie.Need-returns-then-len-m
 returns_4 c =
@@ -67,10 +67,10 @@ returns_4 c =
     let a = z.args in
     let s = a.sizes.now in
     let k = known s a.length w.widths_run-width.result a.n _ _ _ z.requires.1 w.widths_run-width.ensures
-    q.before.before.before.if-width-gt40000.false
-    q.before.before.code_run-code.ensures q.before.own_run-shortest.ensures q.asked-m.ensures in
+    q.if-width-gt40000.false
+    q.code_run-code.ensures q.own_run-shortest.ensures q.asked-m.ensures in
     no_room a.len a.config a.n s a.length _ z.requires.0 z.requires.1 c.stop-then-len-m.ensures
-    (λ i j. omega (arith, c.before.if-len-m.true, k.wanted))
+    (λ i j. omega (arith, c.if-len-m.true, k.wanted))
 
 returns_5 : tie.Need-returns
 returns_5 c =
@@ -80,16 +80,16 @@ returns_5 c =
     let a = z.args in
     let s = a.sizes.now in
     let k = known s a.length w.widths_run-width.result a.n _ _ _ z.requires.1 w.widths_run-width.ensures
-    q.before.before.before.if-width-gt40000.false
-    q.before.before.code_run-code.ensures q.before.own_run-shortest.ensures q.asked-m.ensures in
-    let long : shortest s ≤ length_for s a.length = omega (arith, c.before.before.if-m-shortest.false, k.least, k.wanted) in
-    let room : length_for s a.length ≤ a.len = omega (arith, c.before.if-len-m.false, k.wanted) in
+    q.if-width-gt40000.false
+    q.code_run-code.ensures q.own_run-shortest.ensures q.asked-m.ensures in
+    let long : shortest s ≤ length_for s a.length = omega (arith, c.if-m-shortest.false, k.least, k.wanted) in
+    let room : length_for s a.length ≤ a.len = omega (arith, c.if-len-m.false, k.wanted) in
     record {
       rule = c.frames_rule-refusal.ensures ∙ by_frames a.len a.config a.n s a.length z.requires.0 z.requires.1 long room;
       runs = λ e. record {
         length = k.wanted;
-        same = w.before.alike_run-same.ensures;
-        code = q.before.before.code_run-code.ensures;
+        same = w.alike_run-same.ensures;
+        code = q.code_run-code.ensures;
         bare = k.plain;
       };
     }

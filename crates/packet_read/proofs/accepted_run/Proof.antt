@@ -24,14 +24,14 @@ returns : tie.Need-returns-then-f-le4
 returns c =
     let z = c.before.before.before.before.before in
     let a = z.args in
-    answer a.s.now a.f a.head a.last a.toc _ _ z.requires.0 z.requires.2 c.before.few_run-p.ensures
+    answer a.s.now a.f a.head a.last a.toc _ _ z.requires.0 z.requires.2 c.few_run-p.ensures
     c.answer_run.ensures
 
 returns_2 : tie.Need-returns
 returns_2 c =
     let z = c.before.before.before.before.before in
     let a = z.args in
-    answer a.s.now a.f a.head a.last a.toc _ _ z.requires.0 z.requires.2 c.before.many_run-p.ensures
+    answer a.s.now a.f a.head a.last a.toc _ _ z.requires.0 z.requires.2 c.many_run-p.ensures
     c.answer_run-2.ensures
 
 pub accepted_run_spec : {M : Type 1} → statement M

@@ -19,27 +19,27 @@ mono s b e h = let z : b / 4 % 2 ≡ 0 = omega arith in ap (λ (n : ℕ). n / 4 
 
 -- behind the tests of the rules: the packet, and what they say where they are kept
 abbrev packet : tie.After-span_run-span → List ℕ
-packet d = d.before.before.before.before.args.packet.now
+packet d = d.args.packet.now
 
 short : (d : tie.After-span_run-span) → length (packet d) ≤ 16384
-short d = d.before.before.if-packet-gt-LONGEST_PACKET.false
+short d = d.if-packet-gt-LONGEST_PACKET.false
 
 abbrev spanned : tie.After-byte_at-toc → tie.After-span_run-span
 spanned b = b.before.before
 
 kept : (b : tie.After-byte_at-toc) → Told (packet (spanned b)) (spanned b).span_run-span.result
-kept b = told (packet (spanned b)) _ (spanned b).span_run-span.ensures b.before.if-span.true
+kept b = told (packet (spanned b)) _ (spanned b).span_run-span.ensures b.if-span.true
 
 returns : tie.Need-returns-then-packet-gt-LONGEST_PACKET
 returns c =
-    let s = c.before.before.before.args.packet.now in
-    c.refused.ensures ∙ sym (refused_is s 1 (rule_one s c.before.if-packet-gt-LONGEST_PACKET.true) (omega arith))
+    let s = c.args.packet.now in
+    c.refused.ensures ∙ sym (refused_is s 1 (rule_one s c.if-packet-gt-LONGEST_PACKET.true) (omega arith))
 
 returns_2 : tie.Need-returns-then-toc-gt11
 returns_2 c =
     let b = c.before.before in
     let s = packet (spanned b) in
-    let g : 11 < config_of s = omega (arith, c.before.if-toc-gt11.true, b.byte_at-toc.ensures.0) in
+    let g : 11 < config_of s = omega (arith, c.if-toc-gt11.true, b.byte_at-toc.ensures.0) in
     c.refused-then-toc-gt11.ensures
     ∙ sym (refused_is s 11 (rule_eleven s (short (spanned b)) (kept b).rules (not_speech s g)) (omega arith))
 
@@ -47,17 +47,17 @@ returns_3 : tie.Need-returns-then-toc-eq1
 returns_3 c =
     let b = c.before.before.before in
     let s = packet (spanned b) in
-    let g : stereo_of s ≡ 1 = ap (λ (n : ℕ). n / 4 % 2) (sym b.byte_at-toc.ensures.0) ∙ c.before.if-toc-eq1.true in
+    let g : stereo_of s ≡ 1 = ap (λ (n : ℕ). n / 4 % 2) (sym b.byte_at-toc.ensures.0) ∙ c.if-toc-eq1.true in
     c.refused-then-toc-eq1.ensures
     ∙ sym (refused_is s 11 (rule_eleven s (short (spanned b)) (kept b).rules (stereo_not s g)) (omega arith))
 
 accepted_run_requires : tie.Need-accepted_run-requires
 accepted_run_requires c κs =
     let b = c.before.before in
-    let f = (spanned b).before.form-run in
+    let f = (spanned b).form_run-f in
     let s = packet (spanned b) in
     let t = kept b in
-    let g : config_of s ≤ 11 = omega (arith, c.before.if-toc-gt11.false, b.byte_at-toc.ensures.0) in (
+    let g : config_of s ≤ 11 = omega (arith, c.if-toc-gt11.false, b.byte_at-toc.ensures.0) in (
       record {
         short = short (spanned b);
         rules = t.rules;
@@ -75,8 +75,8 @@ returns_4 : tie.Need-returns-then-span
 returns_4 c =
     let b = c.before.before.before in
     let s = packet (spanned b) in
-    let g : config_of s ≤ 11 = omega (arith, c.before.before.if-toc-gt11.false, b.byte_at-toc.ensures.0) in
-    let m : stereo_of s ≡ 0 = mono s b.byte_at-toc.result b.byte_at-toc.ensures.0 c.before.if-toc-eq1.false in
+    let g : config_of s ≤ 11 = omega (arith, c.if-toc-gt11.false, b.byte_at-toc.ensures.0) in
+    let m : stereo_of s ≡ 0 = mono s b.byte_at-toc.result b.byte_at-toc.ensures.0 c.if-toc-eq1.false in
     c.accepted_run.ensures
     ∙ sym (answer_is s (reads s (record { short = short (spanned b); rules = (kept b).rules; config = g; mono = m })))
 
@@ -86,7 +86,7 @@ returns_5 c =
     let s = packet d in
     let ten : c.refused-2.result ≡ refused 10 = c.refused-2.ensures in
     ten
-    ∙ sym (refused_is s 10 (rule_ten s (short d) (broke s _ d.span_run-span.ensures c.before.if-span.false)) (omega arith))
+    ∙ sym (refused_is s 10 (rule_ten s (short d) (broke s _ d.span_run-span.ensures c.if-span.false)) (omega arith))
 
 pub packet_read_spec : {M : Type 1} → statement M
 packet_read_spec =

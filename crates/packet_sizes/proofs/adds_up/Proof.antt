@@ -21,34 +21,34 @@ abbrev decreases_loop : tie.decreases-loop-k
 decreases_loop sizes n left₀ k₀ left k = length sizes - k
 
 loop_holds : tie.Need-loop-k-init invariant_loop decreases_loop
-loop_holds c = (omega arith, none c.before.args.n)
+loop_holds c = (omega arith, none c.args.n)
 
 returns : tie.Need-returns-then-left-size invariant_loop decreases_loop
 returns c =
     let b = c.before.before.before.before in
-    let a = b.before.before.args in
-    over a.sizes.now a.n b.loop-k.k b.loop-k.left c.before.before.before.loop-k-test.true b.loop-k.invariant.1
-    (omega (arith, c.if-left-size.true, c.before.wide-size.ensures))
+    let a = b.args in
+    over a.sizes.now a.n b.loop-k.k b.loop-k.left c.loop-k-test.true b.loop-k.invariant.1
+    (omega (arith, c.if-left-size.true, c.wide-size.ensures))
 
 loop_again : tie.Need-loop-k-preserved invariant_loop decreases_loop
 loop_again c =
     let b = c.before.before.before.before in
-    let a = b.before.before.args in (
+    let a = b.args in (
       omega arith,
       omega (
         arith,
         b.loop-k.invariant.1,
-        c.before.wide-size.ensures,
+        c.wide-size.ensures,
         c.if-left-size.false,
         total_more a.sizes.now b.loop-k.k
-            c.before.before.before.loop-k-test.true,
+            c.loop-k-test.true,
       ),
     )
 
 returns_2 : tie.Need-returns invariant_loop decreases_loop
 returns_2 c =
     let b = c.before in
-    let a = b.before.before.args in
+    let a = b.args in
     left_is a.sizes.now a.n b.loop-k.k b.loop-k.left (omega arith) b.loop-k.invariant.1
 
 pub adds_up_spec : {M : Type 1} → statement M

@@ -19,18 +19,18 @@ loop_holds c = (omega arith, λ j h. absurd (omega arith))
 returns : tie.Need-returns-then-sizes-k-gt-LONGEST_FRAME invariant_loop decreases_loop
 returns c =
     let b = c.before.before.before in
-    small_not b.before.args.sizes.now b.loop-k.k c.before.before.loop-k-test.true c.if-sizes-k-gt-LONGEST_FRAME.true
+    small_not b.args.sizes.now b.loop-k.k c.loop-k-test.true c.if-sizes-k-gt-LONGEST_FRAME.true
 
 loop_again : tie.Need-loop-k-preserved invariant_loop decreases_loop
 loop_again c =
     let b = c.before.before.before in
-    let s = b.before.args.sizes.now in
+    let s = b.args.sizes.now in
     (omega arith, one_more (λ (j : ℕ). get_or s j 0 ≤ 1275) b.loop-k.k b.loop-k.invariant.1 c.if-sizes-k-gt-LONGEST_FRAME.false)
 
 returns_2 : tie.Need-returns invariant_loop decreases_loop
 returns_2 c =
     let b = c.before in
-    small_all b.before.args.sizes.now (λ j h. b.loop-k.invariant.1 j (omega arith))
+    small_all b.args.sizes.now (λ j h. b.loop-k.invariant.1 j (omega arith))
 
 pub small_run_spec : {M : Type 1} → statement M
 small_run_spec =

@@ -61,45 +61,45 @@ known : (g : tie.After-firsts_run-c)
     → Reached (packet g) (form g) (formed g) ((form g).own + (form g).lens + g.firsts_run-c.result.width) g.firsts_run-c.result.value
 known g fits =
     let b = first_byte g in
-    let t = g.before.before.in-time in
+    let t = g.in_time in
     let r = g.firsts_run-c.ensures.value_value in
     reached (packet g) (form g) (formed g) b.byte_at-toc.result b.byte_at-toc.ensures.0 _ _ t.result t.ensures
-    g.before.if-in_time.true b.before.if1.left r.0 r.1 fits
+    g.if-in_time.true b.before.if1.left r.0 r.1 fits
 
 -- ---- the returns
 
 returns : tie.Need-returns-then-n-eq0
 returns c =
     let z = c.before.before.before in
-    c.none.ensures ∙ broken z.args.s.now z.args.f z.requires.f_value.0 (λ k. omega (arith, k.some, c.before.if-n-eq0.true))
+    c.none.ensures ∙ broken z.args.s.now z.args.f z.requires.f_value.0 (λ k. omega (arith, k.some, c.if-n-eq0.true))
 
 returns_2 : tie.Need-returns-then-s-used
 returns_2 c =
     let g = lengths_read c.before.before in
     let r = g.firsts_run-c.ensures.value_value in
     c.none-then-s-used.ensures
-    ∙ broken (packet g) (form g) (formed g) (λ k. omega (arith, k.fits, c.before.if-s-used.true, r.0, r.1))
+    ∙ broken (packet g) (form g) (formed g) (λ k. omega (arith, k.fits, c.if-s-used.true, r.0, r.1))
 
 returns_3 : tie.Need-returns-then-f
 returns_3 c =
     let t = c.before.before in
     let g = lengths_read t.before.before in
     c.closed.ensures
-    ∙ closes_varied (packet g) (form g) (formed g) (bytes g) _ _ (known g t.before.if-s-used.false) t.if-f.true
+    ∙ closes_varied (packet g) (form g) (formed g) (bytes g) _ _ (known g t.if-s-used.false) t.if-f.true
 
 returns_4 : tie.Need-returns-then-in_time
 returns_4 c =
     let t = c.before in
     let g = lengths_read t.before.before in
     c.shared_run.ensures
-    ∙ closes_shared (packet g) (form g) (formed g) (bytes g) _ _ (known g t.before.if-s-used.false) t.if-f.false
+    ∙ closes_shared (packet g) (form g) (formed g) (bytes g) _ _ (known g t.if-s-used.false) t.if-f.false
 
 returns_5 : tie.Need-returns
 returns_5 c =
     let b = c.before.before.before in
     let a = (start b).args in
-    let q = timed a.s.now a.f.count b.byte_at-toc.result _ b.byte_at-toc.ensures.0 c.before.before.in_time.ensures in
-    let l = leb-false (a.f.count * duration (config_of a.s.now)) 1200 (sym q ∙ c.before.if-in_time.false) in
+    let q = timed a.s.now a.f.count b.byte_at-toc.result _ b.byte_at-toc.ensures.0 c.in_time.ensures in
+    let l = leb-false (a.f.count * duration (config_of a.s.now)) 1200 (sym q ∙ c.if-in_time.false) in
     c.none-2.ensures ∙ broken a.s.now a.f (start b).requires.f_value.0 (λ k. omega (arith, k.time, l))
 
 pub span_run_spec : {M : Type 1} → statement M

@@ -32,7 +32,7 @@ module _ (s : List ℕ) (a : Packet) (read : a ≡ packet_read s) where
 put_accepted_run_requires : tie.Need-put_accepted_run-requires
 put_accepted_run_requires c κs =
     let r = c.before.before.before in
-    let s = r.before.before.args.input.now in
+    let s = r.args.input.now in
     let h : Accepted s = omega (arith, number s _ r.packet_read-a.ensures) in
     (search rules, rw r.packet_read-a.ensures (small s h))
 
@@ -40,13 +40,13 @@ returns : tie.Need-returns-then-a-eq0
 returns c =
     let t = c.before.before in
     let r = t.before.before in
-    let s = r.before.before.args.input.now in
+    let s = r.args.input.now in
     printed_put (rw (accepted s _ r.packet_read-a.ensures (omega arith)) at c.put_accepted_run.ensures) (search rules)
 
 put_one_run_requires : tie.Need-put_one_run-requires
 put_one_run_requires c κs =
     let r = c.before.before.before.before in
-    let s = r.before.before.args.input.now in
+    let s = r.args.input.now in
     (search rules, omega (arith, number s _ r.packet_read-a.ensures, refusal_most s))
 
 returns_2 : tie.Need-returns
@@ -54,7 +54,7 @@ unfolding ascii refused_text
 returns_2 c =
     let t = c.before.before.before in
     let r = t.before.before in
-    let s = r.before.before.args.input.now in
+    let s = r.args.input.now in
     printed_put (rw (refused s _ r.packet_read-a.ensures (λ e. omega arith)) at c.put_one_run.ensures) (search rules)
 
 pub packet_text_spec : {M : Type 1} → statement M

@@ -9,8 +9,8 @@ use Rattle.packet_text_accepted.proofs.put_one_run.Tie as tie
 
 returns : tie.Need-returns
 returns c =
-    let x = c.before.before.before.before.before.before.before.args.x in
-    put_as c.before.before.put_line_run.ensures (rw (to_z_pos w16 {n = x} (omega arith))) (omega arith)
+    let x = c.args.x in
+    put_as c.put_line_run.ensures (rw (to_z_pos w16 {n = x} (omega arith))) (omega arith)
 
 pub put_one_run_spec : {M : Type 1} → statement M
 put_one_run_spec =

@@ -11,8 +11,8 @@ use Rattle.packet_text_frames.proofs.put_frame.Tie as tie
 returns : tie.Need-returns
 unfolding ascii
 returns c =
-    let a = c.before.before.before.before.before.before.before.args in
-    put_as c.before.before.put_line_run.ensures
+    let a = c.args in
+    put_as c.put_line_run.ensures
     (rw (to_z_pos w16 {n = a.start} (omega arith), to_z_pos w16 {n = a.size} (omega arith)))
     (omega arith)
 

@@ -26,19 +26,19 @@ put_frame_requires : tie.Need-put_frame-place-requires invariant_loop decreases_
 put_frame_requires c κs =
     let b = c.before.before.before.before in
     let p = b.loop-k.invariant.2 in
-    let h = b.before.before.requires.1.inside b.loop-k.k (omega arith) in
+    let h = b.requires.1.inside b.loop-k.k (omega arith) in
     (omega (arith, p.behind, p.most), omega arith, omega arith)
 
 loop_again : tie.Need-loop-k-preserved invariant_loop decreases_loop
 unfolding frame_lines
 loop_again c =
     let b = c.before.before.before.before.before.before.before in
-    (search rules, search rules, put_as (put_then b.loop-k.invariant.2 c.before.before.put_frame-place.ensures) (rw add-one) (omega arith))
+    (search rules, search rules, put_as (put_then b.loop-k.invariant.2 c.put_frame-place.ensures) (rw add-one) (omega arith))
 
 returns : tie.Need-returns invariant_loop decreases_loop
 returns c =
     let b = c.before in
-    let a = b.before.before.args.t3 in
+    let a = b.args.t3 in
     let e : b.loop-k.k ≡ a.count = omega arith in
     put_as b.loop-k.invariant.2 (ap (frame_lines a) e) (omega arith)
 

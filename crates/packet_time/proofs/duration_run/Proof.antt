@@ -60,9 +60,9 @@ returns_5 c = arm longest 600 _ (unfold durations in refl) c.match.keys5
 
 returns_6 : tie.Need-returns-in_default
 returns_6 c =
-    let v = c.before.args.config in
+    let v = c.args.config in
     let o = c.match.rest in
-    let e = below_at (λ n. has_key shortest n || first n) 32 each v c.before.requires in
+    let e = below_at (λ n. has_key shortest n || first n) 32 each v c.requires in
     let d = skipped short v (second v) o.0.0.0.1 (skipped shortest v (first v) o.0.0.0.0.1 e) in
     let b = skipped long v (fourth v) o.0.1 (skipped usual v (third v) o.0.0.1 d) in
     eqb-true 100 (duration v) (skipped longest v (eqb 100 (duration v)) o.1 b)

@@ -29,9 +29,9 @@ short c =
     omega (arith, w.long, w.room, w.buffer, (shortest_range (start c).args.sizes.now).0, (start c).requires.same_value.2)
 
 worked : (f : tie.After-final_code-code)
-    → Worked (begun f).args.p f.before.before.less-k.result f.before.own_run-shortest.result f.final_code-code.result
+    → Worked (begun f).args.p f.less-k.result f.own_run-shortest.result f.final_code-code.result
 worked f =
-    record { pads = f.before.before.less-k.ensures; least = f.before.own_run-shortest.ensures; coded = f.final_code-code.ensures }
+    record { pads = f.less-k.ensures; least = f.own_run-shortest.ensures; coded = f.final_code-code.ensures }
 
 first_byte : (f : tie.After-final_code-code) → 8 * (begun f).args.c + f.final_code-code.result < 256
 first_byte f =
@@ -42,7 +42,7 @@ abbrev whole : tie.After-final_code-code → List ℕ
 whole f =
     let a = (begun f).args in
     let code = f.final_code-code.result in
-    whole_of (8 * a.c + code) (eqb code 3) f.before.before.less-k.result (not a.p.same) a.sizes.now a.frames.now
+    whole_of (8 * a.c + code) (eqb code 3) f.less-k.result (not a.p.same) a.sizes.now a.frames.now
 
 packet : (f : tie.After-final_code-code)
     → whole f ≡ packet_of (begun f).args.c (begun f).args.sizes.now (begun f).args.frames.now (begun f).args.p.length
@@ -57,7 +57,7 @@ put_whole_run_requires c κs =
     let s = a.sizes.now in
     let w = (begun f).requires.writable in (
       (
-        omega (arith, f.before.before.less-k.ensures, w.room, w.buffer),
+        omega (arith, f.less-k.ensures, w.room, w.buffer),
         w.some,
         at_most_twelve (length s) a.c w.config w.time,
         small_most s w.small,

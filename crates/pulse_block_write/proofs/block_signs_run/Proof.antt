@@ -25,7 +25,7 @@ row_is : (c : tie.After-sign_row_at_run-row)
 row_is c =
     let a = (start c).args in
     let p = (start c).requires.1.1 in
-    let r = c.sign-row-at-run in
+    let r = c.sign_row_at_run-row in
     sign_lent a.f.signal a.f.offset a.c p.1.2 p.1.3 r.result r.ensures a.rows.now p.0
 
 silk_encode_signs_run_requires : tie.Need-silk_encode_signs_run-requires
@@ -43,7 +43,7 @@ returns : tie.Need-returns-then-some_pulses
 returns c =
     let s = c.before.before.before.before.before in
     let b = start s in
-    let a = c.before.before.silk-encode-signs-run in
+    let a = c.silk_encode_signs_run in
     let v = b.args.part.now in
     subst (λ (q : List ℕ). Told (out b.args.buf.now b.args.w) v (each (pos 0) (sign q) (map nat_abs v)) 256 (out a.new.0 a.result))
     (row_is s) a.ensures
@@ -51,7 +51,7 @@ returns c =
 returns_2 : tie.Need-returns
 returns_2 c =
     let b = c.before.before.before.before in
-    let e = c.before.some_pulses.ensures c.if-some_pulses.false in
+    let e = c.some_pulses.ensures c.if-some_pulses.false in
     signs_untold _ b.args.c b.args.j b.args.part.now b.requires.part_len.1 e.0 e.1 b.requires.core
 
 pub block_signs_run_spec : {M : Type 1} → statement M

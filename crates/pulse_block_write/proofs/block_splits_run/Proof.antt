@@ -13,14 +13,14 @@ use Rattle.pulse_block_write.proofs.block_splits_run.Tie as tie
 silk_shell_encoder_run_requires : tie.Need-silk_shell_encoder_run-requires
 silk_shell_encoder_run_requires c κs =
     let b = c.before.before.before.before.before.before.before in
-    let s = c.before.before.before.shrink-run in
+    let s = c.shrink_run in
     (b.requires.core, (b.requires.total_bound, (b.requires.pulse_rows, (b.requires.part_len.1, s.auto.0, ap total s.ensures ∙ b.requires.part_len.3))))
 
 returns : tie.Need-returns
 returns c =
     let b = c.before.before.before.before.before.before.before.before.before.before in
-    let s = c.before.before.before.before.before.before.shrink-run in
-    let r = c.before.before.silk-shell-encoder-run in
+    let s = c.shrink_run in
+    let r = c.silk_shell_encoder_run in
     subst (λ (y : List ℕ). Told (out b.args.buf.now b.args.w) y (shell 4 b.args.c) 240 (out r.new.0 r.result)) s.ensures r.ensures
 
 pub block_splits_run_spec : {M : Type 1} → statement M

@@ -54,7 +54,7 @@ ec_dec_icdf8_run_requires c κs =
 loop_holds : tie.Need-loop-v-init invariant_loop decreases_loop
 loop_holds c =
     let z = c.before.before.before.before.before in
-    let a = c.before.ec_dec_icdf8_run-a.ensures in
+    let a = c.ec_dec_icdf8_run-a.ensures in
     let e = count_in z.args.rows.now z.args.level z.requires.pulse_rows (omega arith) in
     record {
       rest = refl;
@@ -67,34 +67,34 @@ loop_holds c =
     }
 
 sub_ec_dec_icdf8_run_2 : tie.Need-slice_bounds-ec_dec_icdf8_run-count-in-loop-v invariant_loop decreases_loop
-sub_ec_dec_icdf8_run_2 c = later_within (c.before.before.loop-v.j + 1) c.later_at-at.result c.later_at-at.ensures
+sub_ec_dec_icdf8_run_2 c = later_within (c.loop-v.j + 1) c.later_at-at.result c.later_at-at.ensures
 
 part_ec_dec_icdf8_run_start_2 : tie.Need-slice_bounds-ec_dec_icdf8_run-start-in-loop-v invariant_loop decreases_loop
 part_ec_dec_icdf8_run_start_2 c =
-    let h = later_within (c.before.before.loop-v.j + 1) c.later_at-at.result c.later_at-at.ensures in search rules
+    let h = later_within (c.loop-v.j + 1) c.later_at-at.result c.later_at-at.ensures in search rules
 
 ec_dec_icdf8_run_requires_2 : tie.Need-ec_dec_icdf8_run-b-requires invariant_loop decreases_loop
 ec_dec_icdf8_run_requires_2 c κs =
     let z = start c.before.before.before in
-    let l = c.before.before.before.loop in
-    let e = later_in z.args.rows.now (l.j + 1) c.before.later_at-at.result z.pre.1.1.0 c.before.later_at-at.ensures in
+    let l = c.loop-v in
+    let e = later_in z.args.rows.now (l.j + 1) c.later_at-at.result z.pre.1.1.0 c.later_at-at.ensures in
     (l.invariant.core, (omega (arith, l.invariant.most, z.pre.1.0), rw e (later (l.j + 1)).good))
 
 loop_less : tie.Need-loop-v-smaller invariant_loop decreases_loop
 loop_less c =
-    let l = c.before.before.before.before.before.loop in
-    let p = not_tenth l.j l.v l.invariant.to l.invariant.tenth c.before.before.before.before.loop-v-test.true in
+    let l = c.loop-v in
+    let p = not_tenth l.j l.v l.invariant.to l.invariant.tenth c.loop-v-test.true in
     omega arith
 
 loop_again : tie.Need-loop-v-preserved invariant_loop decreases_loop
 loop_again c =
     let z = start c.before.before.before.before.before in
-    let l = c.before.before.before.before.before.loop in
-    let t = c.before.before.before.before.loop-v-test.true in
+    let l = c.loop-v in
+    let t = c.loop-v-test.true in
     let p : l.j < 10 = not_tenth l.j l.v l.invariant.to l.invariant.tenth t in
-    let at = c.before.before.before.later-at in
+    let at = c.later_at-at in
     let e = later_in z.args.rows.now (l.j + 1) at.result z.pre.1.1.0 at.ensures in
-    let b = c.before.ec-dec-icdf8-run2 in
+    let b = c.ec_dec_icdf8_run-b in
     let g = later (l.j + 1) in
     record {
       rest = lows_next _ l.d _ 10 l.j l.v b.result e b.ensures p t ∙ l.invariant.rest;
@@ -110,9 +110,9 @@ returns : tie.Need-returns invariant_loop decreases_loop
 unfolding count
 returns c =
     let z = start c.before in
-    let l = c.before.loop in
+    let l = c.loop-v in
     let i = l.invariant in
-    let a = c.before.before.before.ec-dec-icdf8-run in
+    let a = c.ec_dec_icdf8_run-a in
     let n : l.v ≡ 17 → ⊥ = c.loop-v-test.false in
     let e = count_in z.args.rows.now z.args.level z.pre.1.1.0 (omega arith) in (
       record {

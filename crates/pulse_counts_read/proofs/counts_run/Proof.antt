@@ -58,15 +58,15 @@ loop_holds c =
 count_run_requires : tie.Need-count_run-b-requires invariant_loop decreases_loop
 count_run_requires c κs =
     let z = c.before.before.before.before in
-    let i = c.before.loop-i.invariant in
+    let i = c.loop-i.invariant in
     (i.through.core, (omega (arith, i.through.most, z.requires.total_bound, z.requires.level_bound.1), (z.requires.pulse_rows, z.requires.level_bound.0)))
 
 loop_again : tie.Need-loop-i-preserved invariant_loop decreases_loop
 loop_again c =
     let z = start c.before.before.before.before.before in
-    let l = c.before.before.before.before.before.loop in
+    let l = c.loop-i in
     let g = l.invariant in
-    let b = c.before.before.before.count-run in
+    let b = c.count_run-b in
     let r = b.result in
     let r1 = b.ensures.0 in
     record {
@@ -82,7 +82,7 @@ loop_again c =
 returns : tie.Need-returns invariant_loop decreases_loop
 returns c =
     let z = start c.before in
-    let l = c.before.loop in
+    let l = c.loop-i in
     (finish _ z.args.level z.args.n _ l.counts l.lows _ l.i l.invariant (omega arith) z.pre.1.1.1.1, (l.invariant.small, l.invariant.small2))
 
 pub counts_run_spec : {M : Type 1} → statement M

@@ -31,27 +31,27 @@ abbrev start : tie.At-loop-j invariant_loop decreases_loop → tie.Start invaria
 start l = l.before.before.before
 
 loop_holds : tie.Need-loop-j-init invariant_loop decreases_loop
-loop_holds c = record { midway = midway_start c.before.before.requires.core; to = omega arith; kept = refl }
+loop_holds c = record { midway = midway_start c.requires.core; to = omega arith; kept = refl }
 
 sub_ec_enc_icdf_run : tie.Need-slice_bounds-ec_enc_icdf_run-count invariant_loop decreases_loop
 sub_ec_enc_icdf_run c =
-    let at = c.before.before.later-at in
-    later_within (c.before.before.before.before.loop-j.j + 1) at.result at.ensures
+    let at = c.later_at-at in
+    later_within (c.loop-j.j + 1) at.result at.ensures
 
 part_ec_enc_icdf_run_start : tie.Need-slice_bounds-ec_enc_icdf_run-start invariant_loop decreases_loop
 part_ec_enc_icdf_run_start c =
-    let at = c.before.before.later-at in
-    let h = later_within (c.before.before.before.before.loop-j.j + 1) at.result at.ensures in
+    let at = c.later_at-at in
+    let h = later_within (c.loop-j.j + 1) at.result at.ensures in
     search rules
 
 ec_enc_icdf_run_requires : tie.Need-ec_enc_icdf_run-w-requires invariant_loop decreases_loop
 ec_enc_icdf_run_requires c κs =
     let z = start c.before.before.before.before.before in
-    let l = c.before.before.before.before.before.loop in
-    let at = c.before.before.before.later-at in
+    let l = c.loop-j in
+    let at = c.later_at-at in
     let p = z.pre.1.1 in
     let e = later_in z.args.rows.now (l.j + 1) at.result p.0 at.ensures in
-    let v = c.before.before.count_said-v.ensures in (
+    let v = c.count_said-v.ensures in (
       l.invariant.midway.core,
       (omega (arith, l.invariant.midway.most, z.pre.1.0), rw (e, v) ((later (l.j + 1)).good, said_writable (said z) (l.j + 1) p.1.0 p.1.1)),
     )
@@ -60,11 +60,11 @@ loop_again : tie.Need-loop-j-preserved invariant_loop decreases_loop
 loop_again c =
     let h = c.before.before.before.before.before.before.before in
     let z = start h.before in
-    let l = h.before.loop in
-    let at = c.before.before.before.before.before.before.later-at in
-    let a = c.before.before.ec-enc-icdf-run in
+    let l = h.loop-j in
+    let at = c.later_at-at in
+    let a = c.ec_enc_icdf_run-w in
     let e = later_in z.args.rows.now (l.j + 1) at.result z.pre.1.1.0 at.ensures in
-    let v = c.before.before.before.before.before.count_said-v.ensures in
+    let v = c.count_said-v.ensures in
     record {
       midway = midway_asked (rw (lows_left (said z) 10 l.j (omega arith) h.loop-j-test.true) at l.invariant.midway) e v a.ensures (omega arith);
       to = omega arith;
@@ -72,12 +72,12 @@ loop_again c =
     }
 
 same_length : tie.Need-shape_of-buf invariant_loop decreases_loop
-same_length c = c.before.loop-j.invariant.kept
+same_length c = c.loop-j.invariant.kept
 
 returns : tie.Need-returns invariant_loop decreases_loop
 returns c =
     let z = start c.before in
-    let l = c.before.loop in
+    let l = c.loop-j in
     told_within (omega arith) (midway_end l.invariant.midway (lows_said (said z) (10 - l.j) l.j (omega arith) z.pre.1.1.1.0))
 
 pub later_tell_spec : {M : Type 1} → statement M

@@ -59,7 +59,7 @@ loop_holds c =
 cast_low_bits : tie.Need-overflow_cast-m invariant_loop decreases_loop
 cast_low_bits c =
     let b = start c.before.before in
-    let l = c.before.before.loop in
+    let l = c.loop-k in
     let f : SFits w16 (get_or l.places l.k (pos 0)) = sfits_of c.m-1.given in
     let h = counted b in
     let n = going_natural _ _ _ _ _ _ _ l.places l.d l.k l.invariant.going (omega arith) in
@@ -68,7 +68,7 @@ cast_low_bits c =
 low_bits_requires : tie.Need-low_bits-a-requires invariant_loop decreases_loop
 low_bits_requires c κs =
     let b = start c.before.before in
-    let l = c.before.before.loop in
+    let l = c.loop-k in
     let g = l.invariant.going.through in
     let f : SFits w16 (get_or l.places l.k (pos 0)) = sfits_of c.m-1.given in
     (g.core, (omega (arith, g.most, b.pre.1.0), (b.pre.1.1.0.0, (rw (to_z-of_z f) (small c.before.before (omega arith)), b.pre.1.1.0.1))))
@@ -76,9 +76,9 @@ low_bits_requires c κs =
 loop_again : tie.Need-loop-k-preserved invariant_loop decreases_loop
 loop_again c =
     let b = start c.before.before.before.before in
-    let l = c.before.before.before.before.loop in
-    let a = c.before.low-bits in
-    let f : SFits w16 (get_or l.places l.k (pos 0)) = sfits_of c.before.before.m-1.given in
+    let l = c.loop-k in
+    let a = c.low_bits-a in
+    let f : SFits w16 (get_or l.places l.k (pos 0)) = sfits_of c.m-1.given in
     let h = counted b in
     rw (to_z_pos w16 {n = a.result.value} (omega (arith, a.ensures.1)))
     (record {
@@ -92,7 +92,7 @@ loop_again c =
 returns : tie.Need-returns invariant_loop decreases_loop
 returns c =
     let b = start c.before in
-    let l = c.before.loop in
+    let l = c.loop-k in
     let h = counted b in
     finish _ _ b.args.places.now _ _ _ (going_ended _ _ _ _ _ _ _ l.places l.d l.k l.invariant.going (omega arith)) h
 

@@ -53,12 +53,12 @@ loop_holds c =
 ec_dec_icdf8_run_requires : tie.Need-ec_dec_icdf8_run-a-requires invariant_loop decreases_loop
 ec_dec_icdf8_run_requires c κs =
     let z = c.before.before.before.before in
-    let i = c.before.loop-j.invariant in
+    let i = c.loop-j.invariant in
     (i.core, (omega (arith, i.most, z.requires.total_bound, z.requires.m_bound.1), rw z.requires.row_value (row_good 123 (omega arith))))
 
 -- the value so far, and the bit read
 small_values : (c : tie.After-ec_dec_icdf8_run-a invariant_loop decreases_loop)
-    → (c.before.before.loop-j.v ≤ 17407) × (c.ec_dec_icdf8_run-a.result.value ≤ 1)
+    → (c.loop-j.v ≤ 17407) × (c.ec_dec_icdf8_run-a.result.value ≤ 1)
 small_values c =
     let l = c.before.before in
     let p = (start l).requires.1.1 in
@@ -73,8 +73,8 @@ add_v c = omega (arith, small_values c)
 loop_again : tie.Need-loop-j-preserved invariant_loop decreases_loop
 loop_again c =
     let z = start c.before.before.before in
-    let l = c.before.before.before.loop in
-    let a = c.before.ec-dec-icdf8-run in
+    let l = c.loop-j in
+    let a = c.ec_dec_icdf8_run-a in
     let q : 2 ^ (l.j + 1) ≡ 2 ^ l.j * 2 = pow-add 2 l.j 1 in
     record {
       rest = bits_next _ l.d _ z.args.n l.j l.v a.result z.pre.1.1.0 a.ensures (omega arith) ∙ l.invariant.rest;
@@ -88,7 +88,7 @@ loop_again c =
 returns : tie.Need-returns invariant_loop decreases_loop
 returns c =
     let z = start c.before in
-    let l = c.before.loop in
+    let l = c.loop-j in
     let i = l.invariant in (
       record {
         is = sym i.rest ∙ bits_end _ l.d z.args.n l.j l.v (omega arith);

@@ -34,23 +34,23 @@ abbrev start : tie.At-loop-k invariant_loop decreases_loop → tie.Start invaria
 start l = l.before.before.before
 
 loop_holds : tie.Need-loop-k-init invariant_loop decreases_loop
-loop_holds c = record { told = midway_start c.before.before.requires.core; to = omega arith; kept = refl }
+loop_holds c = record { told = midway_start c.requires.core; to = omega arith; kept = refl }
 
 low_bits_tell_requires : tie.Need-low_bits_tell-w-requires invariant_loop decreases_loop
 low_bits_tell_requires c κs =
     let z = c.before.before.before.before.before.before.before in
-    let t = c.before.before.before.before.loop-k.invariant.told in
+    let t = c.loop-k.invariant.told in
     (t.core, (omega (arith, t.most, z.requires.total_bound), z.requires.row_value))
 
 loop_again : tie.Need-loop-k-preserved invariant_loop decreases_loop
 loop_again c =
     let z = start c.before.before.before.before.before.before.before in
     let s = z.args.pulses.now in
-    let l = c.before.before.before.before.before.before.before.loop in
-    let f : SFits w16 (get_or s l.k (pos 0)) = sfits_of c.before.before.before.before.before.pulse-1.given in
-    let m = rw (to_z-of_z f) at c.before.before.before.before.magnitude-m.ensures in
+    let l = c.loop-k in
+    let f : SFits w16 (get_or s l.k (pos 0)) = sfits_of c.pulse-1.given in
+    let m = rw (to_z-of_z f) at c.magnitude-m.ensures in
     let e = m ∙ sym (get_or-map nat_abs s l.k (pos 0)) in
-    let a = c.before.before.low-bits-tell in
+    let a = c.low_bits_tell-w in
     record {
       told = place_told _ _ _ _ _ (map nat_abs s) l.k l.invariant.told (omega (arith, counted z)) e a.ensures;
       to = omega arith;
@@ -58,12 +58,12 @@ loop_again c =
     }
 
 same_length : tie.Need-shape_of-buf invariant_loop decreases_loop
-same_length c = c.before.loop-k.invariant.kept
+same_length c = c.loop-k.invariant.kept
 
 returns : tie.Need-returns invariant_loop decreases_loop
 returns c =
     let z = start c.before in
-    let l = c.before.loop in
+    let l = c.loop-k in
     told_within (omega (arith, l.invariant.to)) (places_told _ _ _ _ _ (map nat_abs z.args.pulses.now) l.k l.invariant.told (omega (arith, counted z)))
 
 pub all_lows_tell_spec : {M : Type 1} → statement M

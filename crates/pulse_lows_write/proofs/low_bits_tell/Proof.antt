@@ -29,15 +29,15 @@ abbrev start : tie.At-loop-k invariant_loop decreases_loop → tie.Start invaria
 start l = l.before.before.before
 
 loop_holds : tie.Need-loop-k-init invariant_loop decreases_loop
-loop_holds c = record { midway = midway_start c.before.before.requires.core; to = omega arith; kept = refl }
+loop_holds c = record { midway = midway_start c.requires.core; to = omega arith; kept = refl }
 
 shr_bit : tie.Need-overflow_shr-bit invariant_loop decreases_loop
-shr_bit c = omega (arith, c.before.loop-k.invariant.to, c.before.before.before.before.requires.row_value.1)
+shr_bit c = omega (arith, c.loop-k.invariant.to, c.requires.row_value.1)
 
 ec_enc_icdf_run_requires : tie.Need-ec_enc_icdf_run-w-requires invariant_loop decreases_loop
 ec_enc_icdf_run_requires c κs =
     let z = start c.before.before in
-    let l = c.before.before.loop in
+    let l = c.loop-k in
     let m = l.invariant.midway in
     let bit = z.args.m / 2 ^ (l.k - 1) % 2 in (
       m.core,
@@ -50,8 +50,8 @@ ec_enc_icdf_run_requires c κs =
 loop_again : tie.Need-loop-k-preserved invariant_loop decreases_loop
 loop_again c =
     let z = start c.before.before.before.before.before in
-    let l = c.before.before.before.before.before.loop in
-    let a = c.before.before.ec-enc-icdf-run in
+    let l = c.loop-k in
+    let a = c.ec_enc_icdf_run-w in
     record {
       midway = bit_told l.k (l.k - 1) z.args.m (omega arith) l.invariant.midway z.pre.1.1.0 a.ensures (omega arith);
       to = omega arith;
@@ -59,12 +59,12 @@ loop_again c =
     }
 
 same_length : tie.Need-shape_of-buf invariant_loop decreases_loop
-same_length c = c.before.loop-k.invariant.kept
+same_length c = c.loop-k.invariant.kept
 
 returns : tie.Need-returns invariant_loop decreases_loop
 returns c =
     let z = start c.before in
-    let l = c.before.loop in
+    let l = c.loop-k in
     let e : l.k ≡ 0 = omega arith in
     told_within (omega (arith, z.pre.1.1.1)) (midway_end (rw e at l.invariant.midway) (bits_silent z.args.m _))
 

@@ -11,34 +11,34 @@ use Rattle.pulse_numbers.proofs.pulse_rule.Tie as tie
 
 blocks_of_run_requires : tie.Need-blocks_of_run-requires
 blocks_of_run_requires c κs =
-    let b = c.before.before.args in
-    let p = pulse_numbers b.khz b.subframes b.signal b.offset (sym c.before.numbers_ok.ensures ∙ c.if-numbers_ok.true) in
+    let b = c.args in
+    let p = pulse_numbers b.khz b.subframes b.signal b.offset (sym c.numbers_ok.ensures ∙ c.if-numbers_ok.true) in
     (p.khz16, p.subframes4)
 
 mul_if2 : tie.Need-overflow_mul-blocks_of_run
 mul_if2 c =
-    let b = c.before.before.before.args in
-    let p = pulse_numbers b.khz b.subframes b.signal b.offset (sym c.before.before.numbers_ok.ensures ∙ c.before.if-numbers_ok.true) in
+    let b = c.args in
+    let p = pulse_numbers b.khz b.subframes b.signal b.offset (sym c.numbers_ok.ensures ∙ c.if-numbers_ok.true) in
     omega (arith, c.blocks_of_run.ensures, blocks_most b.khz b.subframes p.khz16 p.subframes4)
 
 returns : tie.Need-returns-then-n-blocks_of_run
 unfolding pulse_rule
 returns c =
-    let t = sym c.before.before.before.numbers_ok.ensures ∙ c.before.before.if-numbers_ok.true in
-    let b = c.before.blocks-of-run in
-    let e : c.before.before.before.before.args.n ≡ 16 * b.result = c.if-n-blocks_of_run.true in
+    let t = sym c.numbers_ok.ensures ∙ c.if-numbers_ok.true in
+    let b = c.blocks_of_run in
+    let e : c.args.n ≡ 16 * b.result = c.if-n-blocks_of_run.true in
     rw (t, eq-eqb _ _ (e ∙ ap (λ (k : ℕ). 16 * k) b.ensures))
 
 returns_2 : tie.Need-returns-else-n-blocks_of_run
 unfolding pulse_rule
 returns_2 c =
-    let t = sym c.before.before.before.numbers_ok.ensures ∙ c.before.before.if-numbers_ok.true in
-    let e = ap (λ (k : ℕ). 16 * k) c.before.blocks_of_run.ensures in
+    let t = sym c.numbers_ok.ensures ∙ c.if-numbers_ok.true in
+    let e = ap (λ (k : ℕ). 16 * k) c.blocks_of_run.ensures in
     rw (t, ne_eqb _ _ (λ q. c.if-n-blocks_of_run.false (q ∙ sym e)))
 
 returns_3 : tie.Need-returns-else-numbers_ok
 unfolding pulse_rule
-returns_3 c = rw (sym c.before.numbers_ok.ensures ∙ c.if-numbers_ok.false)
+returns_3 c = rw (sym c.numbers_ok.ensures ∙ c.if-numbers_ok.false)
 
 pub pulse_rule_spec : {M : Type 1} → statement M
 pulse_rule_spec =

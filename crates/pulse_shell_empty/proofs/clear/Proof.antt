@@ -27,19 +27,19 @@ loop_less c = omega arith
 
 loop_again : tie.Need-loop-k-preserved invariant_loop decreases_loop
 loop_again c =
-    let l = c.before.loop in (
+    let l = c.loop-k in (
       omega arith,
-      ap (λ (s : List ℤ). set s l.k (pos 0)) l.invariant.1 ∙ cleared_next l.k c.before.before.args.places.now c.loop-k-test.true,
+      ap (λ (s : List ℤ). set s l.k (pos 0)) l.invariant.1 ∙ cleared_next l.k c.args.places.now c.loop-k-test.true,
       length-set l.places l.k (pos 0) ∙ l.invariant.2,
     )
 
 same_length : tie.Need-shape_of-places invariant_loop decreases_loop
-same_length c = c.before.loop-k.invariant.2
+same_length c = c.loop-k.invariant.2
 
 returns : tie.Need-returns invariant_loop decreases_loop
 returns c =
-    let l = c.before.loop in
-    let s = c.before.before.args.places.now in
+    let l = c.loop-k in
+    let s = c.args.places.now in
     let e : l.k ≡ length s = omega (arith, l.invariant.0, c.loop-k-test.false) in
     l.invariant.1 ∙ ap (λ (n : ℕ). cleared n s) e ∙ all_cleared s
 

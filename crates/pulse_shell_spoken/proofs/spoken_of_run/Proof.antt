@@ -27,24 +27,24 @@ abbrev decreases_loop : tie.decreases-loop-k
 decreases_loop start₀ all₀ left₀ x p tables s n₀ k₀ start all left n k = 15 - k
 
 splits_of_run_requires : tie.Need-splits_of_run-s-requires invariant_loop decreases_loop
-splits_of_run_requires c κs = c.before.before.before.before.requires.x_len
+splits_of_run_requires c κs = c.requires.x_len
 
 abbrev start : tie.At-loop-k invariant_loop decreases_loop → tie.Start invariant_loop decreases_loop
 start l = l.before.before.before.before.before.before
 
 -- the part at hand
 part : (c : tie.In-loop-k invariant_loop decreases_loop)
-    → let s = c.before.before.splits_of_run-s.result in
+    → let s = c.splits_of_run-s.result in
     let y = (start c.before).args.x.now in
-    At y s.all s.left c.before.loop-k.k (get_or (parts_of 4 y) c.before.loop-k.k no_part)
+    At y s.all s.left c.loop-k.k (get_or (parts_of 4 y) c.loop-k.k no_part)
 part c =
     let b = start c.before in
-    let s = c.before.before.splits-of-run in
-    part_at b.args.x.now s.result.all s.result.left c.before.loop-k.k c.loop-k-test.true (omega (arith, b.pre.1.1, b.pre.1.2))
+    let s = c.splits_of_run-s in
+    part_at b.args.x.now s.result.all s.result.left c.loop-k.k c.loop-k-test.true (omega (arith, b.pre.1.1, b.pre.1.2))
     s.ensures.0 s.ensures.1
 
 loop_holds : tie.Need-loop-k-init invariant_loop decreases_loop
-loop_holds c = record { are = gathered_none c.before.before.before.before.before.requires.sized; few = omega arith; to = omega arith }
+loop_holds c = record { are = gathered_none c.requires.sized; few = omega arith; to = omega arith }
 
 cast_split_start_run : tie.Need-overflow_cast-tables invariant_loop decreases_loop
 cast_split_start_run c = let a = part c.before in omega (arith, a.table, a.within.table)
@@ -57,20 +57,20 @@ split_start_run_requires c κs =
     let a = part c.before in (omega (arith, a.table, a.within.table), omega (arith, a.all_is, a.within.most))
 
 -- there is room for it
-room : (c : tie.In-loop-k invariant_loop decreases_loop) → c.before.loop-k.n < 15
-room c = omega (arith, c.before.loop-k.invariant.few, c.loop-k-test.true)
+room : (c : tie.In-loop-k invariant_loop decreases_loop) → c.loop-k.n < 15
+room c = omega (arith, c.loop-k.invariant.few, c.loop-k-test.true)
 
 mul_start : tie.Need-offset_bounds-start-n invariant_loop decreases_loop
 mul_start c = omega (arith, room c.before.before)
 
 slice_write_start : tie.Need-bounds-start-n invariant_loop decreases_loop
-slice_write_start c = omega (arith, room c.before.before, c.before.before.before.loop-k.invariant.are.sizes.start_size)
+slice_write_start c = omega (arith, room c.before.before, c.loop-k.invariant.are.sizes.start_size)
 
 slice_write_all : tie.Need-bounds-all-n invariant_loop decreases_loop
-slice_write_all c = omega (arith, room c.before.before, c.before.before.before.loop-k.invariant.are.sizes.all_size)
+slice_write_all c = omega (arith, room c.before.before, c.loop-k.invariant.are.sizes.all_size)
 
 slice_write_left : tie.Need-bounds-left-n invariant_loop decreases_loop
-slice_write_left c = omega (arith, room c.before.before.before, c.before.before.before.before.loop-k.invariant.are.sizes.left_size)
+slice_write_left c = omega (arith, room c.before.before.before, c.loop-k.invariant.are.sizes.left_size)
 
 counted_requires : tie.Need-counted-n-requires invariant_loop decreases_loop
 counted_requires c κs = room c.before.before.before
@@ -78,12 +78,12 @@ counted_requires c κs = room c.before.before.before
 loop_again : tie.Need-loop-k-preserved invariant_loop decreases_loop
 loop_again c =
     let b = c.before.before.before.before in
-    let l = b.before.loop in
+    let l = b.loop-k in
     let a = part b in
     let y = (start b.before).args.x.now in
     let ps = parts_of 4 y in
     let q = get_or ps l.k no_part in
-    let n = get_or b.before.before.splits_of_run-s.result.all l.k 0 in
+    let n = get_or b.splits_of_run-s.result.all l.k 0 in
     let m : l.k < length ps = omega (arith, parts_length y, b.loop-k-test.true) in
     record {
       are = rw (add-one, take-suc ps l.k no_part m, c.counted-n.ensures)
@@ -92,7 +92,7 @@ loop_again c =
           record {
             within = a.within;
             some = omega (arith, a.all_is);
-            stands = rw (a.table, a.all_is) at (c.before.before.split_start_run.ensures h);
+            stands = rw (a.table, a.all_is) at (c.split_start_run.ensures h);
             all_is = a.all_is;
             left_is = a.left_is;
             left_most = a.left_most;
@@ -102,17 +102,17 @@ loop_again c =
     }
 
 same_length : tie.Need-shape_of-start invariant_loop decreases_loop
-same_length c = omega (arith, c.before.loop-k.invariant.are.sizes.start_size, (start c.before).pre.0.start_size)
+same_length c = omega (arith, c.loop-k.invariant.are.sizes.start_size, (start c.before).pre.0.start_size)
 
 same_length_2 : tie.Need-shape_of-all invariant_loop decreases_loop
-same_length_2 c = omega (arith, c.before.loop-k.invariant.are.sizes.all_size, (start c.before).pre.0.all_size)
+same_length_2 c = omega (arith, c.loop-k.invariant.are.sizes.all_size, (start c.before).pre.0.all_size)
 
 same_length_3 : tie.Need-shape_of-left invariant_loop decreases_loop
-same_length_3 c = omega (arith, c.before.loop-k.invariant.are.sizes.left_size, (start c.before).pre.0.left_size)
+same_length_3 c = omega (arith, c.loop-k.invariant.are.sizes.left_size, (start c.before).pre.0.left_size)
 
 returns : tie.Need-returns invariant_loop decreases_loop
 returns c =
-    let l = c.before.loop in
+    let l = c.loop-k in
     let y = (start c.before).args.x.now in
     rw (take_all l.k (parts_of 4 y) (omega (arith, parts_length y, c.loop-k-test.false, l.invariant.to))) at l.invariant.are
 

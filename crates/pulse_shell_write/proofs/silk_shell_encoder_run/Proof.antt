@@ -50,17 +50,17 @@ loop_holds c = record { told = midway_start (start c.before.before.before).pre.0
 -- the part at hand
 part : (c : tie.In-loop-k invariant_loop decreases_loop)
     → let s = (spoke c.before).spoken-of-run.last in
-    let k = c.before.loop-k.k in
+    let k = c.loop-k.k in
     Stored (get_or s.0 k 0) (get_or s.1.0 k 0) (get_or s.1.1.0 k 0) (get_or (parts c.before) k no_part)
-part c = (spoke c.before).spoken_of_run-count.ensures.at c.before.loop-k.k c.loop-k-test.true
+part c = (spoke c.before).spoken_of_run-count.ensures.at c.loop-k.k c.loop-k-test.true
 
-inside : (c : tie.In-loop-k invariant_loop decreases_loop) → c.before.loop-k.k < 15
+inside : (c : tie.In-loop-k invariant_loop decreases_loop) → c.loop-k.k < 15
 inside c = omega (arith, (spoke c.before).spoken_of_run-count.ensures.most, c.loop-k-test.true)
 
 -- where its row stands in what is lent
 place : (c : tie.In-loop-k invariant_loop decreases_loop)
     → let s = spoke c.before in
-    let k = c.before.loop-k.k in
+    let k = c.loop-k.k in
     let q = get_or (parts c.before) k no_part in
     Stands (58 + q.table * 16 + all_of q) (start s).args.rows.now (get_or s.spoken-of-run.last.0 k 0) (get_or s.spoken-of-run.last.1.0 k 0 + 1)
 place c = let a = part c in rw a.all_is (stands_in (start (spoke c.before)).pre.1.1.0.is a.stands)
@@ -96,7 +96,7 @@ ec_enc_icdf_run_requires : tie.Need-ec_enc_icdf_run-q-requires invariant_loop de
 ec_enc_icdf_run_requires c κs =
     let d = c.before.before in
     let b = start (spoke d.before) in
-    let l = d.before.loop in
+    let l = d.loop-k in
     let a = part d in
     let s = place d in
     let t = l.invariant.told in
@@ -113,9 +113,9 @@ ec_enc_icdf_run_requires c κs =
 loop_again : tie.Need-loop-k-preserved invariant_loop decreases_loop
 loop_again c =
     let d = c.before.before.before.before.before in
-    let l = d.before.loop in
+    let l = d.loop-k in
     let a = part d in
-    let w = c.before.before.ec-enc-icdf-run in
+    let w = c.ec_enc_icdf_run-q in
     let qs = parts d.before in
     let q = get_or qs l.k no_part in
     let t = split_told {y = q.places} q.table (all_of q) a.some (lent _ (place d) refl) a.left_is w.ensures in
@@ -127,13 +127,13 @@ loop_again c =
     }
 
 same_length : tie.Need-shape_of-buf invariant_loop decreases_loop
-same_length c = c.before.loop-k.invariant.kept
+same_length c = c.loop-k.invariant.kept
 
 returns : tie.Need-returns invariant_loop decreases_loop
 returns c =
     let s = spoke c.before in
     let b = start s in
-    let l = c.before.loop in
+    let l = c.loop-k in
     shell_told 4 b.args.p b.args.places.now b.pre.1.1.1.2
     (told_within (omega (arith, l.invariant.to))
     (places_told _ _ _ _ _ (parts c.before) l.k l.invariant.told (omega (arith, s.spoken_of_run-count.ensures.count, c.loop-k-test.false))))

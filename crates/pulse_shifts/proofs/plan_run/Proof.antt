@@ -27,8 +27,8 @@ loop_holds c = (omega arith, refl, refl, planned_start _ _ (at_most_zeros 16 20)
 loop_again : tie.Need-loop-i-preserved invariant_loop decreases_loop
 loop_again c =
     let b = c.before.before.before.before.before.before.before in
-    let l = c.before.before.before.before.before.before.loop in
-    let a = c.before.before.before.Shift-of in
+    let l = c.loop-i in
+    let a = c.shift_of-b in
     let v = b.args.pulses.now in
     let e : l.i * 16 + 16 - l.i * 16 ≡ 16 = omega arith in
     let p = take 16 (drop (l.i * 16) v) in
@@ -44,8 +44,8 @@ loop_again c =
 
 returns : tie.Need-returns invariant_loop decreases_loop
 returns c =
-    let l = c.before.loop in
-    let e : l.i ≡ c.before.before.args.n = omega arith in
+    let l = c.loop-i in
+    let e : l.i ≡ c.args.n = omega arith in
     rw (sym e) l.invariant.3
 
 pub plan_run_spec : {M : Type 1} → statement M

@@ -29,9 +29,9 @@ loop_holds c = (omega arith, refl)
 
 returns : tie.Need-returns-then-count-le16 invariant_loop decreases_loop
 returns c =
-    let p = c.before.before.before.before.args.part.now in
-    let l = c.before.before.before.loop in
-    let e = c.before.total_at-count.ensures in
+    let p = c.args.part.now in
+    let l = c.loop-j in
+    let e = c.total_at-count.ensures in
     let m : total (shifted_by l.j p) ≤ 16 = omega (arith, e) in
     record {
       is = sym (first_here (small p) 11 l.j (omega arith) (le-leb _ _ m)) ∙ l.invariant.1;
@@ -42,15 +42,15 @@ returns c =
 
 loop_again : tie.Need-loop-j-preserved invariant_loop decreases_loop
 loop_again c =
-    let p = c.before.before.before.before.args.part.now in
-    let l = c.before.before.before.loop in
-    let m : 16 < total (shifted_by l.j p) = omega (arith, c.before.total_at-count.ensures) in
+    let p = c.args.part.now in
+    let l = c.loop-j in
+    let m : 16 < total (shifted_by l.j p) = omega (arith, c.total_at-count.ensures) in
     (omega arith, first_next (small p) 11 l.j (omega arith) (lt-leb _ _ m) ∙ l.invariant.1)
 
 returns_2 : tie.Need-returns invariant_loop decreases_loop
 returns_2 c =
-    let p = c.before.before.args.part.now in
-    let l = c.before.loop in
+    let p = c.args.part.now in
+    let l = c.loop-j in
     let e : l.j ≡ 11 = omega arith in
     record {
       is = sym e ∙ sym (first_none (small p) 11 l.j (omega arith)) ∙ l.invariant.1;

@@ -26,25 +26,25 @@ decreases_loop places₀ part j k₀ places k = 16 - k
 -- the value of this turn
 value : (c : tie.After-magnitude invariant_loop decreases_loop)
     → let b = c.before.before.before.before.before in
-    c.magnitude.result / 2 ^ b.args.j ≡ get_or (shifted_by b.args.j b.args.part.now) c.before.before.before.loop-k.k 0
+    c.magnitude.result / 2 ^ b.args.j ≡ get_or (shifted_by b.args.j b.args.part.now) c.loop-k.k 0
 value c =
     let b = c.before.before.before.before.before in
-    let k = c.before.before.before.loop-k.k in
-    let f : SFits w16 (get_or b.args.part.now k (pos 0)) = sfits_of c.before.magnitude-arg-1.given in
+    let k = c.loop-k.k in
+    let f : SFits w16 (get_or b.args.part.now k (pos 0)) = sfits_of c.magnitude-arg-1.given in
     ap (λ (m : ℕ). m / 2 ^ b.args.j) (c.magnitude.ensures ∙ ap nat_abs (to_z-of_z f)) ∙ sym (shifted_at b.args.j b.args.part.now k)
 
 loop_holds : tie.Need-loop-k-init invariant_loop decreases_loop
-loop_holds c = (omega arith, c.before.requires.0, refl)
+loop_holds c = (omega arith, c.requires.0, refl)
 
 cast_places : tie.Need-overflow_cast-places invariant_loop decreases_loop
 cast_places c =
     let b = c.before.before.before.before.before in
-    omega (arith, value c, at_most_total (shifted_by b.args.j b.args.part.now) c.before.before.before.loop-k.k, b.requires.3)
+    omega (arith, value c, at_most_total (shifted_by b.args.j b.args.part.now) c.loop-k.k, b.requires.3)
 
 loop_again : tie.Need-loop-k-preserved invariant_loop decreases_loop
 loop_again c =
     let b = c.before.before.before.before.before in
-    let l = c.before.before.before.loop in
+    let l = c.loop-k in
     let v = shifted_by b.args.j b.args.part.now in (
       omega arith,
       length-set l.places l.k _ ∙ l.invariant.1,
@@ -56,8 +56,8 @@ loop_again c =
 
 returns : tie.Need-returns invariant_loop decreases_loop
 returns c =
-    let a = c.before.before.before.args in
-    let l = c.before.loop in
+    let a = c.args in
+    let l = c.loop-k in
     sym (take_all l.k l.places (omega arith)) ∙ l.invariant.2 ∙ take_all l.k _ (omega (arith, shifted_size a.j a.part.now))
 
 pub shrink_run_spec : {M : Type 1} → statement M

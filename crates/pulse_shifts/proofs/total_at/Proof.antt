@@ -25,11 +25,11 @@ decreases_loop part j sum₀ k₀ sum k = 16 - k
 
 -- the magnitude of this turn
 read : (c : tie.After-magnitude invariant_loop decreases_loop)
-    → let z = get_or c.before.before.before.before.args.part.now c.before.before.before.loop-k.k (pos 0) in
+    → let z = get_or c.args.part.now c.loop-k.k (pos 0) in
     (c.magnitude.result ≡ nat_abs z) × (c.magnitude.result ≤ 32768)
 read c =
-    let z = get_or c.before.before.before.before.args.part.now c.before.before.before.loop-k.k (pos 0) in
-    let f : SFits w16 z = sfits_of c.before.magnitude-arg-1.given in
+    let z = get_or c.args.part.now c.loop-k.k (pos 0) in
+    let f : SFits w16 z = sfits_of c.magnitude-arg-1.given in
     let e : c.magnitude.result ≡ nat_abs z = c.magnitude.ensures ∙ ap nat_abs (to_z-of_z f) in
     (e, omega (arith, nat_abs-le z f.sfits))
 
@@ -40,12 +40,12 @@ loop_holds c = (omega arith, refl, omega arith)
 add_sum : tie.Need-overflow_add-sum invariant_loop decreases_loop
 add_sum c =
     let b = c.before.before.before.before in
-    omega (arith, (read c).1, div-le_self c.magnitude.result (2 ^ b.args.j), c.before.before.before.loop-k.invariant.2)
+    omega (arith, (read c).1, div-le_self c.magnitude.result (2 ^ b.args.j), c.loop-k.invariant.2)
 
 loop_again : tie.Need-loop-k-preserved invariant_loop decreases_loop
 loop_again c =
     let b = c.before.before.before.before in
-    let l = c.before.before.before.loop in
+    let l = c.loop-k in
     let m = c.magnitude.result in
     let before = total (take l.k (shifted_by b.args.j b.args.part.now)) in (
       omega arith,
@@ -57,9 +57,9 @@ loop_again c =
 
 returns : tie.Need-returns invariant_loop decreases_loop
 returns c =
-    let a = c.before.before.args in
-    let e : c.before.loop-k.k ≡ 16 = omega arith in
-    c.before.loop-k.invariant.1 ∙ ap total (take_all c.before.loop-k.k (shifted_by a.j a.part.now) (omega (arith, shifted_size a.j a.part.now)))
+    let a = c.args in
+    let e : c.loop-k.k ≡ 16 = omega arith in
+    c.loop-k.invariant.1 ∙ ap total (take_all c.loop-k.k (shifted_by a.j a.part.now) (omega (arith, shifted_size a.j a.part.now)))
 
 pub total_at_spec : {M : Type 1} → statement M
 total_at_spec =

@@ -52,16 +52,16 @@ start l = l.before.before.before.before.before.before
 
 -- the place at hand
 abbrev place : tie.At-loop-t invariant_loop decreases_loop → ℕ
-place l = get_or l.before.pulse_places-n.new.1.0 l.loop-t.t 0
+place l = get_or l.pulse_places-n.new.1.0 l.loop-t.t 0
 
-below : (c : tie.In-loop-t invariant_loop decreases_loop) → place c.before < length c.before.loop-t.places
-below c = let l = c.before.loop in omega (arith, l.invariant.gathered.below l.t c.loop-t-test.true, l.invariant.size)
+below : (c : tie.In-loop-t invariant_loop decreases_loop) → place c.before < length c.loop-t.places
+below c = let l = c.loop-t in omega (arith, l.invariant.gathered.below l.t c.loop-t-test.true, l.invariant.size)
 
 decode_sign_requires : tie.Need-decode_sign-a-requires invariant_loop decreases_loop
 decode_sign_requires c κs =
     let b = start c.before.before in
-    let l = c.before.before.loop in
-    let h = c.before.loop-t-test.true in
+    let l = c.loop-t in
+    let h = c.loop-t-test.true in
     let k = place c.before.before in
     let g = reached _ _ _ _ _ _ l.places l.d l.t l.invariant h b.pre.1.1.1.1 in
     let m : k < length b.args.places.now = omega (arith, l.invariant.gathered.below l.t h, b.pre.1.1.1.1) in
@@ -84,12 +84,12 @@ loop_again : tie.Need-loop-t-preserved invariant_loop decreases_loop
 loop_again c =
     let i = c.before.before.before.before in
     let b = start i.before in
-    let l = i.before.loop in
+    let l = i.loop-t in
     let h = i.loop-t-test.true in
     let k = place i.before in
     let g = reached _ _ _ _ _ _ l.places l.d l.t l.invariant h b.pre.1.1.1.1 in
-    let a = c.before.before.decode-sign in
-    let f : SFits w16 (get_or l.places k (pos 0)) = sfits_of c.before.before.before.m-1.given in
+    let a = c.decode_sign-a in
+    let f : SFits w16 (get_or l.places k (pos 0)) = sfits_of c.m-1.given in
     let p : SFits w16 a.result.pulse = search rules in
     let s = b.args.places.now in
     let m : k < length (mags s) = omega (arith, l.invariant.gathered.below l.t h, b.pre.1.1.1.1, length-map s nat_abs) in
@@ -106,9 +106,9 @@ loop_again c =
 returns : tie.Need-returns invariant_loop decreases_loop
 returns c =
     let b = start c.before in
-    let l = c.before.loop in
+    let l = c.loop-t in
     let i = l.invariant in
-    let e : l.t ≡ c.before.before.pulse_places-n.result = omega (arith, i.to) in
+    let e : l.t ≡ c.pulse_places-n.result = omega (arith, i.to) in
     let r = i.gathered in
     let s = b.args.places.now in
     let n = b.pre.1.1.1.1 in

@@ -33,13 +33,13 @@ returns c =
     let b = c.before.before.before.before.before.before in
     let m = b.args.m in
     rw (to_z-of_z b.ranges.m, to_z-of_z {w = w16} (minus_fits m b.requires.m_value.0 b.ranges.m), minus m b.requires.m_value.0)
-    (sign_minus b.args.row.now (nat_abs m) b.requires.m_value.1 c.before.before.before.ec_dec_icdf8_run-a.ensures c.if-a-eq0.true)
+    (sign_minus b.args.row.now (nat_abs m) b.requires.m_value.1 c.ec_dec_icdf8_run-a.ensures c.if-a-eq0.true)
 
 returns_2 : tie.Need-returns
 returns_2 c =
     let b = c.before.before.before.before.before.before in
     let m = b.args.m in
-    let r = c.before.before.before.ec-dec-icdf8-run in
+    let r = c.ec_dec_icdf8_run-a in
     rw (to_z-of_z b.ranges.m)
     (subst (λ (z : ℤ). Ran b.args.packet.now b.args.d (sign b.args.row.now (nat_abs m)) 16 z r.result.state) (sym b.requires.m_value.0)
     (sign_plus b.args.row.now (nat_abs m) b.requires.m_value.1 r.ensures c.if-a-eq0.false))

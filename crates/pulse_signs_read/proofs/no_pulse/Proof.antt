@@ -43,7 +43,7 @@ loop_holds c = (omega arith, λ e. zero_end c.args.places.now)
 loop_again : tie.Need-loop-k-preserved invariant_loop decreases_loop
 loop_again c =
     let b = c.before.before in
-    let s = b.before.args.places.now in
+    let s = b.args.places.now in
     let x = get_or s (b.loop-k.k - 1) (pos 0) in
     let f : SFits w16 x = sfits_of c.m-1.given in (
       omega arith,
@@ -56,7 +56,7 @@ loop_again c =
 returns : tie.Need-returns invariant_loop decreases_loop
 returns c =
     let b = c.before in
-    let s = b.before.args.places.now in
+    let s = b.args.places.now in
     let k : b.loop-k.k ≡ 0 = omega arith in
     let n : length s - 0 ≡ length s = omega arith in
     λ e. rw (k, n) at (b.loop-k.invariant.1 e)

@@ -45,7 +45,7 @@ loop_again : tie.Need-loop-k-preserved invariant_loop decreases_loop
 loop_again c =
     let b = c.before.before in
     let l = b.loop in
-    let s = b.before.args.places.now in
+    let s = b.args.places.now in
     let x = get_or s l.k (pos 0) in
     let f : SFits w16 x = sfits_of c.m-1.given in (
       omega arith,
@@ -60,10 +60,10 @@ loop_again c =
 add_n : tie.Need-overflow_add-n invariant_loop decreases_loop
 add_n c =
     let b = c.before.before in
-    omega (arith, b.loop-k.invariant.1.1.count, one (not (eqb (of_z w16 (get_or b.before.args.places.now b.loop-k.k (pos 0))) 0)))
+    omega (arith, b.loop-k.invariant.1.1.count, one (not (eqb (of_z w16 (get_or b.args.places.now b.loop-k.k (pos 0))) 0)))
 
 returns : tie.Need-returns invariant_loop decreases_loop
-returns c = let l = c.before.loop in let e : l.k ≡ 16 = omega arith in rw e at l.invariant.1.1
+returns c = let l = c.loop-k in let e : l.k ≡ 16 = omega arith in rw e at l.invariant.1.1
 
 pub pulse_places_spec : {M : Type 1} → statement M
 pulse_places_spec =

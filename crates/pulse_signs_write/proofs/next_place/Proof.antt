@@ -12,12 +12,12 @@ use Rattle.pulse_signs_write.proofs.next_place.Tie as tie
 
 returns : tie.Need-returns-then-pulse-eq0
 returns c =
-    let z = c.before.args.pulse in
-    omega (arith, none_said z (zero_of z c.before.ranges.pulse c.if-pulse-eq0.true))
+    let z = c.args.pulse in
+    omega (arith, none_said z (zero_of z c.ranges.pulse c.if-pulse-eq0.true))
 
 returns_2 : tie.Need-returns-else-pulse-eq0
 returns_2 c =
-    let z = c.before.args.pulse in
+    let z = c.args.pulse in
     let n : z ≡ pos 0 → ⊥ = λ q. c.if-pulse-eq0.false (ap (of_z w16) q) in
     omega (arith, one_said z n)
 

@@ -31,22 +31,22 @@ decreases_loop symbols₀ pulses n₀ k₀ symbols n k = 16 - k
 
 loop_holds : tie.Need-loop-k-init invariant_loop decreases_loop
 unfolding signs_said
-loop_holds c = record { few = omega arith; to = omega arith; size = c.before.requires.0; are = refl }
+loop_holds c = record { few = omega arith; to = omega arith; size = c.requires.0; are = refl }
 
 slice_write_symbols : tie.Need-bounds-symbols-n invariant_loop decreases_loop
-slice_write_symbols c = omega (arith, c.before.before.before.loop-k.invariant.few, c.before.before.before.loop-k.invariant.size)
+slice_write_symbols c = omega (arith, c.loop-k.invariant.few, c.loop-k.invariant.size)
 
 next_place_requires : tie.Need-next_place-n-requires invariant_loop decreases_loop
-next_place_requires c κs = omega (arith, c.before.before.before.loop-k.invariant.few)
+next_place_requires c κs = omega (arith, c.loop-k.invariant.few)
 
 loop_again : tie.Need-loop-k-preserved invariant_loop decreases_loop
 loop_again c =
     let b = c.before.before.before.before.before.before in
     let zs = b.args.pulses.now in
-    let l = c.before.before.before.before.loop in
+    let l = c.loop-k in
     let z = get_or zs l.k (pos 0) in
-    let f : SFits w16 z = sfits_of c.before.before.pulse-1.given in
-    let s = c.before.sign-said in
+    let f : SFits w16 z = sfits_of c.pulse-1.given in
+    let s = c.sign_said in
     let e : s.result ≡ cond (lt_z z (pos 0)) 0 1 = rw (to_z-of_z f) at s.ensures in
     let n : c.next_place-n.result ≡ l.n + length (sign_of z) = rw (to_z-of_z f) at c.next_place-n.ensures in
     record {
@@ -59,12 +59,12 @@ loop_again c =
     }
 
 same_length : tie.Need-shape_of-symbols invariant_loop decreases_loop
-same_length c = omega (arith, c.before.loop-k.invariant.size, c.before.before.before.requires.0)
+same_length c = omega (arith, c.loop-k.invariant.size, c.requires.0)
 
 returns : tie.Need-returns invariant_loop decreases_loop
 returns c =
     let b = c.before.before.before in
-    let l = c.before.loop in
+    let l = c.loop-k in
     (omega (arith, l.invariant.few, l.invariant.to), l.invariant.are ∙ ap signs_said (take_all l.k b.args.pulses.now (omega (arith, b.requires.1))))
 
 pub signs_said_spec : {M : Type 1} → statement M

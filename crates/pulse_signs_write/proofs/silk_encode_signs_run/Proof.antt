@@ -32,15 +32,15 @@ bit_writable (suc zero) l h = h.1
 bit_writable (suc (suc v)) l h = absurd (omega arith)
 
 -- what was gathered
-counted : (c : tie.After-signs_said-count invariant_loop decreases_loop) → length (signs_said c.before.before.before.before.args.pulses.now) ≡ c.signs_said-count.result
+counted : (c : tie.After-signs_said-count invariant_loop decreases_loop) → length (signs_said c.args.pulses.now) ≡ c.signs_said-count.result
 counted c =
-    let s = c.signs-said in
+    let s = c.signs_said-count in
     ap length (sym s.ensures.1) ∙ length-take-le s.result s.new.0 (omega (arith, s.ensures.0, s.auto.0))
 
 symbol : (c : tie.After-signs_said-count invariant_loop decreases_loop) (k : ℕ) → k < c.signs_said-count.result
-    → get_or c.signs_said-count.new.0 k 0 ≡ get_or (signs_said c.before.before.before.before.args.pulses.now) k 0
+    → get_or c.signs_said-count.new.0 k 0 ≡ get_or (signs_said c.args.pulses.now) k 0
 symbol c k h =
-    let s = c.signs-said in
+    let s = c.signs_said-count in
     sym (get_or-take s.result s.new.0 k 0 h) ∙ ap (λ (l : List ℕ). get_or l k 0) s.ensures.1
 
 loop_holds : tie.Need-loop-k-init invariant_loop decreases_loop
@@ -49,17 +49,17 @@ loop_holds c =
     record { told = signs_start _ _ _ b.requires.core; to = omega arith; kept = refl }
 
 array_read_ec_enc_icdf_run : tie.Need-bounds-symbols-k invariant_loop decreases_loop
-array_read_ec_enc_icdf_run c = omega (arith, c.before.before.before.before.signs_said-count.ensures.0)
+array_read_ec_enc_icdf_run c = omega (arith, c.signs_said-count.ensures.0)
 
 cast_ec_enc_icdf_run : tie.Need-overflow_cast-symbols invariant_loop decreases_loop
 cast_ec_enc_icdf_run c =
-    let l = c.before.before.loop in
+    let l = c.loop-k in
     let s = c.before.before.before.before in
-    omega (arith, symbol s l.k (omega arith), signs_bits s.before.before.before.before.args.pulses.now l.k)
+    omega (arith, symbol s l.k (omega arith), signs_bits s.args.pulses.now l.k)
 
 ec_enc_icdf_run_requires : tie.Need-ec_enc_icdf_run-w-requires invariant_loop decreases_loop
 ec_enc_icdf_run_requires c κs =
-    let l = c.before.before.loop in
+    let l = c.loop-k in
     let s = c.before.before.before.before in
     let b = s.before.before.before.before in
     let t = l.invariant.told in
@@ -72,13 +72,13 @@ ec_enc_icdf_run_requires c κs =
     )
 
 add_k : tie.Need-overflow_add-k invariant_loop decreases_loop
-add_k c = omega (arith, c.before.before.before.before.before.before.before.signs_said-count.ensures.0)
+add_k c = omega (arith, c.signs_said-count.ensures.0)
 
 loop_again : tie.Need-loop-k-preserved invariant_loop decreases_loop
 loop_again c =
-    let l = c.before.before.before.before.before.loop in
+    let l = c.loop-k in
     let s = c.before.before.before.before.before.before.before in
-    let a = c.before.before.ec-enc-icdf-run in
+    let a = c.ec_enc_icdf_run-w in
     record {
       told = sign_more _ _ _ l.k l.invariant.told (omega (arith, counted s)) (symbol s l.k (omega arith)) a.ensures;
       to = omega arith;
@@ -86,11 +86,11 @@ loop_again c =
     }
 
 same_length : tie.Need-shape_of-buf invariant_loop decreases_loop
-same_length c = c.before.loop-k.invariant.kept
+same_length c = c.loop-k.invariant.kept
 
 returns : tie.Need-returns invariant_loop decreases_loop
 returns c =
-    let l = c.before.loop in
+    let l = c.loop-k in
     let s = c.before.before.before in
     told_within (omega (arith, l.invariant.to, s.signs_said-count.ensures.0)) (signs_end _ _ _ l.k l.invariant.told (omega (arith, counted s)))
 

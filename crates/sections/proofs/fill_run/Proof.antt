@@ -29,7 +29,7 @@ loop_holds c = (search rules, search rules, refl)
 loop_again : tie.Need-loop-i-preserved invariant_loop decreases_loop
 loop_again c =
     let b = c.before.before in
-    let a = b.before.before.args in
+    let a = b.args in
     let i = b.loop-i.i in
     let v = b.loop-i.values in
     let x = to_z-of_z {w = w16} (sfits_of c.value-at-run.type-inv) ∙ c.value_at_run-x.ensures in (
@@ -44,7 +44,7 @@ loop_again c =
 returns : tie.Need-returns invariant_loop decreases_loop
 returns c =
     let b = c.before in
-    let a = b.before.before.args in
+    let a = b.args in
     let e : b.loop-i.i ≡ length a.values.now = omega arith in
     sym (take_all b.loop-i.i b.loop-i.values (omega arith)) ∙ b.loop-i.invariant.2 ∙ ap (values_at a.s.now a.at) e
 

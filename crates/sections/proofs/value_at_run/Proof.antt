@@ -14,15 +14,15 @@ use Rattle.sections.proofs.value_at_run.Tie as tie
 
 fold16_run_requires : tie.Need-fold16_run-requires
 fold16_run_requires c κs =
-    let h = c.before.byte_at.result in
+    let h = c.byte_at.result in
     let l = c.byte_at-2.result in
     rw (to_z_pos w32 {n = 256 * h + l} (search rules)) (omega arith, omega arith)
 
 returns : tie.Need-returns
 unfolding value_at
 returns c =
-    let h = c.before.before.byte_at in
-    let l = c.before.byte-at2 in
+    let h = c.byte_at in
+    let l = c.byte_at-2 in
     let e : to_z w32 (256 * h.result + l.result) ≡ pos (256 * h.result + l.result) = to_z_pos w32 (search rules) in
     to_z-of_z {w = w16} (sfits_of c.fold16-run.type-inv)
     ∙ c.fold16_run.ensures

@@ -18,7 +18,7 @@ put_answer_run_requires c κs =
     let r = s.silk-NLSF-stabilize in
     let v = f.fill_run.new.0 in
     let k : length r.new.0 ≡ length v = r.auto.0 in
-    let a : r.result ≡ (stabilise_call v s.before.before.before.before.fill_run-2.new.0).answer = ap (λ (x : Called). x.answer) r.ensures in
+    let a : r.result ≡ (stabilise_call v s.fill_run-2.new.0).answer = ap (λ (x : Called). x.answer) r.ensures in
     (search rules, rw (k, a) (small v _))
 
 returns : tie.Need-returns
@@ -26,7 +26,7 @@ returns c =
     let s = c.before.before.before.before.before.before in
     let g = s.before.before.before.before in
     let f = g.before.before.before in
-    put_as c.before.before.put_answer_run.ensures
+    put_as c.put_answer_run.ensures
     (ap answer_text (s.silk_NLSF_stabilize-a.ensures ∙ ap₂ stabilise_call f.fill_run.ensures g.fill_run-2.ensures))
     (omega arith)
 

@@ -38,22 +38,22 @@ module _ (s : List ℕ) (n m : ℕ) (first : n ≡ byte_at s 0) (second : m ≡ 
 
 slice_aggregate_put_stabilised : tie.Need-slice_bounds-put_stabilised-end-then-input-second
 slice_aggregate_put_stabilised c =
-    let n = c.before.before.before.before.before.before.byte_at in
-    let v = c.before.before.before.values in
+    let n = c.byte_at-n in
+    let v = c.values-vector in
     sym (length-take-le n.result v.result (omega (arith, v.ensures)))
 
 slice_aggregate_put_stabilised_2 : tie.Need-slice_bounds-put_stabilised-end-then-input-second-2
 slice_aggregate_put_stabilised_2 c =
-    let n = c.before.before.before.before.before.before.byte-at2 in
-    let v = c.before.before.before.values2 in
+    let n = c.byte_at-m in
+    let v = c.values-gaps in
     sym (length-take-le n.result v.result (omega (arith, v.ensures)))
 
 put_stabilised_requires : tie.Need-put_stabilised-requires
 put_stabilised_requires c κs =
-    let v = c.before.before.before.before.values in
-    let w = c.before.before.before.values2 in
-    let n = c.before.before.before.before.before.before.before.byte_at-n.result in
-    let m = c.before.before.before.before.before.before.byte_at-m.result in
+    let v = c.values-vector in
+    let w = c.values-gaps in
+    let n = c.byte_at-n.result in
+    let m = c.byte_at-m.result in
     let e = length-take-le n v.result (omega (arith, v.ensures)) in
     let f = length-take-le m w.result (omega (arith, w.ensures)) in
     (search rules, omega (arith, e, f))
@@ -61,23 +61,23 @@ put_stabilised_requires c κs =
 returns : tie.Need-returns-then-input-second
 returns c =
     let t = c.before.before.before.before.before.before.before.before in
-    let n = t.before.before.byte_at in
-    let m = t.before.byte-at2 in
-    let v = c.before.before.before.before.before.before.before.values in
-    let w = c.before.before.before.before.before.before.values2 in
-    let s = t.before.before.before.before.args.input.now in
+    let n = t.byte_at-n in
+    let m = t.byte_at-m in
+    let v = c.values-vector in
+    let w = c.values-gaps in
+    let s = t.args.input.now in
     let e = length-take-le n.result v.result (omega (arith, v.ensures)) in
     let f = length-take-le m.result w.result (omega (arith, w.ensures)) in
     printed_put
-    (put_whole s n.result m.result n.ensures.0 m.ensures.0 t.if-input-second.true e f c.before.before.put_stabilised.ensures)
+    (put_whole s n.result m.result n.ensures.0 m.ensures.0 t.if-input-second.true e f c.put_stabilised.ensures)
     (search rules)
 
 returns_2 : tie.Need-returns
 returns_2 c =
     let t = c.before.before in
-    let n = t.before.before.byte_at in
-    let m = t.before.byte-at2 in
-    let s = t.before.before.before.before.args.input.now in
+    let n = t.byte_at-n in
+    let m = t.byte_at-m in
+    let s = t.args.input.now in
     printed_put (put_cut s n.result m.result n.ensures.0 m.ensures.0 t.if-input-second.false c.put_refused_run.ensures) (search rules)
 
 pub stabiliser_text_spec : {M : Type 1} → statement M

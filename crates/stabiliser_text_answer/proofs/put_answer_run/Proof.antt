@@ -38,14 +38,14 @@ returns c =
     let t = b.before.before.before.before.before in
     let a = t.before.before.before in
     let h = a.requires.small.values t.if-a-eq0.true in
-    put_as (put_then b.put_line_run-place.ensures c.before.before.put_counted_run.ensures)
+    put_as (put_then b.put_line_run-place.ensures c.put_counted_run.ensures)
     (rw (to_z_pos w16 {n = a.args.a.moves} (omega arith))
     (accepted (record { vector = a.args.vector.now; answer = a.args.a }) t.if-a-eq0.true))
     (omega arith)
 
 returns_2 : tie.Need-returns
 unfolding answer_text
-returns_2 c = put_as c.before.before.put_refused_run.ensures (rw (ne_eqb _ _ c.before.before.before.before.if-a-eq0.false)) (omega arith)
+returns_2 c = put_as c.put_refused_run.ensures (rw (ne_eqb _ _ c.if-a-eq0.false)) (omega arith)
 
 pub put_answer_run_spec : {M : Type 1} → statement M
 put_answer_run_spec =

@@ -13,19 +13,19 @@ returns : tie.Need-returns-then-table-eq0
 returns c =
     let b = c.before.before.before.before in
     let e : b.args.table ≡ 0 = omega arith in
-    rw e (c.byte_at.ensures ∙ ap (λ (t : List ℕ). get_or t b.args.place no_entry) c.before.before.header_rows-t.ensures)
+    rw e (c.byte_at.ensures ∙ ap (λ (t : List ℕ). get_or t b.args.place no_entry) c.header_rows-t.ensures)
 
 returns_2 : tie.Need-returns-then-table-eq1
 returns_2 c =
     let b = c.before.before.before.before.before in
     let e : b.args.table ≡ 1 = omega arith in
-    rw e (c.byte_at-then-table-eq1.ensures ∙ ap (λ (t : List ℕ). get_or t b.args.place no_entry) c.before.before.index_rows-t.ensures)
+    rw e (c.byte_at-then-table-eq1.ensures ∙ ap (λ (t : List ℕ). get_or t b.args.place no_entry) c.index_rows-t.ensures)
 
 returns_3 : tie.Need-returns
 returns_3 c =
     let b = c.before.before.before.before.before in
     let e : b.args.table ≡ 2 = omega arith in
-    rw e (c.byte_at-2.ensures ∙ ap (λ (t : List ℕ). get_or t b.args.place no_entry) c.before.before.pulse_rows-t.ensures)
+    rw e (c.byte_at-2.ensures ∙ ap (λ (t : List ℕ). get_or t b.args.place no_entry) c.pulse_rows-t.ensures)
 
 pub row_entry_spec : {M : Type 1} → statement M
 row_entry_spec =

@@ -5,17 +5,17 @@ use Rattle.table_entries.proofs.tg_table_entry.Statement.{statement}
 use Rattle.table_entries.proofs.tg_table_entry.Tie as tie
 
 returns : tie.Need-returns-then-table-lt3
-returns c = let b = c.before.before in rw (table_rows b.args.table c.before.if-table-lt3.true) c.row_entry.ensures
+returns c = let b = c.before.before in rw (table_rows b.args.table c.if-table-lt3.true) c.row_entry.ensures
 
 returns_2 : tie.Need-returns-then-table-lt8
 returns_2 c =
     let b = c.before.before.before in
-    rw (table_narrow b.args.table c.before.before.if-table-lt3.false c.before.if-table-lt8.true) c.book_entry_run.ensures
+    rw (table_narrow b.args.table c.if-table-lt3.false c.if-table-lt8.true) c.book_entry_run.ensures
 
 returns_3 : tie.Need-returns-then-table-lt13
 returns_3 c =
     let b = c.before.before.before.before in
-    rw (table_wide b.args.table c.before.before.if-table-lt8.false c.before.if-table-lt13.true) c.book_entry_run-then-table-lt13.ensures
+    rw (table_wide b.args.table c.if-table-lt8.false c.if-table-lt13.true) c.book_entry_run-then-table-lt13.ensures
 
 returns_4 : tie.Need-returns
 returns_4 c = let b = c.before.before.before in rw (table_none b.args.table c.if-table-lt13.false)

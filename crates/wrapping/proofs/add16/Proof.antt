@@ -43,9 +43,9 @@ fold16_run_requires c κs =
 
 returns : tie.Need-returns
 returns c =
-    let fa = c.before.ranges.a in
-    let fb = c.before.ranges.b in
-    to_z-of_z {w = w16} (sfits_of c.fold16-run.type-inv) ∙ c.fold16_run.ensures
+    let fa = c.ranges.a in
+    let fb = c.ranges.b in
+    to_z-of_z {w = w16} (sfits_of c.fold16_run.type_inv) ∙ c.fold16_run.ensures
     ∙ ap wrap16 (rw (adds _ _ fa fb) (to_z-of_z (sum_fits _ _ fa fb)))
 
 pub add16_spec : {M : Type 1} → statement M

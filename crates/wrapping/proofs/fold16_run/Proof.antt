@@ -38,13 +38,13 @@ module _ (s : ℤ) (b : (up s ≤ 65535) × (down s ≤ 65536)) where
 -- the test of the first branch, and the test of the second, of s itself: the machine reads s back from its bits
 sub_result : tie.Need-overflow_sub-result
 sub_result c =
-    let e = to_z-of_z c.before.ranges.s in
-    rw e (wide (over c.before.args.s c.before.requires (rw e at c.if-s-gt32767.true)))
+    let e = to_z-of_z c.ranges.s in
+    rw e (wide (over c.args.s c.requires (rw e at c.if-s-gt32767.true)))
 
 cast_result : tie.Need-overflow_cast-result
 cast_result c =
-    let e = to_z-of_z c.before.ranges.s in
-    let f = over c.before.args.s c.before.requires (rw e at c.if-s-gt32767.true) in
+    let e = to_z-of_z c.ranges.s in
+    let f = over c.args.s c.requires (rw e at c.if-s-gt32767.true) in
     rw (e, to_z-of_z (wide f)) f
 
 add_result : tie.Need-overflow_add-result
@@ -64,7 +64,7 @@ cast_result_3 : tie.Need-overflow_cast-result-else-s-ltminus32768
 cast_result_3 c =
     let s = c.before.before in
     let e = to_z-of_z s.ranges.s in
-    rw e (within s.args.s s.requires (rw e at c.before.if-s-gt32767.false) (rw e at c.if-s-ltminus32768.false))
+    rw e (within s.args.s s.requires (rw e at c.if-s-gt32767.false) (rw e at c.if-s-ltminus32768.false))
 
 returns : tie.Need-returns-then-s-gt32767
 returns c =
@@ -86,7 +86,7 @@ returns_3 : tie.Need-returns-else-s-ltminus32768
 returns_3 c =
     let s = c.before.before in
     let e = to_z-of_z s.ranges.s in
-    let f = within s.args.s s.requires (rw e at c.before.if-s-gt32767.false) (rw e at c.if-s-ltminus32768.false) in
+    let f = within s.args.s s.requires (rw e at c.if-s-gt32767.false) (rw e at c.if-s-ltminus32768.false) in
     rw (e, to_z-of_z f) (sym (wrap16_is s.args.s s.args.s 0 0 refl (fits_up _ f) (fits_down _ f)))
 
 pub fold16_run_spec : {M : Type 1} → statement M

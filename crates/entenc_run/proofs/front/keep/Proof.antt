@@ -32,9 +32,9 @@ returns c =
     let b = c.before.before.before.before.before.before.before in
     let w = b.args.w in
     let o = out b.args.buf.now w in
-    let e : c.before.before.before.before.wrapping_add_u32.result ≡ w.val + (w.rng - b.args.t) = omega arith in
+    let e : c.wrapping_add_u32.result ≡ w.val + (w.rng - b.args.t) = omega arith in
     cut_step o _ b.args.t b.args.s b.requires.core b.requires.total_bound b.requires.cut_ok
-    (c.before.before.normalize.ensures
+    (c.normalize.ensures
     ∙ ap (λ (v : ℕ). settled (at_turn o (b.args.t - b.args.s) v w.total)) e
     ∙ cut_is o b.args.t b.args.s)
 

@@ -15,10 +15,10 @@ abbrev decreases_loop : tie.decreases-loop-w
 decreases_loop buf₀ w₀ buf w = 2 ^ 24 - w.rng
 
 loop_holds : tie.Need-loop-w-init invariant_loop decreases_loop
-loop_holds c = (refl, c.before.requires.ready, c.before.requires.le_rng, refl)
+loop_holds c = (refl, c.requires.ready, c.requires.le_rng, refl)
 
 turn_requires : tie.Need-turn-w-requires invariant_loop decreases_loop
-turn_requires c κs = (c.before.before.before.loop-w.invariant.1, c.before.loop-w-test.true)
+turn_requires c κs = (c.loop-w.invariant.1, c.loop-w-test.true)
 
 -- the range grows
 grows : (o q : Out) → q ≡ turned o → q.state.rng ≡ 256 * o.state.rng
@@ -27,27 +27,27 @@ grows o q e = ap (λ (x : Out). x.state.rng) e
 
 loop_less : tie.Need-loop-w-smaller invariant_loop decreases_loop
 loop_less c =
-    let l = c.before.before.before.before.before.before.loop in
-    omega (arith, l.invariant.2, c.before.before.before.before.loop-w-test.true, grows _ _ c.before.before.turn-w.ensures)
+    let l = c.loop-w in
+    omega (arith, l.invariant.2, c.loop-w-test.true, grows _ _ c.turn-w.ensures)
 
 loop_again : tie.Need-loop-w-preserved invariant_loop decreases_loop
 loop_again c =
-    let l = c.before.before.before.before.before.before.loop in
+    let l = c.loop-w in
     let o = out l.buf l.w in
-    let h = c.before.before.before.before.loop-w-test.true in
-    let e = c.before.before.turn-w.ensures in (
+    let h = c.loop-w-test.true in
+    let e = c.turn-w.ensures in (
       rw e (settled_turn o l.invariant.2 h ∙ l.invariant.0),
       rw e (turn_ready o l.invariant.1 h),
       omega (arith, l.invariant.2, grows _ _ e),
-      c.before.before.turn-w.auto.0 ∙ l.invariant.3,
+      c.turn-w.auto.0 ∙ l.invariant.3,
     )
 
 same_length : tie.Need-shape_of-buf invariant_loop decreases_loop
-same_length c = c.before.before.loop-w.invariant.3
+same_length c = c.loop-w.invariant.3
 
 returns : tie.Need-returns invariant_loop decreases_loop
 returns c =
-    let l = c.before.before.loop in
+    let l = c.loop-w in
     sym (settled_done (out l.buf l.w) l.invariant.1.roomy.fair c.loop-w-test.false) ∙ l.invariant.0
 
 pub normalize_spec : {M : Type 1} → statement M

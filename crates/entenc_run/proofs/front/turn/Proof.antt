@@ -11,7 +11,7 @@ returns c =
     let b = c.before.before.before.before.before.before.before.before.before in
     let o = out b.args.buf.now b.args.w in
     let w = b.args.w in
-    ap (λ (q : Out). at_turn q (256 * w.rng) (256 * (w.val % 2 ^ 23)) (w.total + 8)) c.before.before.carry_out_run-q.ensures
+    ap (λ (q : Out). at_turn q (256 * w.rng) (256 * (w.val % 2 ^ 23)) (w.total + 8)) c.carry_out_run-q.ensures
     ∙ turn_is o
 
 pub turn_spec : {M : Type 1} → statement M

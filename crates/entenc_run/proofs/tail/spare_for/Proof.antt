@@ -9,9 +9,9 @@ returns : tie.Need-returns-then-w-n-gt32
 returns c =
     let b = c.before.before.before.before.before.before.before in
     let o = out b.args.buf.now b.args.w in
-    let f = c.before.before.flush_all_run.ensures in
+    let f = c.flush_all_run.ensures in
     record {
-      is = f.is ∙ spared_full o b.args.n c.before.before.before.before.if-w-n-gt32.true;
+      is = f.is ∙ spared_full o b.args.n c.if-w-n-gt32.true;
       free = omega (arith, f.free, b.requires.n_bound);
       windowed = f.windowed;
     }

@@ -21,15 +21,15 @@ start d = d.before.before.before
 
 abbrev lent : tie.After-narrow_predictors-lists → Rows
 lent d =
-    weighted 11796 d.before.narrow_selectors_run-selector.result d.narrow_predictors-lists.result d.before.before.narrow_vector_run-value.result
+    weighted 11796 d.narrow_selectors_run-selector.result d.narrow_predictors-lists.result d.narrow_vector_run-value.result
 
 lent_are : (d : tie.After-narrow_predictors-lists) → RowsOf narrow_book (start d).args.v (lent d)
 unfolding narrow_book
 lent_are d =
-    let e = d.before.before.narrow_vector_run-value.ensures in
+    let e = d.narrow_vector_run-value.ensures in
     record {
       step = refl;
-      selectors = d.before.narrow_selectors_run-selector.ensures;
+      selectors = d.narrow_selectors_run-selector.ensures;
       lists = d.narrow_predictors-lists.ensures;
       values = e;
       weights = vector_weighed (start d).args.v e narrow_by_rule;
@@ -44,23 +44,23 @@ abbrev rowed : tie.After-narrow_gaps-gaps → tie.After-narrow_predictors-lists
 rowed q = q.before.before.before.before.before.before.before
 
 to_stabilise : (q : tie.After-narrow_gaps-gaps) → let a = (start (rowed q)).args in
-    Handed narrow_book a.v a.xs.now q.narrow_gaps-gaps.result q.before.before.places_run.new.0
+    Handed narrow_book a.v a.xs.now q.narrow_gaps-gaps.result q.places_run.new.0
 to_stabilise q =
     let d = rowed q in
-    let p = q.before.before.places-run in
+    let p = q.places_run in
     handed narrow_usable narrow_shaped.order (lent_are d) (start d).pre q.narrow_gaps-gaps.ensures p.ensures p.auto.0
 
 stays : tie.Need-returns-then-stays_run
 stays c =
     let q = c.before.before.before.before in
     let h = to_stabilise q in
-    h.answer (stays_still q.before.before.places_run.new.0 q.narrow_gaps-gaps.result h.asked.long (sym c.before.stays_run.ensures ∙ c.if-stays_run.true))
+    h.answer (stays_still q.places_run.new.0 q.narrow_gaps-gaps.result h.asked.long (sym c.stays_run.ensures ∙ c.if-stays_run.true))
 
 moves : tie.Need-stabilise_run-requires
 moves c κs =
     let t = c.before.before in
     let h = to_stabilise t.before.before.before.before in
-    ((h.asked, sym (h.sum ∙ gap_total)), sym t.before.stays_run.ensures ∙ t.if-stays_run.false)
+    ((h.asked, sym (h.sum ∙ gap_total)), sym t.stays_run.ensures ∙ t.if-stays_run.false)
 
 pub narrow_run_spec : {M : Type 1} → statement M
 narrow_run_spec =
@@ -83,4 +83,4 @@ narrow_run_spec =
     (λ c. search rules)
     moves
     (λ c. search rules)
-    (λ c. (to_stabilise c.before.before.before.before.before.before.before.before).answer c.before.stabilise_run.ensures))
+    (λ c. (to_stabilise c.before.before.before.before.before.before.before.before).answer c.stabilise_run.ensures))

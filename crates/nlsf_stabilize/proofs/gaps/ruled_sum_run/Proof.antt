@@ -35,12 +35,12 @@ loop_holds c = ((omega arith, omega (arith, c.requires)), refl, record { high = 
 cast_sum : tie.Need-overflow_cast-sum invariant_loop decreases_loop
 cast_sum c =
     let b = c.before.before.before in
-    let f : SFits w16 (at b.before.args.g.now b.loop-i.i) = sfits_of c.sum-1.given in rw (to_z-of_z f) (sfits_widen {w = w16} tt f)
+    let f : SFits w16 (at b.args.g.now b.loop-i.i) = sfits_of c.sum-1.given in rw (to_z-of_z f) (sfits_widen {w = w16} tt f)
 
 add_sum : tie.Need-overflow_add-sum invariant_loop decreases_loop
 add_sum c =
     let b = c.before.before.before in
-    let x = at b.before.args.g.now b.loop-i.i in
+    let x = at b.args.g.now b.loop-i.i in
     let f : SFits w16 x = sfits_of c.sum-1.given in
     let l : b.loop-i.i < 17 = omega arith in
     rw (read b.loop-i.i (to_z w32 b.loop-i.sum) x b.loop-i.invariant.2 l f)
@@ -49,11 +49,11 @@ add_sum c =
 loop_again : tie.Need-loop-i-preserved invariant_loop decreases_loop
 loop_again c =
     let b = c.before.before.before in
-    let g = b.before.args.g.now in
+    let g = b.args.g.now in
     let i = b.loop-i.i in
     let a = to_z w32 b.loop-i.sum in
     let x = at g i in
-    let f0 : SFits w16 x = sfits_of c.before.none-1.given in
+    let f0 : SFits w16 x = sfits_of c.none-1.given in
     let f : SFits w16 x = sfits_of c.sum-1.given in
     let l : i < 17 = omega arith in
     let e = read i a x b.loop-i.invariant.2 l f in
@@ -81,10 +81,10 @@ returns : tie.Need-returns-then-none-g invariant_loop decreases_loop
 unfolding ruled_sum
 returns c =
     let b = c.before.before.before in
-    let g = b.before.args.g.now in
-    let n = b.before.args.n in
+    let g = b.args.g.now in
+    let n = b.args.n in
     let l = b.loop in
-    let f : SFits w16 (at g n) = sfits_of c.before.t14-1.given in
+    let f : SFits w16 (at g n) = sfits_of c.t14-1.given in
     let e : l.i ≡ length g = omega arith in
     let t : good_gaps n g ≡ true =
     sym (whole_test g n l.i l.none (to_z w32 l.sum) e l.invariant.1 l.invariant.3) ∙ (rw (to_z-of_z f) at c.if-none-g.true) in
@@ -94,10 +94,10 @@ returns_2 : tie.Need-returns invariant_loop decreases_loop
 unfolding ruled_sum
 returns_2 c =
     let b = c.before.before.before in
-    let g = b.before.args.g.now in
-    let n = b.before.args.n in
+    let g = b.args.g.now in
+    let n = b.args.n in
     let l = b.loop in
-    let f : SFits w16 (at g n) = sfits_of c.before.t14-1.given in
+    let f : SFits w16 (at g n) = sfits_of c.t14-1.given in
     let e : l.i ≡ length g = omega arith in
     let t : good_gaps n g ≡ false =
     sym (whole_test g n l.i l.none (to_z w32 l.sum) e l.invariant.1 l.invariant.3) ∙ (rw (to_z-of_z f) at c.if-none-g.false) in

@@ -11,26 +11,26 @@ use Rattle.table_entries.proofs.book.gaps_entry.Statement.{statement}
 use Rattle.table_entries.proofs.book.gaps_entry.Tie as tie
 
 returns : tie.Need-returns-then-place-ge17
-returns c = let b = c.before in rw b.if-wide.true (gap_past wide_shaped b.before.args.place c.if-place-ge17.true)
+returns c = let b = c.before in rw b.if-wide.true (gap_past wide_shaped b.args.place c.if-place-ge17.true)
 
 returns_2 : tie.Need-returns-then-wide
 returns_2 c =
     let b = c.before.before.before in
-    let i = b.before.before.args.place in
-    let g = c.before.before.wide-gaps in
-    let f : SFits w16 (get_or g.result i (pos 0)) = sfits_of c.before.gap-arg-1.given in
-    rw b.before.if-wide.true (gap_inside wide_shaped i b.if-place-ge17.false (rw (to_z-of_z f) at c.gap.ensures) g.ensures)
+    let i = b.args.place in
+    let g = c.wide_gaps-t in
+    let f : SFits w16 (get_or g.result i (pos 0)) = sfits_of c.gap-arg-1.given in
+    rw b.if-wide.true (gap_inside wide_shaped i b.if-place-ge17.false (rw (to_z-of_z f) at c.gap.ensures) g.ensures)
 
 returns_3 : tie.Need-returns-then-place-ge11
-returns_3 c = let b = c.before in rw b.if-wide.false (gap_past narrow_shaped b.before.args.place c.if-place-ge11.true)
+returns_3 c = let b = c.before in rw b.if-wide.false (gap_past narrow_shaped b.args.place c.if-place-ge11.true)
 
 returns_4 : tie.Need-returns
 returns_4 c =
     let b = c.before.before.before in
-    let i = b.before.before.args.place in
-    let g = c.before.before.narrow-gaps in
-    let f : SFits w16 (get_or g.result i (pos 0)) = sfits_of c.before.gap-arg-2-1.given in
-    rw b.before.if-wide.false (gap_inside narrow_shaped i b.if-place-ge11.false (rw (to_z-of_z f) at c.gap-2.ensures) g.ensures)
+    let i = b.args.place in
+    let g = c.narrow_gaps-t in
+    let f : SFits w16 (get_or g.result i (pos 0)) = sfits_of c.gap-arg-2-1.given in
+    rw b.if-wide.false (gap_inside narrow_shaped i b.if-place-ge11.false (rw (to_z-of_z f) at c.gap-2.ensures) g.ensures)
 
 pub gaps_entry_spec : {M : Type 1} → statement M
 gaps_entry_spec =

@@ -7,22 +7,22 @@ use Rattle.table_entries.proofs.book.predictors_entry.Statement.{statement}
 use Rattle.table_entries.proofs.book.predictors_entry.Tie as tie
 
 returns : tie.Need-returns-then-place-ge30
-returns c = let b = c.before in rw b.if-wide.true (past wide_shaped.predictors b.before.args.place c.if-place-ge30.true)
+returns c = let b = c.before in rw b.if-wide.true (past wide_shaped.predictors b.args.place c.if-place-ge30.true)
 
 returns_2 : tie.Need-returns-then-wide
 returns_2 c =
     let b = c.before.before in
-    rw b.before.if-wide.true
-    (predictor_inside wide_shaped b.before.before.args.place (omega arith) b.if-place-ge30.false c.byte.ensures c.before.wide_predictors-t.ensures)
+    rw b.if-wide.true
+    (predictor_inside wide_shaped b.args.place (omega arith) b.if-place-ge30.false c.byte.ensures c.wide_predictors-t.ensures)
 
 returns_3 : tie.Need-returns-then-place-ge18
-returns_3 c = let b = c.before in rw b.if-wide.false (past narrow_shaped.predictors b.before.args.place c.if-place-ge18.true)
+returns_3 c = let b = c.before in rw b.if-wide.false (past narrow_shaped.predictors b.args.place c.if-place-ge18.true)
 
 returns_4 : tie.Need-returns
 returns_4 c =
     let b = c.before.before in
-    rw b.before.if-wide.false
-    (predictor_inside narrow_shaped b.before.before.args.place (omega arith) b.if-place-ge18.false c.byte-2.ensures c.before.narrow_predictors-t.ensures)
+    rw b.if-wide.false
+    (predictor_inside narrow_shaped b.args.place (omega arith) b.if-place-ge18.false c.byte-2.ensures c.narrow_predictors-t.ensures)
 
 pub predictors_entry_spec : {M : Type 1} → statement M
 predictors_entry_spec =

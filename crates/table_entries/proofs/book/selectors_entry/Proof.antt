@@ -10,9 +10,9 @@ pub selectors_entry_spec : {M : Type 1} → statement M
 selectors_entry_spec =
     let w = wide_shaped.selectors in let n = narrow_shaped.selectors in
     tie.close (tie.spec
-    (λ c. rw c.before.if-wide.true (past w _ c.if-place-ge256.true)) (λ c κs. search rules) (λ c. search rules) (λ c κs. search rules)
-    (λ c. rw c.before.before.before.if-wide.true
-    (inside w _ (lit< tt) c.before.before.if-place-ge256.false c.byte.ensures c.before.wide_selectors_run-t.ensures))
-    (λ c. rw c.before.if-wide.false (past n _ c.if-place-ge160.true)) (λ c κs. search rules) (λ c. search rules) (λ c κs. search rules)
-    (λ c. rw c.before.before.before.if-wide.false
-    (inside n _ (lit< tt) c.before.before.if-place-ge160.false c.byte-2.ensures c.before.narrow_selectors_run-t.ensures)))
+    (λ c. rw c.if-wide.true (past w _ c.if-place-ge256.true)) (λ c κs. search rules) (λ c. search rules) (λ c κs. search rules)
+    (λ c. rw c.if-wide.true
+    (inside w _ (lit< tt) c.if-place-ge256.false c.byte.ensures c.wide_selectors_run-t.ensures))
+    (λ c. rw c.if-wide.false (past n _ c.if-place-ge160.true)) (λ c κs. search rules) (λ c. search rules) (λ c κs. search rules)
+    (λ c. rw c.if-wide.false
+    (inside n _ (lit< tt) c.if-place-ge160.false c.byte-2.ensures c.narrow_selectors_run-t.ensures)))

@@ -10,9 +10,9 @@ pub vectors_entry_spec : {M : Type 1} → statement M
 vectors_entry_spec =
     let w = wide_shaped.vectors in let n = narrow_shaped.vectors in
     tie.close (tie.spec
-    (λ c. rw c.before.if-wide.true (past w _ c.if-place-ge512.true)) (λ c κs. search rules) (λ c. search rules) (λ c κs. search rules)
-    (λ c. rw c.before.before.before.if-wide.true
-    (inside w _ (lit< tt) c.before.before.if-place-ge512.false c.byte.ensures c.before.wide_vector_run-t.ensures))
-    (λ c. rw c.before.if-wide.false (past n _ c.if-place-ge320.true)) (λ c κs. search rules) (λ c. search rules) (λ c κs. search rules)
-    (λ c. rw c.before.before.before.if-wide.false
-    (inside n _ (lit< tt) c.before.before.if-place-ge320.false c.byte-2.ensures c.before.narrow_vector_run-t.ensures)))
+    (λ c. rw c.if-wide.true (past w _ c.if-place-ge512.true)) (λ c κs. search rules) (λ c. search rules) (λ c κs. search rules)
+    (λ c. rw c.if-wide.true
+    (inside w _ (lit< tt) c.if-place-ge512.false c.byte.ensures c.wide_vector_run-t.ensures))
+    (λ c. rw c.if-wide.false (past n _ c.if-place-ge320.true)) (λ c κs. search rules) (λ c. search rules) (λ c κs. search rules)
+    (λ c. rw c.if-wide.false
+    (inside n _ (lit< tt) c.if-place-ge320.false c.byte-2.ensures c.narrow_vector_run-t.ensures)))

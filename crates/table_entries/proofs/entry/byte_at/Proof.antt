@@ -10,7 +10,7 @@ use Rattle.table_entries.proofs.entry.byte_at.Tie as tie
 returns : tie.Need-returns-then-place-t
 returns c =
     let b = c.before.before.before.before in
-    c.byte.ensures ∙ get_d_inside b.args.t.now b.args.place 0 no_entry c.before.before.if-place-t.true
+    c.byte.ensures ∙ get_d_inside b.args.t.now b.args.place 0 no_entry c.if-place-t.true
 
 returns_2 : tie.Need-returns-else-place-t
 returns_2 c = let b = c.before.before in sym (get_or-eq_default b.args.t.now no_entry c.if-place-t.false)

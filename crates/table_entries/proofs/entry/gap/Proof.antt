@@ -28,16 +28,16 @@ same (negsuc n) t = absurd (subst T t tt)
 
 cast_result : tie.Need-overflow_cast-result
 cast_result c =
-    let f = c.before.ranges.x in
-    rw (to_z-of_z f) (fits c.before.args.x f (rw (to_z-of_z f) at c.if-x-lt0.false))
+    let f = c.ranges.x in
+    rw (to_z-of_z f) (fits c.args.x f (rw (to_z-of_z f) at c.if-x-lt0.false))
 
 returns : tie.Need-returns-then-x-lt0
-returns c = below c.before.args.x (rw (to_z-of_z c.before.ranges.x) at c.if-x-lt0.true)
+returns c = below c.args.x (rw (to_z-of_z c.ranges.x) at c.if-x-lt0.true)
 
 returns_2 : tie.Need-returns-else-x-lt0
 returns_2 c =
-    let f = c.before.ranges.x in
-    rw (to_z-of_z f) (same c.before.args.x (rw (to_z-of_z f) at c.if-x-lt0.false))
+    let f = c.ranges.x in
+    rw (to_z-of_z f) (same c.args.x (rw (to_z-of_z f) at c.if-x-lt0.false))
 
 pub gap_spec : {M : Type 1} → statement M
 gap_spec = tie.close (tie.spec cast_result returns returns_2)

@@ -11,12 +11,12 @@ use Rattle.tables.proofs.books.narrow_weights_run.Tie as tie
 weights_run_requires : tie.Need-weights_run-requires
 weights_run_requires c κs =
     let s = c.before.before.before in
-    vector_asked s.args.v c.before.before.narrow_vector_run-values.ensures narrow_shaped narrow_rises (omega arith) s.requires
+    vector_asked s.args.v c.narrow_vector_run-values.ensures narrow_shaped narrow_rises (omega arith) s.requires
 
 returns : tie.Need-returns
 returns c =
     let d = c.before.before.before.before in
-    c.before.weights_run.ensures ∙ vector_weighed d.before.args.v d.narrow_vector_run-values.ensures narrow_by_rule
+    c.weights_run.ensures ∙ vector_weighed d.args.v d.narrow_vector_run-values.ensures narrow_by_rule
 
 pub narrow_weights_run_spec : {M : Type 1} → statement M
 narrow_weights_run_spec =

@@ -11,12 +11,12 @@ use Rattle.tables.proofs.books.wide_weights_run.Tie as tie
 weights_run_requires : tie.Need-weights_run-requires
 weights_run_requires c κs =
     let s = c.before.before.before in
-    vector_asked s.args.v c.before.before.wide_vector_run-values.ensures wide_shaped wide_rises (omega arith) s.requires
+    vector_asked s.args.v c.wide_vector_run-values.ensures wide_shaped wide_rises (omega arith) s.requires
 
 returns : tie.Need-returns
 returns c =
     let d = c.before.before.before.before in
-    c.before.weights_run.ensures ∙ vector_weighed d.before.args.v d.wide_vector_run-values.ensures wide_by_rule
+    c.weights_run.ensures ∙ vector_weighed d.args.v d.wide_vector_run-values.ensures wide_by_rule
 
 pub wide_weights_run_spec : {M : Type 1} → statement M
 wide_weights_run_spec =

@@ -23,7 +23,7 @@ loop_holds c = (search rules, search rules, refl)
 loop_again : tie.Need-loop-k-preserved invariant_loop decreases_loop
 loop_again c =
     let b = c.before.before in
-    let l = b.before.args.from.now in
+    let l = b.args.from.now in
     let x = get_or l b.loop-k.k 0 in
     let i = b.loop-k.invariant in (
       search rules,
@@ -37,7 +37,7 @@ loop_again c =
 returns : tie.Need-returns invariant_loop decreases_loop
 returns c =
     let b = c.before in
-    let l = b.before.args.from.now in
+    let l = b.args.from.now in
     let i = b.loop-k.invariant in
     let e : b.loop-k.k ≡ length l = omega arith in
     let t : take (length l) b.loop-k.to ≡ b.loop-k.to = rw (← i.1) (take-length b.loop-k.to) in
