@@ -11,8 +11,7 @@ import pathlib
 import re
 import sys
 
-FIELDS = {'ensures', 'result', 'true', 'false', 'invariant', 'given', 'after', 'new', 'is', 'branch', 'auto', 'was', 'fits', 'match', 'requires'}
-CONTRACT = re.compile(r'\bfn (\w+)[^{;]*?\)(?: -> [^{]*?)?\n((?: +(?:requires|ensures)[^\n]*\n(?: {8,}[^\n]*\n)*)+) *\{')
+FIELDS = {'ensures', 'result', 'true', 'false', 'invariant', 'given', 'after', 'new', 'is', 'branch', 'auto', 'was', 'fits', 'match', 'requires', 'type-inv', 'type_inv'}
 ATOM = re.compile(r'\([^()]*(?:\([^()]*(?:\([^()]*\)[^()]*)*\)[^()]*)*\)|[^\s()]+')
 
 
@@ -21,36 +20,21 @@ def plain(name):
     return name.replace('-', '_').lower().removesuffix('_lem')
 
 
-def clauses(room):
-    """The names of the clauses of each function, where a kind has several."""
+def parameters(room):
+    """The parameters of each function: a struct's place in the list was its older name."""
     found = {}
-    for source in sorted(room.parent.glob('*/src/**/*.rt')):
-        crate = source.relative_to(room.parent).parts[0]
-        for name, text in CONTRACT.findall(source.read_text('utf-8')):
-            kinds = [re.findall(rf'^ +{kind} (\w+) ', text, re.M) for kind in ('requires', 'ensures')]
-            found[crate, name] = kinds
+    for source in sorted(room.glob('src/**/*.rt')):
+        for name, given in re.findall(r'\bfn (\w+)(?:<[^>]*>)?\(([^)]*)\)', source.read_text('utf-8')):
+            words = [part.split(':')[0].split()[-1] for part in given.split(',') if part.strip()]
+            found[name] = dict(enumerate(words, 1))
     return found
-
-
-def clause(parts, at, names):
-    """Writes a clause's name for its place among pairs."""
-    n, last = 0, len(names) - 1
-    while n < last and parts[at + n:at + n + 1] == ['1']:
-        n += 1
-    if last > 0 and (n == last or parts[at + n:at + n + 1] == ['0']):
-        parts[at:at + n + (n < last)] = [names[n]]
 
 
 class Names:
     """Older names to today's, of one function."""
 
-    def __init__(self, of, own, contracts):
-        self.requires = contracts.get(own, ([], []))[0]
-        self.ensures = {}
-        for _, _, (_, step), callee, *_ in of['places']:
-            if callee and step:
-                parts = callee.split('::')
-                self.ensures[step] = contracts.get((parts[0], parts[-1]), ([], []))[1]
+    def __init__(self, of, given):
+        self.parameters = given
         self.goals = [(plain(old), new) for old, new in of['needs']]
         self.loops = {plain(old): (new, names) for (old, new), names in of['loops']}
         self.places, self.steps = {}, {}
@@ -137,6 +121,11 @@ def turned(text, names, say):
 
     text = re.sub(r'\btie\.(invariant|decreases)[-_]loop(\d*)(?![\w-])', loop, text)
 
+    text = re.sub(r"\.pre(?![\w'-])", '.requires', text)
+    text = re.sub(r"\.(if\d+)\.(taken|left)(?![\w'-])", lambda found: f'.{found[1]}.' + {'taken': 'true', 'left': 'false'}[found[2]], text)
+    text = re.sub(r"(?<=\.)type-inv(?![\w'-])", 'type_inv', text)
+    text = re.sub(r"((?:\bargs|\ba)\.)t(\d+)(?![\w-])", lambda found: found[1] + names.parameters.get(int(found[2]), 't' + found[2]), text)
+
     def place(found):
         new = names.places.get(found[1].replace('-', '_'))
         return f'tie.{new}' if new else found[0]
@@ -158,20 +147,10 @@ def turned(text, names, say):
             last += 1
         if last > 1 and last < len(parts) and (parts[last] in ('args', 'requires', 'ranges') or parts[last] in names.steps.values()):
             del parts[1:last]
-        for i in range(len(parts) - 2, 0, -1):
-            if parts[i] == 'requires':
-                clause(parts, i + 1, names.requires)
-            elif parts[i] == 'ensures' and parts[i - 1] in names.ensures:
-                clause(parts, i + 1, names.ensures[parts[i - 1]])
-        if parts[0] in handed:
-            clause(parts, 1, names.requires)
         return '.'.join(parts)
 
-    lines, handed = [], set()
+    lines = []
     for line in text.split('\n'):
-        if line and not line.startswith(' '):
-            handed = set()
-        handed |= set(re.findall(r'\blet (\w+) = [\w.-]+\.requires in', line))
         if not line.startswith(('use ', '--')):
             line = re.sub(r"(?<![\w.'·)])[a-z][\w'₀-₉]*(?:\.[^\s(){}.;,@\"«»\[\]\\]+)+|\)(?:\.[^\s(){}.;,@\"«»\[\]\\]+)+", path, line)
         lines.append(line)
@@ -180,14 +159,14 @@ def turned(text, names, say):
 
 def main():
     listed, room = sys.argv[1:]
-    room = pathlib.Path(room).resolve()
-    contracts = clauses(room)
+    room = pathlib.Path(room)
+    given = parameters(room)
     for module, of in json.loads(pathlib.Path(listed).read_text('utf-8')).items():
         found = re.fullmatch(r'Rattle-\w+-proofs\.(.*)\.Lts', module)
         file = found and room / 'proofs' / found[1].replace('.', '/') / 'Proof.antt'
         if file and file.exists():
             text = file.read_text('utf-8')
-            file.write_text(turned(text, Names(of, (room.name, found[1].split('.')[-1]), contracts), lambda what: print(f'{file}: {what}')), 'utf-8')
+            file.write_text(turned(text, Names(of, given.get(found[1].split('.')[-1], {})), lambda what: print(f'{file}: {what}')), 'utf-8')
 
 
 if __name__ == '__main__':

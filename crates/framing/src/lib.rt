@@ -2,7 +2,6 @@
 // laid out for C. No function stands here: `specs/` has what a packet's bytes mean and how they are laid.
 #![tactic(auto)]
 
-
 // The longest packet that is taken (document 02, item 1).
 pub const LONGEST_PACKET: usize = 16384;
 

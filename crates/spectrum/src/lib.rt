@@ -2,7 +2,6 @@
 // `specs/` says what each call makes of a lent vector.
 #![tactic(auto)]
 
-
 // The spectrum indices of a frame: the first picks a book's vector, the others one residual each.
 #[repr(C)]
 #[derive(Clone, Copy)]

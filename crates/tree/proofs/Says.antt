@@ -29,7 +29,7 @@ unfolding then
 says_then g means k = k
 says_then g (says e p) k = says e (says_then g p k)
 
-pub says_of : {Q R A : Type 0} {y : R} {r : A} {t : Asks Q A} (h : R → Q) → Says (h y) r t → Says y r (of h t)
+pub says_of : {Q R A : Type 0} {y : R} {r : A} (h : R → Q) {t : Asks Q A} → Says (h y) r t → Says y r (of h t)
 unfolding of
 says_of h means = means
 says_of h (says e p) = says e (says_of h p)

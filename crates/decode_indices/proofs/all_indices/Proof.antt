@@ -23,7 +23,7 @@ kind_of c = c.before.before.before
 
 -- the signal type
 signal_small : (c : tie.After-kind_run-k) → c.kind_run-k.result.value / 2 < 3
-signal_small c = omega (arith, c.kind_run-k.ensures.value_bound)
+signal_small c = omega (arith, c.kind_run-k.ensures.1)
 
 -- ---- a reader for the next part, behind each part; its total is at most n
 
@@ -31,7 +31,7 @@ abbrev Ready : tie.Start → Dec → ℕ → Type 0
 Ready z d n = Reading z.args.packet.now d z.args.rows.now n
 
 kind_read : (c : tie.After-kind_run-k) (n : ℕ) → 2 ^ 26 + 16 ≤ n → Ready (start c) c.kind_run-k.result.state n
-kind_read c n h = reading_next n (start c).requires.reading c.kind_run-k.ensures.ran h
+kind_read c n h = reading_next n (start c).requires.0 c.kind_run-k.ensures.0 h
 
 gains_read : (c : tie.After-gains_run-g) (n : ℕ) → 2 ^ 26 + 96 ≤ n → Ready (start (kind_of c)) c.gains_run-g.result.state n
 gains_read c n h = reading_next n (kind_read (kind_of c) (2 ^ 26 + 16) (omega arith)) c.gains_run-g.ensures h
@@ -52,19 +52,19 @@ voicing_read c n h = reading_next n (interpolation_read c.before (2 ^ 26 + 640) 
 gains_run_requires : tie.Need-gains_run-g-requires
 gains_run_requires c κs =
     let k = c.before.before in
-    (kind_read k (2 ^ 28) (omega arith), ((start k).requires.rate.1, signal_small k))
+    (kind_read k (2 ^ 28) (omega arith), ((start k).requires.1.1, signal_small k))
 
 spectrum_run_requires : tie.Need-spectrum_run-q-requires
 spectrum_run_requires c κs =
     let k = kind_of c in
-    (gains_read c (2 ^ 27) (omega arith), ((start k).pre.1.0, signal_small k))
+    (gains_read c (2 ^ 27) (omega arith), ((start k).requires.1.0, signal_small k))
 
 interpolation_run_requires : tie.Need-interpolation_run-i-requires
 interpolation_run_requires c κs = spectrum_read c (2 ^ 29) (omega arith)
 
 voicing_index_requires : tie.Need-voicing_index-v-requires
 voicing_index_requires c κs =
-    let p = (start (kind_of c.before.before)).requires.rate in
+    let p = (start (kind_of c.before.before)).requires.1 in
     (interpolation_read c (2 ^ 27) (omega arith), (p.0, p.1))
 
 seed_run_requires : tie.Need-seed_run-requires
@@ -79,9 +79,9 @@ returns c =
     let g = q.before in
     let k = kind_of g in
     let n = k.kind_run-k.result.value in
-    let e : to_z w8 (n / 2) ≡ pos (n / 2) = to_z_pos w8 {n = n / 2} (omega (arith, k.kind_run-k.ensures.value_bound)) in
+    let e : to_z w8 (n / 2) ≡ pos (n / 2) = to_z_pos w8 {n = n / 2} (omega (arith, k.kind_run-k.ensures.1)) in
     let f : to_z w8 (n % 2) ≡ pos (n % 2) = to_z_pos w8 {n = n % 2} (omega arith) in
-    ran_bind _ k.kind_run-k.ensures.ran
+    ran_bind _ k.kind_run-k.ensures.0
     (ran_bind _ (rw (e, f) at g.gains_run-g.ensures)
     (ran_bind _ q.spectrum_run-q.ensures
     (ran_bind _ i.interpolation_run-i.ensures (ran_bind _ v.voicing_index-v.ensures c.seed_run.ensures))))

@@ -15,7 +15,7 @@ returns_2 : tie.Need-returns
 unfolding voicing
 returns_2 c =
     let z = c.before.before.before in
-    rw (ne_eqb _ _ c.if-signal-eq2.false) (ran_within {n = 0} {m = 160} (omega arith) (ran_done z.requires.reading.core))
+    rw (ne_eqb _ _ c.if-signal-eq2.false) (ran_within {n = 0} {m = 160} (omega arith) (ran_done z.requires.0.core))
 
 pub voicing_index_spec : {M : Type 1} → statement M
 voicing_index_spec = tie.close (tie.spec (λ c κs. search rules) returns returns_2)

@@ -26,10 +26,10 @@ block_lows_run_requires c κs =
     let t = c.loop-i-test.true in
     let b = start l in
     let g = l.loop-i.invariant in
-    let p = b.pre.1.1 in (
+    let p = b.requires.1.1 in (
       g.turning.through.core,
       (
-        omega (arith, g.turning.through.most, b.pre.1.0, p.1.0),
+        omega (arith, g.turning.through.most, b.requires.1.0, p.1.0),
         ((low_bit_in b.args.rows.now p.0, p.1.1 l.loop-i.i), (round_natural g t, round_size g t, (round_has g t).most)),
       ),
     )
@@ -44,12 +44,12 @@ pub lows_spec : {M : Type 1} → statement M
 lows_spec =
     tie.close
     (tie.spec invariant_loop decreases_loop
-    (λ c. let b = c.before.before in round_start b.requires.n_bound.2 b.requires.core)
+    (λ c. let b = c.before.before in round_start b.requires.1.1.1.2 b.requires.0)
     (λ c. search rules) (λ c. search rules) (λ c. search rules) (λ c. search rules) (λ c. search rules)
     (λ c. search rules) (λ c. search rules) (λ c. search rules)
     (λ c. omega (arith, round_fits c.loop-i.invariant c.loop-i-test.true))
     (λ c. round_fits c.loop-i.invariant c.loop-i-test.true)
-    (λ c. let l = c.before.before.before.before in omega (arith, (start l).requires.n_bound.1 l.loop-i.i))
+    (λ c. let l = c.before.before.before.before in omega (arith, (start l).requires.1.1.1.1 l.loop-i.i))
     block_lows_run_requires (λ c. search rules) (λ c. search rules) loop_again
-    (λ c. round_kept c.loop-i.invariant c.loop-i-test.false ∙ sym (start c.before).pre.1.1.1.2.size)
+    (λ c. round_kept c.loop-i.invariant c.loop-i-test.false ∙ sym (start c.before).requires.1.1.1.2.size)
     (λ c. round_end c.loop-i.invariant c.loop-i-test.false))

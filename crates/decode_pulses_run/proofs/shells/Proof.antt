@@ -28,27 +28,27 @@ silk_shell_decoder_run_requires c κs =
     let i = l.loop-i.i in
     let g = l.loop-i.invariant.turning.through in
     let b = start l in
-    let p = b.pre.1.1 in
+    let p = b.requires.1.1 in
     let m = mid_len (i * 16) (i * 16 + 16) l.loop-i.pulses (omega (arith, sized l)) in
-    (g.core, (omega (arith, g.most, b.pre.1.0, p.1.0), (p.0, (p.1.2 i, omega (arith, m)))))
+    (g.core, (omega (arith, g.most, b.requires.1.0, p.1.0), (p.0, (p.1.2 i, omega (arith, m)))))
 
 loop_again : tie.Need-loop-i-preserved invariant_loop decreases_loop
 loop_again c =
     let t = c.before.before.before.before in
     let l = t.loop-i in
     let r = c.silk_shell_decoder_run-d in
-    let few = (start t.before).pre.1.1.1.2 l.i in
+    let few = (start t.before).requires.1.1.1.2 l.i in
     splitting_next _ _ _ _ _ l.pulses l.d l.i l.invariant t.loop-i-test.true few r.new.1.1.1.0 r.result r.ensures
 
 pub shells_spec : {M : Type 1} → statement M
 shells_spec =
     tie.close
     (tie.spec invariant_loop decreases_loop
-    (λ c. let b = c.before.before.before in splitting_start _ _ _ _ _ _ b.requires.n_bound.1 b.requires.core)
+    (λ c. let b = c.before.before.before in splitting_start _ _ _ _ _ _ b.requires.1.1.1.1 b.requires.0)
     (λ c. search rules) (λ c. search rules) (λ c. search rules) (λ c. search rules) (λ c. search rules)
     (λ c. omega (arith, sized c.before.before))
     (λ c. omega (arith, sized c.before.before))
-    (λ c. let l = c.before.before.before in omega (arith, (start l).requires.n_bound.2 l.loop-i.i))
+    (λ c. let l = c.before.before.before in omega (arith, (start l).requires.1.1.1.2 l.loop-i.i))
     silk_shell_decoder_run_requires (λ c. search rules) (λ c. search rules) loop_again
-    (λ c. sized c.before ∙ sym (start c.before).pre.1.1.1.1)
+    (λ c. sized c.before ∙ sym (start c.before).requires.1.1.1.1)
     (λ c. let l = c.loop-i in splitting_end _ _ _ _ _ l.pulses l.d l.i l.invariant c.loop-i-test.false))

@@ -27,14 +27,14 @@ start l = l.before.before.before
 
 -- the count of the block at hand
 abbrev count : tie.At-loop-i invariant_loop decreases_loop → ℕ
-count l = get_or (start l).args.t4.counts l.loop-i.i 0
+count l = get_or (start l).args.x.counts l.loop-i.i 0
 
 -- the row that this turn lends: it ends within the rows, and it is the block's
 row_ends : (c : tie.After-sign_row_at_run-row invariant_loop decreases_loop) → c.sign_row_at_run-row.result + 2 ≤ length (start c.before.before.before).args.rows.now
 row_ends c =
     let l = c.before.before.before in
     let b = start l in
-    let p = b.pre.1.1 in
+    let p = b.requires.1.1 in
     let r = c.sign_row_at_run-row in
     omega (arith, sign_ends b.args.f.signal b.args.f.offset (count l) p.1.1 p.1.2 r.result r.ensures, p.0.size)
 
@@ -45,7 +45,7 @@ row_is : (c : tie.After-sign_row_at_run-row invariant_loop decreases_loop)
 row_is c =
     let l = c.before.before.before in
     let b = start l in
-    let p = b.pre.1.1 in
+    let p = b.requires.1.1 in
     let r = c.sign_row_at_run-row in
     sign_lent b.args.f.signal b.args.f.offset (count l) p.1.1 p.1.2 r.result r.ensures b.args.rows.now p.0
 
@@ -59,10 +59,10 @@ silk_decode_signs_run_requires c κs =
     let t = s.loop-i-test.true in
     let b = start l in
     let g = l.loop-i.invariant in
-    let p = b.pre.1.1 in (
+    let p = b.requires.1.1 in (
       g.turning.through.core,
       (
-        omega (arith, g.turning.through.most, b.pre.1.0, p.1.0),
+        omega (arith, g.turning.through.most, b.requires.1.0, p.1.0),
         (rw (row_is s) (sign_good b.args.f.signal b.args.f.offset (count l) p.1.1 p.1.2), (round_natural g t, round_size g t)),
       ),
     )
@@ -81,9 +81,9 @@ pub signs_spec : {M : Type 1} → statement M
 signs_spec =
     tie.close
     (tie.spec invariant_loop decreases_loop
-    (λ c. let b = c.before.before in round_start b.requires.blocks_bound.3 b.requires.core)
+    (λ c. let b = c.before.before in round_start b.requires.1.1.1.3 b.requires.0)
     (λ c. search rules) (λ c. search rules) (λ c. search rules)
-    (λ c κs. let p = c.requires.blocks_bound in (p.1, p.2))
+    (λ c κs. let p = c.requires.1.1.1 in (p.1, p.2))
     (λ c. omega (arith, row_ends c)) (λ c. search rules) (λ c. search rules) (λ c. search rules)
     (λ c. omega (arith, row_ends c.before.before))
     (λ c. row_ends c.before.before)
@@ -91,5 +91,5 @@ signs_spec =
     (λ c. omega (arith, fits c.before.before.before.before.before))
     (λ c. fits c.before.before.before.before.before)
     silk_decode_signs_run_requires (λ c. search rules) (λ c. search rules) loop_again
-    (λ c. round_kept c.loop-i.invariant c.loop-i-test.false ∙ sym (start c.before).pre.1.1.1.3.size)
+    (λ c. round_kept c.loop-i.invariant c.loop-i-test.false ∙ sym (start c.before).requires.1.1.1.3.size)
     (λ c. round_end c.loop-i.invariant c.loop-i-test.false))

@@ -32,31 +32,31 @@ lowered c = c.before.before.before
 
 -- the row of the rate level
 two_rows : (b : tie.Start) → b.args.signal / 2 < 2
-two_rows b = omega (arith, b.requires.n_bound.2)
+two_rows b = omega (arith, b.requires.1.1.1.2)
 
 rate_is : (b : tie.Start) → let k = b.args.signal / 2 in take (k * 9 + 9 - k * 9) (drop (k * 9) b.args.rows.now) ≡ row_of (46 + k)
-rate_is b = rate_in b.args.rows.now (b.args.signal / 2) b.requires.pulse_rows (two_rows b)
+rate_is b = rate_in b.args.rows.now (b.args.signal / 2) b.requires.1.1.0 (two_rows b)
 
 ec_dec_icdf8_run_requires : tie.Need-ec_dec_icdf8_run-a-requires
 ec_dec_icdf8_run_requires c κs =
     let b = c.before.before.before in
-    (b.requires.core, (omega (arith, b.requires.total_bound), rw (rate_is b) (row_good (46 + b.args.signal / 2) (omega (arith, two_rows b)))))
+    (b.requires.0, (omega (arith, b.requires.1.0), rw (rate_is b) (row_good (46 + b.args.signal / 2) (omega (arith, two_rows b)))))
 
 counts_run_requires : tie.Need-counts_run-x-requires
 counts_run_requires c κs =
     let b = start c.before in
     let a = c.ec_dec_icdf8_run-a.ensures in
-    let p = b.pre.1.1 in
+    let p = b.requires.1.1 in
     let rate = rate_stands (b.args.signal / 2) (two_rows b) in
-    (a.core, (omega (arith, a.most, b.pre.1.0), (p.0, (omega (arith, a.inside, ap length (rate_is b), rate.size), p.1.0))))
+    (a.core, (omega (arith, a.most, b.requires.1.0), (p.0, (omega (arith, a.inside, ap length (rate_is b), rate.size), p.1.0))))
 
 shells_requires : tie.Need-shells-s-requires
 shells_requires c κs =
     let b = start (rated c.before) in
     let a = (rated c.before).ec_dec_icdf8_run-a.ensures in
     let f = c.counts_run-x.ensures in
-    let p = b.pre.1.1 in
-    (f.0.core, (omega (arith, a.most, f.0.most, b.pre.1.0), (p.0, (p.1.0, p.1.1, f.1.0))))
+    let p = b.requires.1.1 in
+    (f.0.core, (omega (arith, a.most, f.0.most, b.requires.1.0), (p.0, (p.1.0, p.1.1, f.1.0))))
 
 lows_requires : tie.Need-lows-l-requires
 lows_requires c κs =
@@ -65,10 +65,10 @@ lows_requires c κs =
     let b = start r in
     let f = (counted s).counts_run-x.ensures in
     let t = s.shells in
-    let p = b.pre.1.1 in (
+    let p = b.requires.1.1 in (
       t.ensures.ran.core,
       (
-        omega (arith, r.ec_dec_icdf8_run-a.ensures.most, f.0.most, t.ensures.ran.most, b.pre.1.0, p.1.0),
+        omega (arith, r.ec_dec_icdf8_run-a.ensures.most, f.0.most, t.ensures.ran.most, b.requires.1.0, p.1.0),
         (
           p.0,
           (
@@ -89,10 +89,10 @@ signs_requires c κs =
     let f = (counted s).counts_run-x.ensures in
     let t = s.shells in
     let u = l.lows in
-    let p = b.pre.1.1 in (
+    let p = b.requires.1.1 in (
       u.ensures.ran.core,
       (
-        omega (arith, r.ec_dec_icdf8_run-a.ensures.most, f.0.most, t.ensures.ran.most, u.ensures.ran.most, b.pre.1.0, p.1.0),
+        omega (arith, r.ec_dec_icdf8_run-a.ensures.most, f.0.most, t.ensures.ran.most, u.ensures.ran.most, b.requires.1.0, p.1.0),
         (
           p.0,
           (
@@ -115,7 +115,7 @@ returns c =
     let f = (counted s).counts-run in
     chain _ _ _ r.ec_dec_icdf8_run-a.result b.args.signal b.args.offset b.args.n f.result.counts f.result.lows
     s.shells.last.1.1.1.0 l.lows.last.1.1.1.1.0 _ _ _ _ _
-    b.pre.1.1.1.0 (rate_is b) r.ec_dec_icdf8_run-a.ensures f.ensures.0 s.shells-s.ensures l.lows-l.ensures c.signs.ensures
+    b.requires.1.1.1.0 (rate_is b) r.ec_dec_icdf8_run-a.ensures f.ensures.0 s.shells-s.ensures l.lows-l.ensures c.signs.ensures
 
 pub silk_decode_pulses_run_spec : {M : Type 1} → statement M
 silk_decode_pulses_run_spec =

@@ -26,7 +26,7 @@ abbrev kind_start : tie.After-kind_tell_run-k → tie.Start
 kind_start c = c.before.before.before.before.before
 
 kind_told : (c : tie.After-kind_tell_run-k) (n : ℕ) → 2 ^ 26 + 16 ≤ n → Ready (kind_start c) c.kind_tell_run-k.new.0 c.kind_tell_run-k.result n
-kind_told c n h = writing_next n (kind_start c).requires.writing c.kind_tell_run-k.ensures (omega arith)
+kind_told c n h = writing_next n (kind_start c).requires.0 c.kind_tell_run-k.ensures (omega arith)
 
 abbrev gains_start : tie.After-gains_tell_run-g → tie.Start
 gains_start c = kind_start c.before.before.before.before
@@ -60,31 +60,31 @@ pitch_told c n h =
 
 -- the signal type
 signal_small : (c : tie.After-next_type_run-signal) → c.next_type_run-signal.result < 3
-signal_small c = omega (arith, c.next_type_run-signal.ensures, c.requires.rate.3.kind.signal.most)
+signal_small c = omega (arith, c.next_type_run-signal.ensures, c.requires.1.3.kind.signal.most)
 
 gains_tell_run_requires : tie.Need-gains_tell_run-g-requires
 gains_tell_run_requires c κs =
     let k = c.before.before.before in
-    let p = (kind_start k).requires.rate in
+    let p = (kind_start k).requires.1 in
     (kind_told k (2 ^ 28) (omega arith), (p.1, signal_small k.before.before, p.3.gains))
 
 spectrum_tell_run_requires : tie.Need-spectrum_tell_run-q-requires
 spectrum_tell_run_requires c κs =
     let g = c.before.before.before in
     let k = g.before.before.before.before in
-    let p = (kind_start k).requires.rate in
+    let p = (kind_start k).requires.1 in
     (gains_told g (2 ^ 27) (omega arith), (p.0, signal_small k.before.before, p.3.spectrum))
 
 interpolation_tell_run_requires : tie.Need-interpolation_tell_run-i-requires
 interpolation_tell_run_requires c κs =
     let q = c.before.before.before in
-    (spectrum_told q (2 ^ 29) (omega arith), (spectrum_start q).requires.rate.3.interp)
+    (spectrum_told q (2 ^ 29) (omega arith), (spectrum_start q).requires.1.3.interp)
 
 voicing_tell_requires : tie.Need-voicing_tell-v-requires
 voicing_tell_requires c κs =
     let i = c.before.before.before in
     let k = i.before.before.before.before.before.before.before.before.before.before.before.before in
-    let p = (kind_start k).requires.rate in (
+    let p = (kind_start k).requires.1 in (
       interpolation_told i (2 ^ 27) (omega arith),
       (p.0, p.1, λ e. p.3.pitch (p.3.kind.signal.least ∙ ap pos (sym k.next_type_run-signal.ensures ∙ e))),
     )
@@ -92,7 +92,7 @@ voicing_tell_requires c κs =
 seed_tell_run_requires : tie.Need-seed_tell_run-requires
 seed_tell_run_requires c κs =
     let v = c.before.before.before in
-    (pitch_told v (2 ^ 29) (omega arith), (pitch_start v).requires.rate.3.seed)
+    (pitch_told v (2 ^ 29) (omega arith), (pitch_start v).requires.1.3.seed)
 
 same_length : tie.Need-shape_of-buf
 same_length c =
@@ -116,7 +116,7 @@ returns c =
     let k = g.before.before.before.before in
     let z = kind_start k in
     let a = z.args in
-    let p = z.pre.1 in
+    let p = z.requires.1 in
     parts_told a.s a.x p.0 p.1 p.2 (shape z) p.3
     k.next_type_run-signal.result k.next_type_run-signal.ensures
     k.kind_tell_run-k.ensures

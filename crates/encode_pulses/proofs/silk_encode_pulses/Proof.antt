@@ -95,7 +95,7 @@ written c =
     (plan_says _ a.pulses.now x.result.counts x.result.lows x.result.fits x.ensures t (omega (arith, sized p, few b)) _ _
     f.signal f.offset a.rate _ 64656 n r.ensures)
 
-unfit : tie.Need-returns-then-n-ne0
+unfit : tie.Need-returns
 unfit c =
     let p = c.before.before in
     let e = p.before.before in

@@ -26,7 +26,7 @@ block_lows_tell_run_requires c κs =
     let p = b.requires.1.1 in (
       g.core,
       (
-        omega (arith, g.most, b.requires.total_bound, p.1.0),
+        omega (arith, g.most, b.requires.1.0, p.1.0),
         (
           (low_bit_in b.args.rows.now p.0, p.1.2 i),
           block_size b.args.pulses.now b.args.n i p.1.1 t.loop-i-test.true,
@@ -44,7 +44,7 @@ pub lows_spec : {M : Type 1} → statement M
 lows_spec =
     tie.close
     (tie.spec invariant_loop decreases_loop
-    (λ c. round_start c.requires.core)
+    (λ c. round_start c.requires.0)
     (λ c. search rules) (λ c. search rules) (λ c. search rules) (λ c. search rules) (λ c. search rules)
     (λ c. search rules) (λ c. search rules) (λ c. search rules) (λ c. search rules) (λ c. search rules)
     (λ c. search rules) block_lows_tell_run_requires (λ c. search rules) (λ c. search rules) loop_again

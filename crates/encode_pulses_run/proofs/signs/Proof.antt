@@ -29,9 +29,9 @@ block_signs_run_requires c κs =
     let p = b.requires.1.1.1 in (
       g.core,
       (
-        omega (arith, g.most, b.requires.total_bound, p.0.0),
+        omega (arith, g.most, b.requires.1.0, p.0.0),
         (
-          b.requires.pulse_rows,
+          b.requires.1.1.0,
           (
             block_size b.args.pulses.now n i p.0.1 h,
             sym (suited_at _ _ _ n b.args.pulses.now p.1 i h),
@@ -52,7 +52,7 @@ pub signs_spec : {M : Type 1} → statement M
 signs_spec =
     tie.close
     (tie.spec invariant_loop decreases_loop
-    (λ c. round_start c.requires.core)
+    (λ c. round_start c.requires.0)
     (λ c. search rules) (λ c. search rules) (λ c. search rules) (λ c. search rules) (λ c. search rules)
     (λ c. search rules) (λ c. search rules) (λ c. search rules) block_signs_run_requires (λ c. search rules)
     (λ c. search rules) loop_again (λ c. search rules)

@@ -26,13 +26,13 @@ block_splits_run_requires c κs =
     let i = t.loop-i.i in
     let g = t.loop-i.invariant.0.midway in
     let h = t.loop-i-test.true in
-    let p = b.requires.n_bound in
+    let p = b.requires.1.1.1 in
     let s = p.2 in (
       g.core,
       (
-        omega (arith, g.most, b.requires.total_bound, p.0),
+        omega (arith, g.most, b.requires.1.0, p.0),
         (
-          b.requires.pulse_rows,
+          b.requires.1.1.0,
           (
             block_size b.args.pulses.now b.args.n i p.1 h,
             s.most i,
@@ -56,7 +56,7 @@ pub splits_spec : {M : Type 1} → statement M
 splits_spec =
     tie.close
     (tie.spec invariant_loop decreases_loop
-    (λ c. round_start c.requires.core)
+    (λ c. round_start c.requires.0)
     (λ c. search rules) (λ c. search rules) (λ c. search rules) (λ c. search rules) (λ c. search rules)
     (λ c. search rules) (λ c. search rules) (λ c. search rules) (λ c. search rules) (λ c. search rules)
     block_splits_run_requires (λ c. search rules) (λ c. search rules) loop_again (λ c. search rules)

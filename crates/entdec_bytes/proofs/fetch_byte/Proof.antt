@@ -10,7 +10,7 @@ returns c =
     let p = c.before.before.before in
     let b = p.before.before.before in
     let y : Bytes b.args.packet.now = λ i. omega (arith, p.shared_slice_known-1.given i) in
-    let e = byte_above b.args.packet.now b.args.d y b.requires.windowed b.requires.wbits_bound in
+    let e = byte_above b.args.packet.now b.args.d y b.requires.0 b.requires.1 in
     rw (c.wrapping_add_u32.ensures, p.ec_read_byte_from_end-b.ensures, p.place_after-o.ensures, e)
 
 pub fetch_byte_spec : {M : Type 1} → statement M

@@ -9,8 +9,8 @@ draw_requires : tie.Need-draw-requires
 draw_requires c κs =
     let b = c.before.before in
     let y : Bytes b.args.packet.now = λ i. omega (arith, c.shared_slice_known-1.given i) in
-    let f = fill_kept b.args.packet.now b.args.n b.args.d y b.requires.core b.requires.n_bound in
-    rw c.fill_for.ensures (b.requires.n_bound, f.enough, omega (arith, f.kept.total))
+    let f = fill_kept b.args.packet.now b.args.n b.args.d y b.requires.0 b.requires.1.1 in
+    rw c.fill_for.ensures (b.requires.1.1, f.enough, omega (arith, f.kept.total))
 
 returns : tie.Need-returns
 returns c = rw (c.draw.ensures, c.fill_for.ensures)

@@ -13,8 +13,8 @@ returns c =
     let b = c.before.before in
     let p = b.args.packet.now in
     let y : Bytes p = λ i. omega (arith, c.shared_slice_known-1.given i) in
-    took p (raw b.args.n) b.args.d _ y b.requires.le_n b.requires.core
-    (c.raw_bits_run.ensures ∙ raw_read p b.args.n b.args.d y b.requires.core b.requires.le_n.1)
+    took p (raw b.args.n) b.args.d _ y b.requires.1.1 b.requires.0
+    (c.raw_bits_run.ensures ∙ raw_read p b.args.n b.args.d y b.requires.0 b.requires.1.1.1)
 
 pub ec_dec_bits_run_spec : {M : Type 1} → statement M
 ec_dec_bits_run_spec = tie.close (tie.spec (λ c κs. search rules) returns)

@@ -17,28 +17,28 @@ abbrev part : tie.Start → Part
 part c = part_of c.args.d.rng (c.args.d.rng / 2 ^ c.args.scale) c.args.d.val c.args.table.now
 
 cutting : (c : tie.Start) → Cutting (tab c.args.scale c.args.table.now) c.args.d (part c).symbol (part c).top (part c).low
-cutting c = tab_cutting c.args.scale c.args.table.now c.args.d (part c).symbol c.requires.icdf refl
+cutting c = tab_cutting c.args.scale c.args.table.now c.args.d (part c).symbol c.requires.1.1 refl
 
 shr_unit : tie.Need-overflow_shr-unit
-shr_unit c = omega (arith, c.requires.icdf.most)
+shr_unit c = omega (arith, c.requires.1.1.most)
 
 find_part_run_requires : tie.Need-find_part_run-p-requires
 find_part_run_requires c κs =
     let b = c.before.before.before in
-    (b.requires.icdf, omega (arith, div-mul-le_self b.args.d.rng (2 ^ b.args.scale), b.requires.core.most))
+    (b.requires.1.1, omega (arith, div-mul-le_self b.args.d.rng (2 ^ b.args.scale), b.requires.0.most))
 
 cut_run_requires : tie.Need-cut_run-q-requires
 cut_run_requires c κs =
     let b = c.before.before.before.before in
-    let h = cutting_holds b.args.packet.now _ b.args.d _ _ _ b.requires.core b.requires.icdf (cutting b) in
-    (b.requires.core, (b.requires.total_bound, rw c.find_part_run-p.ensures (h.cut.some, h.cut.inside, h.low, h.high)))
+    let h = cutting_holds b.args.packet.now _ b.args.d _ _ _ b.requires.0 b.requires.1.1 (cutting b) in
+    (b.requires.0, (b.requires.1.0, rw c.find_part_run-p.ensures (h.cut.some, h.cut.inside, h.low, h.high)))
 
 cast_t8 : tie.Need-overflow_cast-result
 cast_t8 c =
     let b = c.before.before.before.before.before.before in
     let t = b.args.table.now in
-    let f = search_found b.args.scale (b.args.d.rng / 2 ^ b.args.scale) b.args.d.val t b.requires.icdf in
-    rw c.find_part_run-p.ensures (omega (arith, f.inside, b.requires.icdf.few))
+    let f = search_found b.args.scale (b.args.d.rng / 2 ^ b.args.scale) b.args.d.val t b.requires.1.1 in
+    rw c.find_part_run-p.ensures (omega (arith, f.inside, b.requires.1.1.few))
 
 returns : tie.Need-returns
 returns c =
@@ -47,7 +47,7 @@ returns c =
     let d = b.args.d in
     let x = c.find_part_run-p in
     let y : Bytes p = λ i. omega (arith, c.shared_slice_known-1.given i) in
-    took p (tab b.args.scale b.args.table.now) d _ y b.requires.icdf b.requires.core
+    took p (tab b.args.scale b.args.table.now) d _ y b.requires.1.1 b.requires.0
     (ap (gives x.result.symbol) c.cut_run-q.ensures
     ∙ ap (λ (q : Part). gives q.symbol (cut_down p d q.top q.low)) x.ensures
     ∙ tab_read p b.args.scale b.args.table.now d _ _ _ (cutting b))

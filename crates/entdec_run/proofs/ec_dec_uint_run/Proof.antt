@@ -73,7 +73,7 @@ sought_is c = let a = (begun c).args in c.ec_decode-k.ensures ∙ ap (λ (p : �
 the_piece : (c : tie.After-ec_decode-k) → let a = (begun c).args in Piece a.packet.now a.d a.ft c.ec_decode-k.result
 the_piece c =
     let b = begun c in
-    piece b.args.packet.now b.args.d b.args.ft _ (bytes c.before.before.before) b.pre.0 b.pre.1.1 (sought_is c)
+    piece b.args.packet.now b.args.d b.args.ft _ (bytes c.before.before.before) b.requires.0 b.requires.1.1 (sought_is c)
 
 abbrev cut_at : tie.Start → ℕ → Dec
 cut_at c k =
@@ -107,18 +107,18 @@ whole c = together _ _ (count c) (the_piece (chosen c)).small (few (counted (cho
 add_parts : tie.Need-overflow_add-parts
 add_parts c =
     let b = c.before.before in
-    omega (arith, parts c, num_small b.args.ft (omega arith) b.requires.le_ft.1)
+    omega (arith, parts c, num_small b.args.ft (omega arith) b.requires.1.1.1)
 
 ec_decode_requires : tie.Need-ec_decode-k-requires
 ec_decode_requires c κs =
     let b = c.before.before.before in
-    let n = num_small b.args.ft (omega arith) b.requires.le_ft.1 in
-    (b.requires.core.above, omega (arith, b.requires.core.inside, b.requires.core.most), omega arith, omega (arith, parts c.before))
+    let n = num_small b.args.ft (omega arith) b.requires.1.1.1 in
+    (b.requires.0.above, omega (arith, b.requires.0.inside, b.requires.0.most), omega arith, omega (arith, parts c.before))
 
 ec_dec_update_requires : tie.Need-ec_dec_update-q-requires
 ec_dec_update_requires c κs =
     let b = begun c in
-    (b.pre.0, (b.pre.1.0, rw (parts (counted c)) ((the_piece c).below, (the_piece c).holding)))
+    (b.requires.0, (b.requires.1.0, rw (parts (counted c)) ((the_piece c).below, (the_piece c).holding)))
 
 raw_bits_run_requires : tie.Need-raw_bits_run-x-requires
 raw_bits_run_requires c κs =
@@ -141,11 +141,11 @@ returns c =
     let v : k * 2 ^ count r % 2 ^ 32 + r.raw_bits_run-x.result.value ≡ k * 2 ^ raw_bits ft + raw_val p (raw_bits ft) q
     = ap₂ (λ (m n : ℕ). m + n) ((whole r).0 ∙ ap (λ (n : ℕ). k * 2 ^ n) n) (ap (λ (a : Decoded). a.value) x) in
     let s : d.rng / ((ft - 1) / 2 ^ count r + 1) ≡ d.rng / all (num ft) = ap (λ (n : ℕ). d.rng / n) (parts (counted (chosen r))) in
-    took p (num ft) d _ y b.pre.1.1 b.pre.0
+    took p (num ft) d _ y b.requires.1.1 b.requires.0
     (c.clamp.ensures
     ∙ ap₂ (λ (n m : ℕ). outcome (ft - 1) n r.raw_bits_run-x.result.state m) v s
     ∙ ap (λ (z : Dec). outcome (ft - 1) (k * 2 ^ raw_bits ft + raw_val p (raw_bits ft) q) z (d.rng / all (num ft))) (ap (λ (a : Decoded). a.state) x)
-    ∙ num_read p ft d k _ _ y b.pre.0 b.pre.1.1 (num_cutting ft d k (sought_is (chosen r))))
+    ∙ num_read p ft d k _ _ y b.requires.0 b.requires.1.1 (num_cutting ft d k (sought_is (chosen r))))
   where
     outcome : ℕ → ℕ → Dec → ℕ → Decoded
     outcome top n z m = cond (leb n top) (gives n (at_end z m z.error)) (gives top (at_end z m 1))

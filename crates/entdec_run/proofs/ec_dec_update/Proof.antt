@@ -16,8 +16,8 @@ mul_low c =
 cut_run_requires : tie.Need-cut_run-requires
 cut_run_requires c κs =
     let b = c.before.before.before in
-    let h = b.requires.fl_lt_ft.1 in
-    (b.requires.core, (b.requires.total_bound, rw (c.part_top_run-top.ensures, add-one) (h.cut.some, h.cut.inside, h.low, h.high)))
+    let h = b.requires.1.1.1 in
+    (b.requires.0, (b.requires.1.0, rw (c.part_top_run-top.ensures, add-one) (h.cut.some, h.cut.inside, h.low, h.high)))
 
 returns : tie.Need-returns
 returns c = rw (add-one, c.part_top_run-top.ensures) at c.cut_run.ensures

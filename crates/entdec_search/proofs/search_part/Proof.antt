@@ -31,16 +31,16 @@ abbrev decreases_loop : tie.decreases-loop-low
 decreases_loop t scale unit v rng k₀ top₀ low₀ k top low = length t - k
 
 shared_slice_read_low : tie.Need-bounds-table-0 invariant_loop decreases_loop
-shared_slice_read_low c = omega (arith, c.requires.icdf.some)
+shared_slice_read_low c = omega (arith, c.requires.0.some)
 
 cast_low : tie.Need-overflow_cast-low invariant_loop decreases_loop
 cast_low c = omega (arith, c.shared_slice_known-1.given 0)
 
 mul_low : tie.Need-overflow_mul-low invariant_loop decreases_loop
-mul_low c = let a = c.args in omega (arith, end_le a.scale a.unit a.table.now 0 c.requires.icdf)
+mul_low c = let a = c.args in omega (arith, end_le a.scale a.unit a.table.now 0 c.requires.0)
 
 loop_holds : tie.Need-loop-low-init invariant_loop decreases_loop
-loop_holds c = record { on = omega arith; inside = omega (arith, c.requires.icdf.some); bottom = refl; above = refl }
+loop_holds c = record { on = omega arith; inside = omega (arith, c.requires.0.some); bottom = refl; above = refl }
 
 add_k : tie.Need-overflow_add-k invariant_loop decreases_loop
 add_k c = omega arith
@@ -52,7 +52,7 @@ shared_slice_read_low_2 c =
     let l = c.loop-low in
     let i = l.invariant in
     let p : a.v < a.unit * get_or a.table.now l.k 0 = omega (arith, i.bottom, c.loop-low-test.true) in
-    omega (arith, not_last a.scale a.unit a.v a.table.now l.k z.requires.icdf i.inside p)
+    omega (arith, not_last a.scale a.unit a.v a.table.now l.k z.requires.0 i.inside p)
 
 cast_low_2 : tie.Need-overflow_cast-low-in-loop-low invariant_loop decreases_loop
 cast_low_2 c = omega (arith, c.shared_slice_known-in-loop-low-1.given (c.loop-low.k + 1))
@@ -61,7 +61,7 @@ mul_low_2 : tie.Need-overflow_mul-low-in-loop-low invariant_loop decreases_loop
 mul_low_2 c =
     let z = c.before.before.before.before in
     let a = z.args in
-    omega (arith, end_le a.scale a.unit a.table.now (c.loop-low.k + 1) z.requires.icdf)
+    omega (arith, end_le a.scale a.unit a.table.now (c.loop-low.k + 1) z.requires.0)
 
 loop_less : tie.Need-loop-low-smaller invariant_loop decreases_loop
 loop_less c = omega arith
@@ -75,7 +75,7 @@ loop_again c =
     let p : a.v < a.unit * get_or a.table.now l.k 0 = omega (arith, i.bottom, c.loop-low-test.true) in
     record {
       on = i.on ∙ rw (add-one, search_on a.unit a.v a.table.now l.k i.inside p) (omega arith);
-      inside = omega (arith, not_last a.scale a.unit a.v a.table.now l.k z.requires.icdf i.inside p);
+      inside = omega (arith, not_last a.scale a.unit a.v a.table.now l.k z.requires.0 i.inside p);
       bottom = refl;
       above = rw add-one i.bottom;
     }

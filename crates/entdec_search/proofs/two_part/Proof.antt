@@ -14,14 +14,14 @@ mul_edge : tie.Need-overflow_mul-edge
 mul_edge c =
     let b = c.before.before in
     let a = b.args in
-    omega (arith, mul-le-mul_left a.unit (le_of_lt (entry_below a.scale a.table.now b.requires.icdf.0 0)), b.requires.scale_bound)
+    omega (arith, mul-le-mul_left a.unit (le_of_lt (entry_below a.scale a.table.now b.requires.0.0 0)), b.requires.1)
 
 returns : tie.Need-returns
 returns c =
     let b = c.before.before.before.before.before in
     let a = b.args in
     rw (c.pick-symbol.ensures, c.pick-low.ensures, c.pick-top.ensures)
-    (two_entries a.scale a.rng a.unit a.v a.table.now b.requires.icdf.0 b.requires.icdf.1)
+    (two_entries a.scale a.rng a.unit a.v a.table.now b.requires.0.0 b.requires.0.1)
 
 pub two_part_spec : {M : Type 1} → statement M
 two_part_spec =

@@ -19,13 +19,13 @@ use Rattle.entenc_bytes.proofs.carry_out_run.Tie as tie
 put_many_requires : tie.Need-put_many-z-requires
 put_many_requires c κs =
     let b = c.before.before.before.before.before.before.before in
-    rw c.put_held-a.ensures (put_roomy _ _ b.requires.roomy)
+    rw c.put_held-a.ensures (put_roomy _ _ b.requires.0)
 
 returns : tie.Need-returns-then-c-eq255
 returns c =
     let b = c.before.before.before in
     let o = out b.args.buf.now b.args.w in
-    rw c.if-c-eq255.true (wait_is o (b.args.w.ext + 1) b.requires.roomy.fair refl)
+    rw c.if-c-eq255.true (wait_is o (b.args.w.ext + 1) b.requires.0.fair refl)
 
 returns_2 : tie.Need-returns-else-c-eq255
 returns_2 c =

@@ -40,7 +40,7 @@ returns_2 c =
     let w = b.args.w in
     let h = rem_fits b in
     let e = held_none w.rem b.args.k (rw (to_z-of_z h) at c.if-h-ge0.false) in
-    rw e (sym (put_none _ b.requires.roomy.fair))
+    rw e (sym (put_none _ b.requires.0.fair))
 
 pub put_held_spec : {M : Type 1} → statement M
 put_held_spec =

@@ -26,7 +26,7 @@ good c = error_none (start c).state.error (error_fits (begun c)) c.if-w-eq0.true
 stow_run_requires : tie.Need-stow_run-requires
 stow_run_requires c κs =
     let a = c.before.before.before.before.before in
-    let p = (begun a).requires.windowed in
+    let p = (begun a).requires.0 in
     let n = a.clear.auto.0 in (
       record {
         roomy =
@@ -39,7 +39,7 @@ stow_run_requires c κs =
         used = p.used;
         slim = p.slim;
       },
-      (begun a).requires.wbits_bound,
+      (begun a).requires.1,
     )
 
 returns : tie.Need-returns-then-w-gt0
@@ -47,14 +47,14 @@ returns c =
     let a = c.before.before.before.before.before.before.before.before in
     let o = start a in
     let u : o.state.wbits ≡ 0 → ⊥ = λ e. omega (arith, c.if-w-gt0.true) in
-    let m = a.clear.ensures ∙ middle o (begun a).requires.windowed.roomy.fair in
+    let m = a.clear.ensures ∙ middle o (begun a).requires.0.roomy.fair in
     c.stow_run.ensures ∙ close_stowed o (begun a).args.j _ m (good a) u
 
 returns_2 : tie.Need-returns-else-w-gt0
 returns_2 c =
     let a = c.before.before.before.before in
     let o = start a in
-    let f = (begun a).requires.windowed.roomy.fair in
+    let f = (begun a).requires.0.roomy.fair in
     let u : o.state.wbits ≡ 0 = omega (arith, c.if-w-gt0.false) in
     close_whole o (begun a).args.j _ f a.clear.auto.0 (a.clear.ensures ∙ middle o f) (good a) u
 
@@ -62,7 +62,7 @@ returns_3 : tie.Need-returns-else-w-eq0
 returns_3 c =
     let b = c.before.before.before.before in
     let o = out b.args.buf.now b.args.w in
-    let f = b.requires.windowed.roomy.fair in
+    let f = b.requires.0.roomy.fair in
     close_failed o b.args.j f (error_some b.args.w.error f.error c.if-w-eq0.false)
 
 pub close_run_spec : {M : Type 1} → statement M

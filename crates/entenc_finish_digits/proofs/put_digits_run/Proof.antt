@@ -18,7 +18,7 @@ kept : {o q : Out} (d : ℕ) → q ≡ carried o d → Roomy o → held_of o.sta
 kept {o} {q} d e h l = subst (λ (x : Out). Carried o x) (sym e) (carried_kept o d h l)
 
 loop_holds : tie.Need-loop-n-init invariant_loop decreases_loop
-loop_holds c = let p = c.requires in (refl, p.roomy, p.rem_bound.0, p.rem_bound.1, omega arith, refl)
+loop_holds c = let p = c.requires in (refl, p.0, p.1.0, p.1.1, omega arith, refl)
 
 carry_out_run_requires : tie.Need-carry_out_run-w-requires invariant_loop decreases_loop
 carry_out_run_requires c κs =

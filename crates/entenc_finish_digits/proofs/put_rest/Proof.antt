@@ -14,20 +14,20 @@ returns c =
     let b = c.before.before.before.before.before.before.before in
     let w = b.args.w in
     let t = held_there w.rem w.ext (rw (to_z-of_z (rem_fits b)) at c.if-h-ge0.true) in
-    c.carry_out_run.ensures ∙ rest_some (out b.args.buf.now w) b.requires.rem_bound.0 t
+    c.carry_out_run.ensures ∙ rest_some (out b.args.buf.now w) b.requires.1.0 t
 
 returns_2 : tie.Need-returns-then-w-gt0
 returns_2 c =
     let b = c.before.before.before.before.before.before.before.before.before in
     c.carry_out_run-then-w-gt0.ensures
-    ∙ rest_some (out b.args.buf.now b.args.w) b.requires.rem_bound.0 (omega (arith, c.if-w-gt0.true))
+    ∙ rest_some (out b.args.buf.now b.args.w) b.requires.1.0 (omega (arith, c.if-w-gt0.true))
 
 returns_3 : tie.Need-returns-else-w-gt0
 returns_3 c =
     let b = c.before.before.before.before.before in
     let w = b.args.w in
     let t = held_gone w.rem (rw (to_z-of_z (rem_fits b)) at c.if-h-ge0.false) in
-    rest_none (out b.args.buf.now w) b.requires.roomy.fair t (omega (arith, c.if-w-gt0.false))
+    rest_none (out b.args.buf.now w) b.requires.0.fair t (omega (arith, c.if-w-gt0.false))
 
 pub put_rest_spec : {M : Type 1} → statement M
 put_rest_spec =

@@ -13,10 +13,10 @@ use Rattle.entenc_finish_stow.proofs.stow_run.Statement.{statement}
 use Rattle.entenc_finish_stow.proofs.stow_run.Tie as tie
 
 mask : (c : tie.Start) → 1 * 2 ^ c.args.j % 2 ^ 32 ≡ 2 ^ c.args.j
-mask c = one_shl c.args.j (omega (arith, c.requires.wbits_bound.1))
+mask c = one_shl c.args.j (omega (arith, c.requires.1.1))
 
 few : (c : tie.Start) → 2 ^ c.args.j ≤ 2 ^ 7
-few c = pow_mono {i = c.args.j} {j = 7} c.requires.wbits_bound.1
+few c = pow_mono {i = c.args.j} {j = 7} c.requires.1.1
 
 -- a small number above 0 is above 0 in 32 bits
 some_left : (x : ℕ) → 1 ≤ x → x ≤ 256 → 0 < x % 2 ^ 32
@@ -25,15 +25,15 @@ some_left x a b = omega arith
 -- fewer than eight bits wait
 waiting : (c : tie.Start) → c.args.w.window < 2 ^ 7
 waiting c =
-    let p : 2 ^ c.args.w.wbits ≤ 2 ^ 7 = pow_mono {i = c.args.w.wbits} {j = 7} c.requires.wbits_bound.0 in
-    omega (arith, c.requires.windowed.slim)
+    let p : 2 ^ c.args.w.wbits ≤ 2 ^ 7 = pow_mono {i = c.args.w.wbits} {j = 7} c.requires.1.0 in
+    omega (arith, c.requires.0.slim)
 
 -- there is a byte below the back
 abbrev begun : tie.Then-w → tie.Start
 begun c = c.before.before.before
 
 inside : (c : tie.Then-w) → let a = (begun c).args in a.w.storage - (a.w.endoffs + 1) < length a.buf.now
-inside c = omega (arith, (begun c).requires.windowed.roomy.fair.kept, c.if-w.true)
+inside c = omega (arith, (begun c).requires.0.roomy.fair.kept, c.if-w.true)
 
 -- where the bits join that byte
 abbrev below : tie.Then-w-used → tie.Then-w
@@ -49,19 +49,19 @@ returns : tie.Need-returns-then-w-used
 returns c =
     let p = below c.before in
     let b = begun p in
-    stow_short (out b.args.buf.now b.args.w) b.args.j _ b.pre.0.roomy p.if1.taken c.if-w-used.true
+    stow_short (out b.args.buf.now b.args.w) b.args.j _ b.requires.0.roomy p.if-w.true c.if-w-used.true
     (ap (λ (m : ℕ). b.args.w.window % m) (mask b))
 
 returns_2 : tie.Need-returns-else-w-used
 returns_2 c =
     let p = c.before.before.before.before.before.before.before in
     let b = begun p in
-    stow_whole (out b.args.buf.now b.args.w) b.args.j b.pre.0.roomy p.if-w.true c.if-w-used.false
+    stow_whole (out b.args.buf.now b.args.w) b.args.j b.requires.0.roomy p.if-w.true c.if-w-used.false
 
 returns_3 : tie.Need-returns-else-w
 returns_3 c =
     let b = c.before.before.before in
-    stow_none (out b.args.buf.now b.args.w) b.args.j b.requires.windowed.roomy c.if-w.false
+    stow_none (out b.args.buf.now b.args.w) b.args.j b.requires.0.roomy c.if-w.false
 
 pub stow_run_spec : {M : Type 1} → statement M
 stow_run_spec =

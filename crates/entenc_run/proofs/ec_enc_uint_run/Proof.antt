@@ -14,10 +14,10 @@ below : (c : tie.Start) → c.args.ft < 2 ^ 32
 below c = omega arith
 
 allowed : (c : tie.Start) → Allowed (num c.args.ft) c.args.v
-allowed c = record { readable = (c.requires.le_ft.0, below c); fitting = c.requires.le_ft.1 }
+allowed c = record { readable = (c.requires.1.1.0, below c); fitting = c.requires.1.1.1 }
 
 part : (c : tie.Start) (d : ℕ) → d ≡ bit_length (c.args.ft - 1) → NumberPart c.args.ft c.args.v d
-part c d e = number_part c.args.ft c.args.v d e c.requires.le_ft.0 (below c) c.requires.le_ft.1
+part c d e = number_part c.args.ft c.args.v d e c.requires.1.1.0 (below c) c.requires.1.1.1
 
 shr_parts : tie.Need-overflow_shr-parts
 shr_parts c = omega (arith, (part c.before.before.before _ c.ec_ilog-digits.ensures).few)
@@ -32,7 +32,7 @@ keep_part_requires : tie.Need-keep_part-q-requires
 keep_part_requires c κs =
     let b = c.before.before.before.before in
     let p = part b _ c.ec_ilog-digits.ensures in
-    (b.requires.core, (b.requires.total_bound, (p.below, p.small)))
+    (b.requires.0, (b.requires.1.0, (p.below, p.small)))
 
 shl_append : tie.Need-overflow_shl-n
 shl_append c =
@@ -50,13 +50,13 @@ append_requires c κs =
     let p = part b.before.before _ b.ec_ilog-digits.ensures in
     let k = c.keep_part-q.ensures in
     let l = c.if-digits-gt8.true in
-    (k.core, (omega (arith, k.most, b.requires.total_bound), (omega (arith, l), omega (arith, p.few), p.rest)))
+    (k.core, (omega (arith, k.most, b.requires.1.0), (omega (arith, l), omega (arith, p.few), p.rest)))
 
 keep_part_requires_2 : tie.Need-keep_part-requires
 keep_part_requires_2 c κs =
     let b = c.before.before.before.before in
     let n = number_few b.args.ft _ c.ec_ilog-digits.ensures c.if-digits-gt8.false (below b) in
-    (b.requires.core, (b.requires.total_bound, (b.requires.le_ft.1, n.0)))
+    (b.requires.0, (b.requires.1.0, (b.requires.1.1.1, n.0)))
 
 returns : tie.Need-returns-then-digits-gt8
 returns c =
@@ -64,7 +64,7 @@ returns c =
     let b = d.before.before in
     let o = out b.args.buf.now b.args.w in
     let n = d.ec_ilog-digits.result - 8 in
-    wrote o (record { model = num b.args.ft; value = b.args.v }) _ b.requires.core b.requires.total_bound (allowed b)
+    wrote o (record { model = num b.args.ft; value = b.args.v }) _ b.requires.0 b.requires.1.0 (allowed b)
     (c.append.ensures.is
     ∙ ap (λ (q : Out). appended q n (b.args.v % (1 * 2 ^ n % 2 ^ 32)))
     c.keep_part-q.ensures.is
@@ -76,9 +76,9 @@ returns_2 c =
     let b = d.before.before in
     let o = out b.args.buf.now b.args.w in
     let n = number_few b.args.ft _ d.ec_ilog-digits.ensures c.if-digits-gt8.false (below b) in
-    wrote o (record { model = num b.args.ft; value = b.args.v }) _ b.requires.core b.requires.total_bound (allowed b)
-    (c.keep_part-q.ensures.is
-    ∙ num_plain o b.args.ft b.args.v (omega (arith, b.requires.le_ft.0)) n.1 b.requires.core.used)
+    wrote o (record { model = num b.args.ft; value = b.args.v }) _ b.requires.0 b.requires.1.0 (allowed b)
+    (c.keep_part.ensures.is
+    ∙ num_plain o b.args.ft b.args.v (omega (arith, b.requires.1.1.0)) n.1 b.requires.0.used)
 
 pub ec_enc_uint_run_spec : {M : Type 1} → statement M
 ec_enc_uint_run_spec =

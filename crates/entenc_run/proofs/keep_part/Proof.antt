@@ -7,18 +7,18 @@ use Rattle.entenc_run.proofs.keep_part.Statement.{statement}
 use Rattle.entenc_run.proofs.keep_part.Tie as tie
 
 part : (c : tie.Start) → CutOk c.args.w.rng (upper c.args.w.rng c.args.c c.args.ft) (lower c.args.w.rng (suc c.args.c) c.args.ft)
-part c = part_cut c.args.w.rng c.args.c c.args.ft c.requires.core.above c.requires.c_lt_ft.0 c.requires.c_lt_ft.1
+part c = part_cut c.args.w.rng c.args.c c.args.ft c.requires.0.above c.requires.1.1.0 c.requires.1.1.1
 
 mul_low : tie.Need-overflow_mul-low
 mul_low c =
     let b = c.before.before in
-    omega (arith, b.requires.core.most, (part b).some, (part b).inside, part_lower b.args.w.rng b.args.c b.args.ft)
+    omega (arith, b.requires.0.most, (part b).some, (part b).inside, part_lower b.args.w.rng b.args.c b.args.ft)
 
 keep_requires : tie.Need-keep-requires
 keep_requires c κs =
     let b = c.before.before.before.before in
     let R = b.args.w.rng in
-    (b.requires.core, (b.requires.total_bound, ends_cut R _ _ _ _ c.part_top_run-top.ensures (part_lower R b.args.c b.args.ft) (part b)))
+    (b.requires.0, (b.requires.1.0, ends_cut R _ _ _ _ c.part_top_run-top.ensures (part_lower R b.args.c b.args.ft) (part b)))
 
 returns : tie.Need-returns
 returns c =

@@ -7,7 +7,7 @@ use Rattle.entenc_run.proofs.symbol_top.Tie as tie
 -- where the entry stands
 at : (c : tie.Joined-i-eq0) → (c.if1.j < length c.args.table.now) × ((c.args.k ≡ 0 → ⊥) → c.if1.j ≡ c.args.k - 1)
 at c =
-    let h = c.requires.k_in_bounds in
+    let h = c.requires.0 in
     ⊎_elim (λ w. (omega (arith, w.0.taken, w.1), λ n. absurd (n w.0.taken))) (λ w. (omega (arith, w.1), λ n. w.1)) c.if-i-eq0.branch
 
 shared_slice_read_part : tie.Need-bounds-table-j
@@ -17,7 +17,7 @@ cast_part : tie.Need-overflow_cast-part
 cast_part c = omega (arith, c.shared_slice_known-1.given c.before.if1.j)
 
 mul_part : tie.Need-overflow_mul-part
-mul_part c = omega (arith, c.requires.by_index c.before.if1.j)
+mul_part c = omega (arith, c.requires.1 c.before.if1.j)
 
 returns_2 : tie.Need-returns-else-k-eq0
 returns_2 c =

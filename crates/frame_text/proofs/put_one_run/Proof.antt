@@ -11,7 +11,7 @@ returns : tie.Need-returns
 returns c =
     let w = c.before.before.before.before.before in
     let a = w.before.before.before in
-    let e = widened w.wide.type-inv w.wide.ensures a.ranges.x in
+    let e = widened w.wide.type_inv w.wide.ensures a.ranges.x in
     put_as (rw e at c.put_line_run.ensures) refl (omega arith)
 
 pub put_one_run_spec : {M : Type 1} → statement M

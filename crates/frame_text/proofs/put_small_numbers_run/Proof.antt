@@ -40,7 +40,7 @@ loop_again c =
     let xs = b.args.xs.now in
     let i = b.loop-i.i in
     let f : SFits w8 (get_or xs i (pos 0)) = sfits_of c.wide-arg-1.given in
-    let e = widened w.type-inv w.ensures f in (
+    let e = widened w.type_inv w.ensures f in (
       search rules,
       search rules,
       put_as (put_then b.loop-i.invariant.2 (rw e at c.put_spaced_run-place.ensures)) (spaced_more xs i (search rules)) (omega arith),

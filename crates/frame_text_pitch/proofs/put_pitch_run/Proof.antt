@@ -69,7 +69,7 @@ unfolding ascii
 returns c =
     let b = c.before.before.before.before.before.before in
     let z = b.before.before in
-    put_as c.put_line_run.ensures (unvoiced z.args.subframes z.args.x (λ e. b.if-signal-ne2.true (z.requires.signal_value.0 ∙ e))) (omega arith)
+    put_as c.put_line_run.ensures (unvoiced z.args.subframes z.args.x (λ e. b.if-signal-ne2.true (z.requires.1.0 ∙ e))) (omega arith)
 
 returns_2 : tie.Need-returns-then-subframes-eq2
 returns_2 c =
@@ -80,7 +80,7 @@ returns_2 c =
     let f = fields z in
     let f0 : SFits w8 (get_or x.ltp 0 (pos 0)) = sfits_of b.rest-1.given in
     let f1 : SFits w8 (get_or x.ltp 1 (pos 0)) = sfits_of d.rest-then-subframes-eq2-1.given in
-    let v = sym z.requires.signal_value.0 ∙ b.if-signal-ne2.false in
+    let v = sym z.requires.1.0 ∙ b.if-signal-ne2.false in
     put_as c.put_voiced.ensures
     (rw (to_z-of_z f.lag, to_z-of_z f.contour, to_z-of_z f.period, to_z-of_z f0, to_z-of_z f1, to_z-of_z f.scale)
     (voiced 2 x _ v (first_two x.ltp f.filters) ∙ ap (λ (n : ℕ). pitch_text n x) (sym b.if-subframes-eq2.true)))
@@ -97,10 +97,10 @@ returns_3 c =
     let f1 : SFits w8 (get_or x.ltp 1 (pos 0)) = sfits_of d.rest-3-1.given in
     let f2 : SFits w8 (get_or x.ltp 2 (pos 0)) = sfits_of d.rest-4-1.given in
     let f3 : SFits w8 (get_or x.ltp 3 (pos 0)) = sfits_of d.rest-5-1.given in
-    let v = sym z.requires.signal_value.0 ∙ b.if-signal-ne2.false in
+    let v = sym z.requires.1.0 ∙ b.if-signal-ne2.false in
     put_as c.put_voiced-2.ensures
     (rw (to_z-of_z f.lag, to_z-of_z f.contour, to_z-of_z f.period, to_z-of_z f0, to_z-of_z f1, to_z-of_z f2, to_z-of_z f3, to_z-of_z f.scale)
-    (voiced 4 x _ v (first_four x.ltp f.filters) ∙ ap (λ (n : ℕ). pitch_text n x) (sym (else_four z.requires.signal_value.1 b.if-subframes-eq2.false))))
+    (voiced 4 x _ v (first_four x.ltp f.filters) ∙ ap (λ (n : ℕ). pitch_text n x) (sym (else_four z.requires.1.1 b.if-subframes-eq2.false))))
     (omega arith)
 
 pub put_pitch_run_spec : {M : Type 1} → statement M

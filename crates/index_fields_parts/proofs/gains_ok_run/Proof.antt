@@ -19,13 +19,13 @@ size : (z : tie.Start) → length z.args.x.gains ≡ 4
 size z = search (rules, z.good.0)
 
 sub_all_in_range : tie.Need-slice_bounds-all_in_range-count
-sub_all_in_range c = omega (arith, subframes_least c.before.before.before.pre)
+sub_all_in_range c = omega (arith, subframes_least c.requires)
 
 part_all_in_range_start : tie.Need-slice_bounds-all_in_range-start
-part_all_in_range_start c = omega (arith, subframes_least c.before.before.before.before.pre)
+part_all_in_range_start c = omega (arith, subframes_least c.requires)
 
 part_all_in_range_end : tie.Need-slice_bounds-all_in_range-end
-part_all_in_range_end c = omega (arith, size c.before.before.before.before, subframes_most c.before.before.before.before.pre)
+part_all_in_range_end c = omega (arith, size c.before.before.before.before, subframes_most c.requires)
 
 returns : tie.Need-returns
 returns c =
@@ -35,7 +35,7 @@ returns c =
     let f : SFits w8 (get_or l 0 (pos 0)) = sfits_of c.first-1.given in
     let g : SFits w8 m.result = search rules in
     let e : c.all_in_range.result ≡ every (in_range (pos 0) (pos 40)) (take (z.args.subframes - 1) (drop 1 l)) = c.all_in_range.ensures in
-    rw (to_z-of_z f, to_z-of_z g, m.ensures, e) (gains_tested z.args.mode z.args.subframes z.args.x z.pre (size z))
+    rw (to_z-of_z f, to_z-of_z g, m.ensures, e) (gains_tested z.args.mode z.args.subframes z.args.x z.requires (size z))
 
 pub gains_ok_run_spec : {M : Type 1} → statement M
 gains_ok_run_spec =

@@ -12,7 +12,7 @@ use Rattle.index_fields_parts.proofs.spectrum_ok.Tie as tie
 
 returns : tie.Need-returns
 returns c =
-    let first = get_or c.args.t1.nlsf 0 (pos 0) in
+    let first = get_or c.args.x.nlsf 0 (pos 0) in
     let f : SFits w8 first = sfits_of c.first-1.given in
     rw (to_z-of_z f)
     (decides_as (λ p. record { index = p.0; residuals = p.1 }) (λ w. (w.index, w.residuals))

@@ -15,21 +15,21 @@ use Rattle.index_decides.proofs.Tested.{filters_tested}
 use Rattle.index_fields_pitch.proofs.filters_ok.Statement.{statement}
 use Rattle.index_fields_pitch.proofs.filters_ok.Tie as tie
 
-size : (z : tie.Start) → length z.args.t1 ≡ 4
+size : (z : tie.Start) → length z.args.ltp ≡ 4
 size z = search (rules, z.good.0)
 
 part_all_in_range_end : tie.Need-slice_bounds-all_in_range-end
-part_all_in_range_end c = omega (arith, size c.before.before, subframes_most c.before.before.pre)
+part_all_in_range_end c = omega (arith, size c.before.before, subframes_most c.requires)
 
 returns : tie.Need-returns
 returns c =
     let z = c.before.before.before.before in
     let m = c.filter_most-most in
     let g : SFits w8 m.result = search rules in
-    let e : c.all_in_range.result ≡ every (in_range (pos 0) m.result) (take (z.args.subframes - 0) (drop 0 z.args.t1)) =
+    let e : c.all_in_range.result ≡ every (in_range (pos 0) m.result) (take (z.args.subframes - 0) (drop 0 z.args.ltp)) =
     rw (to_z-of_z g) at c.all_in_range.ensures in
     rw (to_z-of_z z.fits.period, e)
-    (filters_tested z.args.subframes z.args.t1 z.args.period m.result (omega (arith, size z, subframes_most z.pre))
+    (filters_tested z.args.subframes z.args.ltp z.args.period m.result (omega (arith, size z, subframes_most z.requires))
     (rw (to_z-of_z z.fits.period) at m.ensures))
 
 pub filters_ok_spec : {M : Type 1} → statement M

@@ -19,18 +19,18 @@ rate_bounds twelve = (omega arith, omega arith)
 rate_bounds sixteen = (omega arith, omega arith)
 
 mul_most : tie.Need-overflow_mul-most
-mul_most c = omega (arith, rate_bounds c.pre)
+mul_most c = omega (arith, rate_bounds c.requires)
 
 sub_most : tie.Need-overflow_sub-most
-sub_most c = omega (arith, rate_bounds c.pre)
+sub_most c = omega (arith, rate_bounds c.requires)
 
 cast_most : tie.Need-overflow_cast-most
-cast_most c = omega (arith, rate_bounds c.pre)
+cast_most c = omega (arith, rate_bounds c.requires)
 
 returns : tie.Need-returns
 returns c =
     let m = 16 * c.args.khz - 1 in
-    let e : to_z w16 m ≡ pos m = to_z_pos w16 {n = m} (omega (arith, rate_bounds c.pre)) in
+    let e : to_z w16 m ≡ pos m = to_z_pos w16 {n = m} (omega (arith, rate_bounds c.requires)) in
     let t : Decides (in_range (pos 0) (to_z w16 m) c.args.lag) (Upto m c.args.lag) = rw e (upto_tested m c.args.lag) in
     rw (to_z-of_z c.fits.lag) t
 

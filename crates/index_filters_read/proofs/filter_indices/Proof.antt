@@ -38,19 +38,19 @@ abbrev decreases_loop : tie.decreases-loop-k
 decreases_loop packet rows p n size start end out₀ r₀ k₀ out r k = n - k
 
 add_start : tie.Need-overflow_add-start invariant_loop decreases_loop
-add_start c = let z = c.before.before in omega (arith, size_most z.args.p z.requires.p_bound.0)
+add_start c = let z = c.before.before in omega (arith, size_most z.args.p z.requires.1.0)
 
 add_end : tie.Need-overflow_add-end invariant_loop decreases_loop
-add_end c = let z = c.before.before in omega (arith, size_most z.args.p z.requires.p_bound.0)
+add_end c = let z = c.before.before in omega (arith, size_most z.args.p z.requires.1.0)
 
 loop_holds : tie.Need-loop-k-init invariant_loop decreases_loop
 loop_holds c =
     let z = c.before.before in
     record {
       rest = ap (λ (m : ℕ). run z.args.packet.now z.args.d (filters z.args.p m 0 z.args.x)) (sub-zero z.args.n);
-      core = z.requires.reading.core;
+      core = z.requires.0.core;
       to = omega arith;
-      few = subframes_most z.requires.p_bound.1;
+      few = subframes_most z.requires.1.1;
       size = search rules;
       least = omega arith;
       most = omega arith;
@@ -59,20 +59,20 @@ loop_holds c =
 part_ec_dec_icdf8_run_end : tie.Need-slice_bounds-ec_dec_icdf8_run-end invariant_loop decreases_loop
 part_ec_dec_icdf8_run_end c =
     let z = c.before.before.before.before in
-    omega (arith, size_most z.args.p z.requires.p_bound.0, z.requires.reading.rows.size)
+    omega (arith, size_most z.args.p z.requires.1.0, z.requires.0.rows.size)
 
 ec_dec_icdf8_run_requires : tie.Need-ec_dec_icdf8_run-a-requires invariant_loop decreases_loop
 ec_dec_icdf8_run_requires c κs =
     let z = c.before.before.before.before.before in
     let i = c.loop-k.invariant in
-    let h = z.requires.p_bound.0 in
-    (i.core, (omega (arith, z.requires.reading.few), (filter_row z.requires.reading.rows z.args.p _ h (size_is z.args.p h)).good))
+    let h = z.requires.1.0 in
+    (i.core, (omega (arith, z.requires.0.few), (filter_row z.requires.0.rows z.args.p _ h (size_is z.args.p h)).good))
 
 cast_out : tie.Need-overflow_cast-out invariant_loop decreases_loop
 cast_out c =
     let z = c.before.before.before.before.before.before.before in
-    let h = z.requires.p_bound.0 in
-    let t = filter_row z.requires.reading.rows z.args.p _ h (size_is z.args.p h) in
+    let h = z.requires.1.0 in
+    let t = filter_row z.requires.0.rows z.args.p _ h (size_is z.args.p h) in
     omega (arith, c.ec_dec_icdf8_run-a.ensures.inside, t.size, size_most z.args.p h)
 
 loop_again : tie.Need-loop-k-preserved invariant_loop decreases_loop
@@ -80,8 +80,8 @@ loop_again c =
     let z = c.before.before.before.before.before.before.before.before in
     let l = c.loop-k in
     let a = c.ec_dec_icdf8_run-a in
-    let h = z.requires.p_bound.0 in
-    let t = filter_row z.requires.reading.rows z.args.p _ h (size_is z.args.p h) in
+    let h = z.requires.1.0 in
+    let t = filter_row z.requires.0.rows z.args.p _ h (size_is z.args.p h) in
     let e : to_z w8 a.result.value ≡ pos a.result.value = to_z_pos w8 {n = a.result.value} (omega (arith, a.ensures.inside, t.size, size_most z.args.p h)) in
     rw e
     (record {

@@ -15,15 +15,15 @@ use Rattle.index_filters_read.proofs.period_index_run.Tie as tie
 ec_dec_icdf8_run_requires : tie.Need-ec_dec_icdf8_run-a-requires
 ec_dec_icdf8_run_requires c κs =
     let z = c.before.before.before in
-    (z.requires.reading.core, (omega arith, (period_row z.requires.reading.rows).good))
+    (z.requires.0.core, (omega arith, (period_row z.requires.0.rows).good))
 
 filter_indices_requires : tie.Need-filter_indices-requires
 filter_indices_requires c κs =
     let z = c.before.before.before.before.before in
     let a = c.ec_dec_icdf8_run-a in
-    let t = period_row z.requires.reading.rows in (
-      record { core = a.ensures.core; few = omega (arith, a.ensures.most, z.requires.reading.few); rows = z.requires.reading.rows },
-      (omega (arith, a.ensures.inside, t.size), z.requires.subframes),
+    let t = period_row z.requires.0.rows in (
+      record { core = a.ensures.core; few = omega (arith, a.ensures.most, z.requires.0.few); rows = z.requires.0.rows },
+      (omega (arith, a.ensures.inside, t.size), z.requires.1),
     )
 
 returns : tie.Need-returns
@@ -31,7 +31,7 @@ unfolding period
 returns c =
     let z = c.before.before.before.before.before.before in
     let a = c.ec_dec_icdf8_run-a in
-    let t = period_row z.requires.reading.rows in
+    let t = period_row z.requires.0.rows in
     let e : to_z w8 a.result.value ≡ pos a.result.value = to_z_pos w8 {n = a.result.value} (omega (arith, a.ensures.inside, t.size)) in
     ran_ask t.is a.ensures (rw e at c.filter_indices.ensures)
 

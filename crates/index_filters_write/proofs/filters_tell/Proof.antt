@@ -38,16 +38,16 @@ abbrev decreases_loop : tie.decreases-loop-k
 decreases_loop buf₀ rows p n x size start end q₀ k₀ buf q k = n - k
 
 add_start : tie.Need-overflow_add-start invariant_loop decreases_loop
-add_start c = let z = c.before.before in omega (arith, size_most z.args.p z.requires.p_bound.0)
+add_start c = let z = c.before.before in omega (arith, size_most z.args.p z.requires.1.0)
 
 add_end : tie.Need-overflow_add-end invariant_loop decreases_loop
-add_end c = let z = c.before.before in omega (arith, size_most z.args.p z.requires.p_bound.0)
+add_end c = let z = c.before.before in omega (arith, size_most z.args.p z.requires.1.0)
 
 loop_holds : tie.Need-loop-k-init invariant_loop decreases_loop
 loop_holds c =
     let z = c.before.before in
     record {
-      told = rw (sub-zero z.args.n) (midway_start z.requires.writing.core);
+      told = rw (sub-zero z.args.n) (midway_start z.requires.0.core);
       to = omega arith;
       size = search rules;
       kept = refl;
@@ -56,31 +56,31 @@ loop_holds c =
 element_copy_out_ec_enc_icdf8_run : tie.Need-bounds-x-k invariant_loop decreases_loop
 element_copy_out_ec_enc_icdf8_run c =
     let z = c.before.before.before.before.before in
-    omega (arith, subframes_most z.requires.p_bound.1)
+    omega (arith, subframes_most z.requires.1.1)
 
 cast_ec_enc_icdf8_run : tie.Need-overflow_cast-x invariant_loop decreases_loop
 cast_ec_enc_icdf8_run c =
     let z = c.before.before.before.before.before.before in
     let l = c.loop-k in
-    let u = z.requires.p_bound.2 l.k c.loop-k-test.true in
-    let h = z.requires.p_bound.0 in
+    let u = z.requires.1.2 l.k c.loop-k-test.true in
+    let h = z.requires.1.0 in
     rw (filter_is z.args.p h u)
-    (upto_fits (get_or z.args.t4.ltp l.k (pos 0)) (omega (arith, size_is z.args.p h, size_most z.args.p h)) u)
+    (upto_fits (get_or z.args.x.ltp l.k (pos 0)) (omega (arith, size_is z.args.p h, size_most z.args.p h)) u)
 
 part_ec_enc_icdf8_run_end : tie.Need-slice_bounds-ec_enc_icdf8_run-end invariant_loop decreases_loop
 part_ec_enc_icdf8_run_end c =
     let z = c.before.before.before.before.before.before in
-    omega (arith, size_most z.args.p z.requires.p_bound.0, z.requires.writing.rows.size)
+    omega (arith, size_most z.args.p z.requires.1.0, z.requires.0.rows.size)
 
 ec_enc_icdf8_run_requires : tie.Need-ec_enc_icdf8_run-q-requires invariant_loop decreases_loop
 ec_enc_icdf8_run_requires c κs =
     let z = c.before.before.before.before.before.before.before in
     let l = c.loop-k in
-    let u = z.requires.p_bound.2 l.k c.loop-k-test.true in
-    let h = z.requires.p_bound.0 in
+    let u = z.requires.1.2 l.k c.loop-k-test.true in
+    let h = z.requires.1.0 in
     let e = size_is z.args.p h in
-    let t = filter_row z.requires.writing.rows z.args.p _ h e in
-    let few : l.q.total ≤ 2 ^ 30 = omega (arith, z.requires.writing.few, l.invariant.told.most, l.invariant.to, subframes_most z.requires.p_bound.1) in
+    let t = filter_row z.requires.0.rows z.args.p _ h e in
+    let few : l.q.total ≤ 2 ^ 30 = omega (arith, z.requires.0.few, l.invariant.told.most, l.invariant.to, subframes_most z.requires.1.1) in
     rw (filter_is z.args.p h u) (l.invariant.told.core, (few, (t.good, t.writable _ (omega (arith, u.most, e, t.size, t.good.some)))))
 
 loop_again : tie.Need-loop-k-preserved invariant_loop decreases_loop
@@ -89,10 +89,10 @@ loop_again c =
     let l = c.loop-k in
     let a = c.ec_enc_icdf8_run-q in
     let i = c.loop-k-test.true in
-    let u = z.requires.p_bound.2 l.k i in
-    let h = z.requires.p_bound.0 in
-    let t = filter_row z.requires.writing.rows z.args.p _ h (size_is z.args.p h) in
-    let s = filters_told_next z.args.n l.k z.args.t4 z.args.p _ i (omega (arith, subframes_most z.requires.p_bound.1, l.invariant.size)) u in
+    let u = z.requires.1.2 l.k i in
+    let h = z.requires.1.0 in
+    let t = filter_row z.requires.0.rows z.args.p _ h (size_is z.args.p h) in
+    let s = filters_told_next z.args.n l.k z.args.x z.args.p _ i (omega (arith, subframes_most z.requires.1.1, l.invariant.size)) u in
     record {
       told = midway_ask l.invariant.told t.is (ap nat_abs (filter_is z.args.p h u)) a.ensures s (omega arith);
       to = omega arith;
@@ -107,8 +107,8 @@ returns : tie.Need-returns invariant_loop decreases_loop
 returns c =
     let z = c.before.before.before.before in
     let l = c.loop-k in
-    told_within (omega (arith, l.invariant.to, subframes_most z.requires.p_bound.1))
-    (midway_end l.invariant.told (filters_told_end z.args.n l.k z.args.t4 z.args.p c.loop-k-test.false))
+    told_within (omega (arith, l.invariant.to, subframes_most z.requires.1.1))
+    (midway_end l.invariant.told (filters_told_end z.args.n l.k z.args.x z.args.p c.loop-k-test.false))
 
 pub filters_tell_spec : {M : Type 1} → statement M
 filters_tell_spec =

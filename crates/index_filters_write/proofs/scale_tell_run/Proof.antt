@@ -15,18 +15,18 @@ use Rattle.index_filters_write.proofs.scale_tell_run.Statement.{statement}
 use Rattle.index_filters_write.proofs.scale_tell_run.Tie as tie
 
 scale_is : (z : tie.Start) → to_z w8 (of_z w8 z.args.x.scale) ≡ z.args.x.scale
-scale_is z = abs_kept w8 _ z.requires.upto.most (omega arith)
+scale_is z = abs_kept w8 _ z.requires.1.most (omega arith)
 
 cast_ec_enc_icdf8_run : tie.Need-overflow_cast-x
 cast_ec_enc_icdf8_run c =
     let z = c.before.before.before.before.before.before in
-    rw (scale_is z) (upto_fits z.args.x.scale (omega arith) z.requires.upto)
+    rw (scale_is z) (upto_fits z.args.x.scale (omega arith) z.requires.1)
 
 ec_enc_icdf8_run_requires : tie.Need-ec_enc_icdf8_run-requires
 ec_enc_icdf8_run_requires c κs =
     let z = c.before.before.before.before.before.before.before in
-    let t = scale_row_lem z.requires.writing.rows in
-    rw (scale_is z) (z.requires.writing.core, (omega (arith, z.requires.writing.few), (t.good, t.writable _ (omega (arith, z.requires.upto.most)))))
+    let t = scale_row_lem z.requires.0.rows in
+    rw (scale_is z) (z.requires.0.core, (omega (arith, z.requires.0.few), (t.good, t.writable _ (omega (arith, z.requires.1.most)))))
 
 returns : tie.Need-returns-then-mode-eq0
 unfolding scale
@@ -35,14 +35,14 @@ returns c =
     let b = a.before.before.before.before.before in
     let z = b.before.before.before in
     coded_told z.args.mode 0 scale_row (λ y. said y.scale) (put_scale z.args.x) 0 z.args.x
-    b.if-mode-eq0.true (scale_row_lem z.requires.writing.rows).is (ap nat_abs (scale_is z)) a.ec_enc_icdf8_run.ensures
+    b.if-mode-eq0.true (scale_row_lem z.requires.0.rows).is (ap nat_abs (scale_is z)) a.ec_enc_icdf8_run.ensures
 
 returns_2 : tie.Need-returns
 unfolding scale
 returns_2 c =
     let z = c.before.before.before in
     fixed_told z.args.mode 0 scale_row (λ y. said y.scale) (put_scale z.args.x) 0 z.args.x
-    c.if-mode-eq0.false z.requires.writing.core
+    c.if-mode-eq0.false z.requires.0.core
 
 pub scale_tell_run_spec : {M : Type 1} → statement M
 scale_tell_run_spec =

@@ -17,14 +17,14 @@ use Rattle.index_gains_read.proofs.first_gain.Tie as tie
 ec_dec_icdf8_run_requires : tie.Need-ec_dec_icdf8_run-a-requires
 ec_dec_icdf8_run_requires c κs =
     let z = c.before.before.before.before in
-    (z.requires.reading.core, (omega arith, (delta_gain_row z.requires.reading.rows).good))
+    (z.requires.0.core, (omega arith, (delta_gain_row z.requires.0.rows).good))
 
 returns : tie.Need-returns-then-mode-eq2
 unfolding first_gain
 returns c =
     let z = c.before.before.before.before.before.before.before in
     let a = c.ec_dec_icdf8_run-a in
-    let t = delta_gain_row z.requires.reading.rows in
+    let t = delta_gain_row z.requires.0.rows in
     let e : to_z w8 a.result.value ≡ pos a.result.value = to_z_pos w8 {n = a.result.value} (omega (arith, a.ensures.inside, t.size)) in
     rw (eq-eqb _ 2 c.if-mode-eq2.true, e)
     (ran_within {n = 16} {m = 32} (omega arith) (ran_ask t.is a.ensures (ran_done a.ensures.core)))
@@ -32,13 +32,13 @@ returns c =
 ec_dec_icdf8_run_requires_2 : tie.Need-ec_dec_icdf8_run-h-requires
 ec_dec_icdf8_run_requires_2 c κs =
     let z = c.before.before.before.before in
-    (z.requires.reading.core, (omega arith, (gain_row z.requires.reading.rows z.args.signal z.requires.signal_bound).good))
+    (z.requires.0.core, (omega arith, (gain_row z.requires.0.rows z.args.signal z.requires.1).good))
 
 ec_dec_icdf8_run_requires_3 : tie.Need-ec_dec_icdf8_run-l-requires
 ec_dec_icdf8_run_requires_3 c κs =
     let z = c.before.before.before.before.before.before in
     let h = c.ec_dec_icdf8_run-h in
-    (h.ensures.core, (omega (arith, h.ensures.most), (gain_low_row z.requires.reading.rows).good))
+    (h.ensures.core, (omega (arith, h.ensures.most), (gain_low_row z.requires.0.rows).good))
 
 returns_2 : tie.Need-returns
 unfolding first_gain
@@ -46,8 +46,8 @@ returns_2 c =
     let z = c.before.before.before.before.before.before.before.before.before.before in
     let h = c.ec_dec_icdf8_run-h in
     let l = c.ec_dec_icdf8_run-l in
-    let t = gain_row z.requires.reading.rows z.args.signal z.requires.signal_bound in
-    let u = gain_low_row z.requires.reading.rows in
+    let t = gain_row z.requires.0.rows z.args.signal z.requires.1 in
+    let u = gain_low_row z.requires.0.rows in
     let v = h.result.value * 8 + l.result.value in
     let e : to_z w8 v ≡ pos v = to_z_pos w8 {n = v} (omega (arith, h.ensures.inside, t.size, l.ensures.inside, u.size)) in
     rw (ne_eqb _ 2 c.if-mode-eq2.false, e)

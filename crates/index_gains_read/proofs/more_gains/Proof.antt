@@ -41,10 +41,10 @@ loop_holds c =
     let z = c.before.before in
     record {
       rest = refl;
-      core = z.requires.reading.core;
+      core = z.requires.0.core;
       from = omega arith;
-      to = omega (arith, subframes_least z.requires.subframes);
-      few = subframes_most z.requires.subframes;
+      to = omega (arith, subframes_least z.requires.1);
+      few = subframes_most z.requires.1;
       size = search rules;
       least = omega arith;
       most = omega arith;
@@ -54,19 +54,19 @@ ec_dec_icdf8_run_requires : tie.Need-ec_dec_icdf8_run-a-requires invariant_loop 
 ec_dec_icdf8_run_requires c κs =
     let z = c.before.before.before.before.before in
     let i = c.loop-k.invariant in
-    (i.core, (omega (arith, z.requires.reading.few), (delta_gain_row z.requires.reading.rows).good))
+    (i.core, (omega (arith, z.requires.0.few), (delta_gain_row z.requires.0.rows).good))
 
 cast_out : tie.Need-overflow_cast-out invariant_loop decreases_loop
 cast_out c =
     let z = c.before.before.before.before.before.before.before in
-    omega (arith, c.ec_dec_icdf8_run-a.ensures.inside, (delta_gain_row z.requires.reading.rows).size)
+    omega (arith, c.ec_dec_icdf8_run-a.ensures.inside, (delta_gain_row z.requires.0.rows).size)
 
 loop_again : tie.Need-loop-k-preserved invariant_loop decreases_loop
 loop_again c =
     let z = c.before.before.before.before.before.before.before.before in
     let l = c.loop-k in
     let a = c.ec_dec_icdf8_run-a in
-    let t = delta_gain_row z.requires.reading.rows in
+    let t = delta_gain_row z.requires.0.rows in
     let e : to_z w8 a.result.value ≡ pos a.result.value = to_z_pos w8 {n = a.result.value} (omega (arith, a.ensures.inside, t.size)) in
     rw e
     (record {

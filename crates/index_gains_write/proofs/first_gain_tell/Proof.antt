@@ -17,10 +17,10 @@ use Rattle.index_gains_write.proofs.first_gain_tell.Statement.{statement}
 use Rattle.index_gains_write.proofs.first_gain_tell.Tie as tie
 
 abbrev gain : tie.Start → ℤ
-gain z = get_or z.args.t4.gains 0 (pos 0)
+gain z = get_or z.args.x.gains 0 (pos 0)
 
 gain_upto : (z : tie.Start) → Upto 63 (gain z)
-gain_upto z = record { least = z.requires.signal_bound.1.least; most = omega (arith, z.requires.signal_bound.1.most, first_most_lem z.args.mode) }
+gain_upto z = record { least = z.requires.1.1.least; most = omega (arith, z.requires.1.1.most, first_most_lem z.args.mode) }
 
 gain_is : (z : tie.Start) → to_z w8 (of_z w8 (gain z)) ≡ gain z
 gain_is z = abs_kept w8 (gain z) (gain_upto z).most (omega arith)
@@ -33,9 +33,9 @@ cast_gain c =
 ec_enc_icdf8_run_requires : tie.Need-ec_enc_icdf8_run-requires
 ec_enc_icdf8_run_requires c κs =
     let z = c.before.before.before.before.before.before in
-    let t = delta_gain_row z.requires.writing.rows in
-    let l : nat_abs (gain z) ≤ 40 = rw (eq-eqb _ _ c.if-mode-eq2.true) at z.requires.signal_bound.1.most in
-    rw (gain_is z) (z.requires.writing.core, (omega (arith, z.requires.writing.few), (t.good, t.writable _ (omega arith))))
+    let t = delta_gain_row z.requires.0.rows in
+    let l : nat_abs (gain z) ≤ 40 = rw (eq-eqb _ _ c.if-mode-eq2.true) at z.requires.1.1.most in
+    rw (gain_is z) (z.requires.0.core, (omega (arith, z.requires.0.few), (t.good, t.writable _ (omega arith))))
 
 returns : tie.Need-returns-then-mode-eq2
 unfolding first_gain
@@ -44,21 +44,21 @@ returns c =
     let a = c.ec_enc_icdf8_run in
     rw (eq-eqb _ _ c.if-mode-eq2.true)
     (told_within {n = 16} {m = 32} (omega arith)
-    (told_ask (delta_gain_row z.requires.writing.rows).is (ap nat_abs (gain_is z)) a.ensures (told_done a.ensures.core)))
+    (told_ask (delta_gain_row z.requires.0.rows).is (ap nat_abs (gain_is z)) a.ensures (told_done a.ensures.core)))
 
 ec_enc_icdf8_run_requires_2 : tie.Need-ec_enc_icdf8_run-h-requires
 ec_enc_icdf8_run_requires_2 c κs =
     let z = c.before.before.before.before.before.before in
-    let t = gain_row z.requires.writing.rows z.args.signal z.requires.signal_bound.0 in
-    let l : nat_abs (gain z) ≤ 63 = rw (ne_eqb _ _ c.if-mode-eq2.false) at z.requires.signal_bound.1.most in
-    rw (gain_is z) (z.requires.writing.core, (omega (arith, z.requires.writing.few), (t.good, t.writable _ (omega arith))))
+    let t = gain_row z.requires.0.rows z.args.signal z.requires.1.0 in
+    let l : nat_abs (gain z) ≤ 63 = rw (ne_eqb _ _ c.if-mode-eq2.false) at z.requires.1.1.most in
+    rw (gain_is z) (z.requires.0.core, (omega (arith, z.requires.0.few), (t.good, t.writable _ (omega arith))))
 
 ec_enc_icdf8_run_requires_3 : tie.Need-ec_enc_icdf8_run-requires-2
 ec_enc_icdf8_run_requires_3 c κs =
     let z = c.before.before.before.before.before.before.before.before.before.before.before in
     let h = c.ec_enc_icdf8_run-h in
-    let t = gain_low_row z.requires.writing.rows in
-    (h.ensures.core, (omega (arith, z.requires.writing.few, h.ensures.most), (t.good, t.writable _ (omega arith))))
+    let t = gain_low_row z.requires.0.rows in
+    (h.ensures.core, (omega (arith, z.requires.0.few, h.ensures.most), (t.good, t.writable _ (omega arith))))
 
 returns_2 : tie.Need-returns
 unfolding first_gain
@@ -68,8 +68,8 @@ returns_2 c =
     let l = c.ec_enc_icdf8_run-2 in
     let e = ap nat_abs (gain_is z) in
     rw (ne_eqb _ _ c.if-mode-eq2.false)
-    (told_ask (gain_row z.requires.writing.rows z.args.signal z.requires.signal_bound.0).is (ap (λ (g : ℕ). g / 8) e) h.ensures
-    (told_ask (gain_low_row z.requires.writing.rows).is (ap (λ (g : ℕ). g % 8) e) l.ensures (told_done l.ensures.core)))
+    (told_ask (gain_row z.requires.0.rows z.args.signal z.requires.1.0).is (ap (λ (g : ℕ). g / 8) e) h.ensures
+    (told_ask (gain_low_row z.requires.0.rows).is (ap (λ (g : ℕ). g % 8) e) l.ensures (told_done l.ensures.core)))
 
 pub first_gain_tell_spec : {M : Type 1} → statement M
 first_gain_tell_spec =

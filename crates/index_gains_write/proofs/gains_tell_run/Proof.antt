@@ -18,7 +18,7 @@ returns : tie.Need-returns
 unfolding gains
 returns c =
     let z = c.before.before.before.before.before.before.before.before.before.before in
-    let p = z.requires.subframes in
+    let p = z.requires.1 in
     told_then _ (says_means (first_says z.args.mode z.args.signal z.args.x p.1 (some_gain z) p.2.first))
     c.first_gain_tell-f.ensures c.more_gains_tell.ensures
 

@@ -40,9 +40,9 @@ loop_holds : tie.Need-loop-k-init invariant_loop decreases_loop
 loop_holds c =
     let z = c.before.before in
     record {
-      told = midway_start z.requires.writing.core;
+      told = midway_start z.requires.0.core;
       from = omega arith;
-      to = omega (arith, subframes_least z.requires.subframes.0);
+      to = omega (arith, subframes_least z.requires.1.0);
       size = search rules;
       kept = refl;
     }
@@ -50,22 +50,22 @@ loop_holds c =
 element_copy_out_ec_enc_icdf8_run : tie.Need-bounds-x-k invariant_loop decreases_loop
 element_copy_out_ec_enc_icdf8_run c =
     let z = c.before.before.before.before.before in
-    omega (arith, subframes_most z.requires.subframes.0)
+    omega (arith, subframes_most z.requires.1.0)
 
 cast_ec_enc_icdf8_run : tie.Need-overflow_cast-x invariant_loop decreases_loop
 cast_ec_enc_icdf8_run c =
     let z = c.before.before.before.before.before.before in
     let l = c.loop-k in
-    let u = z.requires.subframes.1 l.k l.invariant.from c.loop-k-test.true in
-    rw (gain_is u) (upto_fits (get_or z.args.t4.gains l.k (pos 0)) (omega arith) u)
+    let u = z.requires.1.1 l.k l.invariant.from c.loop-k-test.true in
+    rw (gain_is u) (upto_fits (get_or z.args.x.gains l.k (pos 0)) (omega arith) u)
 
 ec_enc_icdf8_run_requires : tie.Need-ec_enc_icdf8_run-q-requires invariant_loop decreases_loop
 ec_enc_icdf8_run_requires c κs =
     let z = c.before.before.before.before.before.before.before in
     let l = c.loop-k in
-    let u = z.requires.subframes.1 l.k l.invariant.from c.loop-k-test.true in
-    let t = delta_gain_row z.requires.writing.rows in
-    let few : l.q.total ≤ 2 ^ 30 = omega (arith, z.requires.writing.few, l.invariant.told.most, l.invariant.to, subframes_most z.requires.subframes.0) in
+    let u = z.requires.1.1 l.k l.invariant.from c.loop-k-test.true in
+    let t = delta_gain_row z.requires.0.rows in
+    let few : l.q.total ≤ 2 ^ 30 = omega (arith, z.requires.0.few, l.invariant.told.most, l.invariant.to, subframes_most z.requires.1.0) in
     rw (gain_is u) (l.invariant.told.core, (few, (t.good, t.writable _ (omega (arith, u.most)))))
 
 loop_again : tie.Need-loop-k-preserved invariant_loop decreases_loop
@@ -74,10 +74,10 @@ loop_again c =
     let l = c.loop-k in
     let a = c.ec_enc_icdf8_run-q in
     let i = c.loop-k-test.true in
-    let u = z.requires.subframes.1 l.k l.invariant.from i in
-    let s = gains_told_next z.args.n l.k z.args.t4 40 i (omega (arith, subframes_most z.requires.subframes.0, l.invariant.size)) u in
+    let u = z.requires.1.1 l.k l.invariant.from i in
+    let s = gains_told_next z.args.n l.k z.args.x 40 i (omega (arith, subframes_most z.requires.1.0, l.invariant.size)) u in
     record {
-      told = midway_ask l.invariant.told (delta_gain_row z.requires.writing.rows).is (ap nat_abs (gain_is u)) a.ensures s (omega (arith, l.invariant.from));
+      told = midway_ask l.invariant.told (delta_gain_row z.requires.0.rows).is (ap nat_abs (gain_is u)) a.ensures s (omega (arith, l.invariant.from));
       from = omega arith;
       to = omega arith;
       size = l.invariant.size;
@@ -91,8 +91,8 @@ returns : tie.Need-returns invariant_loop decreases_loop
 returns c =
     let z = c.before.before.before.before in
     let l = c.loop-k in
-    told_within (omega (arith, l.invariant.to, subframes_most z.requires.subframes.0))
-    (midway_end l.invariant.told (gains_told_end z.args.n l.k z.args.t4 c.loop-k-test.false))
+    told_within (omega (arith, l.invariant.to, subframes_most z.requires.1.0))
+    (midway_end l.invariant.told (gains_told_end z.args.n l.k z.args.x c.loop-k-test.false))
 
 pub more_gains_tell_spec : {M : Type 1} → statement M
 more_gains_tell_spec =

@@ -21,40 +21,40 @@ high_most h half p q = let l : h ≤ 31 = omega arith in mul-le-mul l q
 add_end : tie.Need-overflow_add-end
 add_end c =
     let z = c.before.before.before in
-    omega (arith, (lag_low_within z.args.khz z.requires.rate).0, c.lag_low_start-start.ensures)
+    omega (arith, (lag_low_within z.args.khz z.requires.1).0, c.lag_low_start-start.ensures)
 
 ec_dec_icdf8_run_requires : tie.Need-ec_dec_icdf8_run-h-requires
 ec_dec_icdf8_run_requires c κs =
     let z = c.before.before.before.before in
-    (z.requires.reading.core, (omega (arith, z.requires.reading.few), (lag_row z.requires.reading.rows).good))
+    (z.requires.0.core, (omega (arith, z.requires.0.few), (lag_row z.requires.0.rows).good))
 
 part_ec_dec_icdf8_run_end_2 : tie.Need-slice_bounds-ec_dec_icdf8_run-end-2
 part_ec_dec_icdf8_run_end_2 c =
     let z = c.before.before.before.before.before in
-    omega (arith, (lag_low_within z.args.khz z.requires.rate).0, c.lag_low_start-start.ensures, z.requires.reading.rows.size)
+    omega (arith, (lag_low_within z.args.khz z.requires.1).0, c.lag_low_start-start.ensures, z.requires.0.rows.size)
 
 ec_dec_icdf8_run_requires_2 : tie.Need-ec_dec_icdf8_run-l-requires
 ec_dec_icdf8_run_requires_2 c κs =
     let z = c.before.before.before.before.before.before in
     let h = c.ec_dec_icdf8_run-h in
-    let u = lag_low_row z.requires.reading.rows _ _ z.requires.rate c.lag_low_start-start.ensures in
-    (h.ensures.core, (omega (arith, h.ensures.most, z.requires.reading.few), u.good))
+    let u = lag_low_row z.requires.0.rows _ _ z.requires.1 c.lag_low_start-start.ensures in
+    (h.ensures.core, (omega (arith, h.ensures.most, z.requires.0.few), u.good))
 
 mul_out : tie.Need-overflow_mul-out
 mul_out c =
     let z = c.before.before.before.before.before.before.before.before in
     let h = c.ec_dec_icdf8_run-h in
-    let t = lag_row z.requires.reading.rows in
-    omega (arith, high_most h.result.value (z.args.khz / 2) (omega (arith, h.ensures.inside, t.size)) (lag_low_within z.args.khz z.requires.rate).1)
+    let t = lag_row z.requires.0.rows in
+    omega (arith, high_most h.result.value (z.args.khz / 2) (omega (arith, h.ensures.inside, t.size)) (lag_low_within z.args.khz z.requires.1).1)
 
 add_out : tie.Need-overflow_add-out
 add_out c =
     let z = c.before.before.before.before.before.before.before.before.before in
     let h = c.ec_dec_icdf8_run-h in
     let l = c.ec_dec_icdf8_run-l in
-    let t = lag_row z.requires.reading.rows in
-    let u = lag_low_row z.requires.reading.rows _ _ z.requires.rate c.lag_low_start-start.ensures in
-    let w = lag_low_within z.args.khz z.requires.rate in
+    let t = lag_row z.requires.0.rows in
+    let u = lag_low_row z.requires.0.rows _ _ z.requires.1 c.lag_low_start-start.ensures in
+    let w = lag_low_within z.args.khz z.requires.1 in
     omega (arith, high_most h.result.value (z.args.khz / 2) (omega (arith, h.ensures.inside, t.size)) w.1, l.ensures.inside, u.size, w.1)
 
 cast_out : tie.Need-overflow_cast-out
@@ -62,9 +62,9 @@ cast_out c =
     let z = c.before.before.before.before.before.before.before.before.before in
     let h = c.ec_dec_icdf8_run-h in
     let l = c.ec_dec_icdf8_run-l in
-    let t = lag_row z.requires.reading.rows in
-    let u = lag_low_row z.requires.reading.rows _ _ z.requires.rate c.lag_low_start-start.ensures in
-    let w = lag_low_within z.args.khz z.requires.rate in
+    let t = lag_row z.requires.0.rows in
+    let u = lag_low_row z.requires.0.rows _ _ z.requires.1 c.lag_low_start-start.ensures in
+    let w = lag_low_within z.args.khz z.requires.1 in
     omega (arith, high_most h.result.value (z.args.khz / 2) (omega (arith, h.ensures.inside, t.size)) w.1, l.ensures.inside, u.size, w.1)
 
 returns : tie.Need-returns
@@ -73,9 +73,9 @@ returns c =
     let z = c.before.before.before.before.before.before.before.before.before.before in
     let h = c.ec_dec_icdf8_run-h in
     let l = c.ec_dec_icdf8_run-l in
-    let t = lag_row z.requires.reading.rows in
-    let u = lag_low_row z.requires.reading.rows _ _ z.requires.rate c.lag_low_start-start.ensures in
-    let w = lag_low_within z.args.khz z.requires.rate in
+    let t = lag_row z.requires.0.rows in
+    let u = lag_low_row z.requires.0.rows _ _ z.requires.1 c.lag_low_start-start.ensures in
+    let w = lag_low_within z.args.khz z.requires.1 in
     let v = h.result.value * (z.args.khz / 2) + l.result.value in
     let e : to_z w16 v ≡ pos v = to_z_pos w16 {n = v} (omega (
       arith,

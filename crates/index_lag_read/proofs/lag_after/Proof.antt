@@ -28,7 +28,7 @@ returns c =
     let z = c.before in
     let e = symbol_is z.args.v z.requires in
     let f = to_z-of_z (delta_fits z.args.v z.requires) in
-    to_z-of_z {w = w16} (sfits_of c.add16.type-inv) ∙ c.add16.ensures ∙ ap wrap16 (rw (to_z-of_z z.ranges.before, e, f))
+    to_z-of_z {w = w16} (sfits_of c.add16.type_inv) ∙ c.add16.ensures ∙ ap wrap16 (rw (to_z-of_z z.ranges.before, e, f))
 
 pub lag_after_spec : {M : Type 1} → statement M
 lag_after_spec = tie.close (tie.spec (λ c. search rules) sub_delta (λ c κs. search rules) returns)

@@ -13,13 +13,13 @@ use Rattle.index_lag_read.proofs.lag_index_run.Tie as tie
 ec_dec_icdf8_run_requires : tie.Need-ec_dec_icdf8_run-a-requires
 ec_dec_icdf8_run_requires c κs =
     let z = c.before.before.before.before in
-    (z.requires.reading.core, (omega arith, (delta_lag_row z.requires.reading.rows).good))
+    (z.requires.0.core, (omega arith, (delta_lag_row z.requires.0.rows).good))
 
 absolute_lag_requires : tie.Need-absolute_lag-requires
 absolute_lag_requires c κs =
     let z = c.before.before.before.before.before.before.before in
     let a = c.ec_dec_icdf8_run-a in
-    (record { core = a.ensures.core; few = omega (arith, a.ensures.most, z.requires.reading.few); rows = z.requires.reading.rows }, z.requires.rate)
+    (record { core = a.ensures.core; few = omega (arith, a.ensures.most, z.requires.0.few); rows = z.requires.0.rows }, z.requires.1)
 
 returns : tie.Need-returns-then-a-eq0
 unfolding lag
@@ -27,12 +27,12 @@ returns c =
     let z = c.before.before.before.before.before.before.before.before in
     let a = c.ec_dec_icdf8_run-a in
     rw c.if-relative.true
-    (ran_ask {n = 32} (delta_lag_row z.requires.reading.rows).is a.ensures (rw (eq-eqb _ _ c.if-a-eq0.true) c.absolute_lag.ensures))
+    (ran_ask {n = 32} (delta_lag_row z.requires.0.rows).is a.ensures (rw (eq-eqb _ _ c.if-a-eq0.true) c.absolute_lag.ensures))
 
 lag_after_requires : tie.Need-lag_after-requires
 lag_after_requires c κs =
     let z = c.before.before.before.before.before.before.before in
-    omega (arith, c.ec_dec_icdf8_run-a.ensures.inside, (delta_lag_row z.requires.reading.rows).size)
+    omega (arith, c.ec_dec_icdf8_run-a.ensures.inside, (delta_lag_row z.requires.0.rows).size)
 
 returns_2 : tie.Need-returns-then-relative
 unfolding lag
@@ -43,7 +43,7 @@ returns_2 c =
     let e : l.result ≡ lag_after z.args.before a.result.value = rw (to_z-of_z z.ranges.before) at l.ensures in
     rw (c.if-relative.true, e)
     (ran_within {n = 16} {m = 48} (omega arith)
-    (ran_ask {n = 0} (delta_lag_row z.requires.reading.rows).is a.ensures (rw (ne_eqb _ _ c.if-a-eq0.false) (ran_done a.ensures.core))))
+    (ran_ask {n = 0} (delta_lag_row z.requires.0.rows).is a.ensures (rw (ne_eqb _ _ c.if-a-eq0.false) (ran_done a.ensures.core))))
 
 returns_3 : tie.Need-returns
 unfolding lag

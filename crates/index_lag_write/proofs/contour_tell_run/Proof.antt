@@ -17,10 +17,10 @@ use Rattle.index_lag_write.proofs.contour_tell_run.Tie as tie
 within : (z : tie.Start)
     → (contour_start z.args.khz z.args.subframes + contour_size z.args.khz z.args.subframes ≤ 468)
     × (contour_size z.args.khz z.args.subframes ≤ 34)
-within z = contour_within z.args.khz z.args.subframes z.requires.rate.0 z.requires.rate.1
+within z = contour_within z.args.khz z.args.subframes z.requires.1.0 z.requires.1.1
 
 contour_is : (z : tie.Start) → to_z w8 (of_z w8 z.args.x.contour) ≡ z.args.x.contour
-contour_is z = abs_kept w8 _ z.requires.rate.2.most (omega (arith, (within z).1))
+contour_is z = abs_kept w8 _ z.requires.1.2.most (omega (arith, (within z).1))
 
 add_end : tie.Need-overflow_add-end
 add_end c =
@@ -30,23 +30,23 @@ add_end c =
 cast_ec_enc_icdf8_run : tie.Need-overflow_cast-x
 cast_ec_enc_icdf8_run c =
     let z = c.before.before.before.before.before.before.before in
-    rw (contour_is z) (upto_fits z.args.x.contour (omega (arith, (within z).1)) z.requires.rate.2)
+    rw (contour_is z) (upto_fits z.args.x.contour (omega (arith, (within z).1)) z.requires.1.2)
 
 part_ec_enc_icdf8_run_end : tie.Need-slice_bounds-ec_enc_icdf8_run-end
 part_ec_enc_icdf8_run_end c =
     let z = c.before.before.before.before.before.before.before in
     let s = c.contour_start-start.ensures in
     let n = c.contour_size-size.ensures in
-    omega (arith, (within z).0, s, n, z.requires.writing.rows.size)
+    omega (arith, (within z).0, s, n, z.requires.0.rows.size)
 
 ec_enc_icdf8_run_requires : tie.Need-ec_enc_icdf8_run-requires
 ec_enc_icdf8_run_requires c κs =
     let z = c.before.before.before.before.before.before.before.before in
     let s = c.contour_start-start.ensures in
     let n = c.contour_size-size.ensures in
-    let t = contour_row z.requires.writing.rows _ _ _ _ z.requires.rate.0 z.requires.rate.1 s n in
+    let t = contour_row z.requires.0.rows _ _ _ _ z.requires.1.0 z.requires.1.1 s n in
     rw (contour_is z)
-    (z.requires.writing.core, (omega (arith, z.requires.writing.few), (t.good, t.writable _ (omega (arith, z.requires.rate.2.most, n, t.size, t.good.some)))))
+    (z.requires.0.core, (omega (arith, z.requires.0.few), (t.good, t.writable _ (omega (arith, z.requires.1.2.most, n, t.size, t.good.some)))))
 
 returns : tie.Need-returns
 unfolding contour
@@ -55,7 +55,7 @@ returns c =
     let a = c.ec_enc_icdf8_run in
     let s = c.contour_start-start.ensures in
     let n = c.contour_size-size.ensures in
-    let t = contour_row z.requires.writing.rows _ _ _ _ z.requires.rate.0 z.requires.rate.1 s n in
+    let t = contour_row z.requires.0.rows _ _ _ _ z.requires.1.0 z.requires.1.1 s n in
     told_ask t.is (ap nat_abs (contour_is z)) a.ensures (told_done a.ensures.core)
 
 pub contour_tell_run_spec : {M : Type 1} → statement M

@@ -9,7 +9,7 @@ absolute_lag_tell_requires : tie.Need-absolute_lag_tell-requires
 absolute_lag_tell_requires c κs =
     let z = c.before.before.before.before.before.before.before in
     let d = c.delta_tell-q.ensures z.args.khz (pos 0) z.args.x in
-    (record { core = d.core; few = omega (arith, d.most, z.requires.writing.few); rows = z.requires.writing.rows }, z.requires.rate)
+    (record { core = d.core; few = omega (arith, d.most, z.requires.0.few); rows = z.requires.0.rows }, z.requires.1)
 
 returns : tie.Need-returns
 returns c =

@@ -33,7 +33,7 @@ abbrev lag_start : tie.After-lag_tell_run-l → tie.Start
 lag_start c = c.before.before.before.before.before.before
 
 lag_told : (c : tie.After-lag_tell_run-l) (n : ℕ) → 2 ^ 27 + 48 ≤ n → Ready (lag_start c) c.lag_tell_run-l.new.0 c.lag_tell_run-l.result n
-lag_told c n h = let z = lag_start c in writing_next n z.pre.0 (c.lag_tell_run-l.ensures z.args.s.prevlag) h
+lag_told c n h = let z = lag_start c in writing_next n z.requires.0 (c.lag_tell_run-l.ensures z.args.s.prevlag) h
 
 abbrev contour_lag : tie.After-contour_tell_run-c → tie.After-lag_tell_run-l
 contour_lag c = c.before.before.before.before
@@ -54,24 +54,24 @@ period_told c n h = writing_next n (contour_told (period_contour c) (2 ^ 27 + 64
 lag_tell_run_requires : tie.Need-lag_tell_run-l-requires
 lag_tell_run_requires c κs =
     let z = c.before.before.before.before.before in
-    (record { core = z.requires.writing.core; few = omega (arith, z.requires.writing.few); rows = z.requires.writing.rows }, (z.requires.rate.0, z.requires.rate.2.lag))
+    (record { core = z.requires.0.core; few = omega (arith, z.requires.0.few); rows = z.requires.0.rows }, (z.requires.1.0, z.requires.1.2.lag))
 
 contour_tell_run_requires : tie.Need-contour_tell_run-c-requires
 contour_tell_run_requires c κs =
     let l = c.before.before.before in
-    let t = (lag_start l).requires.rate in
+    let t = (lag_start l).requires.1 in
     (lag_told l (2 ^ 29) (omega arith), (t.0, t.1, t.2.contour))
 
 period_tell_run_requires : tie.Need-period_tell_run-p-requires
 period_tell_run_requires c κs =
     let k = c.before.before.before in
-    let t = (lag_start (contour_lag k)).requires.rate in
+    let t = (lag_start (contour_lag k)).requires.1 in
     (contour_told k (2 ^ 28) (omega arith), ((t.1, t.2.period), t.2.filters))
 
 scale_tell_run_requires : tie.Need-scale_tell_run-requires
 scale_tell_run_requires c κs =
     let p = c.before.before.before in
-    (period_told p (2 ^ 29) (omega arith), (lag_start (contour_lag (period_contour p))).requires.rate.2.scale)
+    (period_told p (2 ^ 29) (omega arith), (lag_start (contour_lag (period_contour p))).requires.1.2.scale)
 
 -- the lag is relative where the setting says so
 as_set : (s : Setting) (khz : ℕ) (before : ℤ) {o q : Out} {x : Indices} {relative : Bool} {n : ℕ} → Told o x (lag relative khz before x) n q
@@ -87,7 +87,7 @@ returns c =
     let z = lag_start l in
     let x = z.args.x in
     let s = z.args.s in
-    let t = z.pre.1 in
+    let t = z.requires.1 in
     told_then _ (says_means (lag_says (relative_lag s) s.khz s.prevlag x t.0 t.2.lag))
     (as_set s s.khz s.prevlag (l.lag_tell_run-l.ensures s.prevlag) refl)
     (told_then _ (says_means (contour_says s x t.0 t.1 (shape z) t.2)) k.contour_tell_run-c.ensures

@@ -10,14 +10,14 @@ use Rattle.index_single_read.proofs.kind_run.Tie as tie
 ec_dec_icdf8_run_requires : tie.Need-ec_dec_icdf8_run-a-requires
 ec_dec_icdf8_run_requires c κs =
     let z = c.before.before.before in
-    (z.requires.reading.core, (omega arith, (type_row z.requires.reading.rows z.args.active z.requires.active_bound).good))
+    (z.requires.0.core, (omega arith, (type_row z.requires.0.rows z.args.active z.requires.1).good))
 
 returns : tie.Need-returns
 unfolding kind
 returns c =
     let z = c.before.before.before.before.before.before in
     let a = c.ec_dec_icdf8_run-a in
-    let t = type_row z.requires.reading.rows z.args.active z.requires.active_bound in
+    let t = type_row z.requires.0.rows z.args.active z.requires.1 in
     (ran_ask t.is a.ensures (ran_done a.ensures.core), omega (arith, a.ensures.inside, t.size))
 
 pub kind_run_spec : {M : Type 1} → statement M

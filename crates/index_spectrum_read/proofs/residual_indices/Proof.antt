@@ -37,16 +37,16 @@ abbrev decreases_loop : tie.decreases-loop-i
 decreases_loop packet rows selectors khz n base out₀ r₀ i₀ out r i = n - i
 
 mul_base : tie.Need-overflow_mul-base invariant_loop decreases_loop
-mul_base c = let z = c.before.before.before in omega (arith, rate_most z.requires.rate.0)
+mul_base c = let z = c.before.before.before in omega (arith, rate_most z.requires.1.0)
 
 loop_holds : tie.Need-loop-i-init invariant_loop decreases_loop
 loop_holds c =
     let z = c.before.before.before in
     record {
       rest = ap (λ (m : ℕ). run z.args.packet.now z.args.d (residuals z.args.khz z.args.selectors.now m 0 z.args.x)) (sub-zero z.args.n);
-      core = z.requires.reading.core;
+      core = z.requires.0.core;
       to = omega arith;
-      few = z.requires.rate.2;
+      few = z.requires.1.2;
       size = search (rules, z.well-formed.1.1.1.0);
       least = omega arith;
       most = omega arith;
@@ -55,18 +55,18 @@ loop_holds c =
 residual_pick_run_requires : tie.Need-residual_pick_run-k-requires invariant_loop decreases_loop
 residual_pick_run_requires c κs =
     let z = c.before.before.before.before.before in
-    omega (arith, z.requires.rate.1)
+    omega (arith, z.requires.1.1)
 
 add_residual_index : tie.Need-overflow_add-base invariant_loop decreases_loop
 add_residual_index c =
     let z = c.before.before.before.before.before.before in
-    omega (arith, rate_most z.requires.rate.0, c.residual_pick_run-k.ensures)
+    omega (arith, rate_most z.requires.1.0, c.residual_pick_run-k.ensures)
 
 residual_index_requires : tie.Need-residual_index-a-requires invariant_loop decreases_loop
 residual_index_requires c κs =
     let z = c.before.before.before.before.before.before in
     let i = c.loop-i.invariant in
-    (record { core = i.core; few = omega (arith, z.requires.reading.few, i.most); rows = z.requires.reading.rows }, omega (arith, rate_most z.requires.rate.0, c.residual_pick_run-k.ensures))
+    (record { core = i.core; few = omega (arith, z.requires.0.few, i.most); rows = z.requires.0.rows }, omega (arith, rate_most z.requires.1.0, c.residual_pick_run-k.ensures))
 
 loop_again : tie.Need-loop-i-preserved invariant_loop decreases_loop
 loop_again c =

@@ -31,21 +31,21 @@ z_is z = to_z-of_z z.ranges.z
 ec_enc_icdf8_run_requires : tie.Need-ec_enc_icdf8_run-q-requires
 ec_enc_icdf8_run_requires c κs =
     let z = c.before.before.before.before.before in
-    let t = residual_row z.requires.writing.rows z.args.k z.requires.k_bound.0 in
-    (z.requires.writing.core, (omega (arith, z.requires.writing.few), (t.good, t.writable _ (omega arith))))
+    let t = residual_row z.requires.0.rows z.args.k z.requires.1.0 in
+    (z.requires.0.core, (omega (arith, z.requires.0.few), (t.good, t.writable _ (omega arith))))
 
 extension_said_requires : tie.Need-extension_said-requires
 extension_said_requires c κs =
     let z = c.before.before.before.before.before.before.before.before.before in
-    rw (z_is z) (low_end z.args.z (rw (z_is z) at c.if-z-leminus4.true), z.requires.k_bound.1)
+    rw (z_is z) (low_end z.args.z (rw (z_is z) at c.if-z-leminus4.true), z.requires.1.1)
 
 ec_enc_icdf8_run_requires_2 : tie.Need-ec_enc_icdf8_run-requires
 ec_enc_icdf8_run_requires_2 c κs =
     let z = c.before.before.before.before.before.before.before.before.before.before.before in
     let a = c.ec_enc_icdf8_run-q in
     let e : c.extension_said.result ≡ extension_said z.args.z = rw (z_is z) at c.extension_said.ensures in
-    let t = extension_row z.requires.writing.rows in
-    (a.ensures.core, (omega (arith, a.ensures.most, z.requires.writing.few), (t.good, t.writable _ (omega (arith, e, z.requires.k_bound.1)))))
+    let t = extension_row z.requires.0.rows in
+    (a.ensures.core, (omega (arith, a.ensures.most, z.requires.0.few), (t.good, t.writable _ (omega (arith, e, z.requires.1.1)))))
 
 returns : tie.Need-returns-then-z-leminus4
 unfolding residual
@@ -58,27 +58,27 @@ returns c =
     let l : le_z z.args.z (negsuc 3) ≡ true = rw (z_is z) at i.true in
     let f : 0 ≡ residual_said z.args.z = rw l in
     let e : x.result ≡ extension_said z.args.z = rw (z_is z) at x.ensures in
-    told_ask {n = 16} (residual_row z.requires.writing.rows z.args.k z.requires.k_bound.0).is f a.ensures
-    (told_ask (extension_row z.requires.writing.rows).is e b.ensures (told_done b.ensures.core))
+    told_ask {n = 16} (residual_row z.requires.0.rows z.args.k z.requires.1.0).is f a.ensures
+    (told_ask (extension_row z.requires.0.rows).is e b.ensures (told_done b.ensures.core))
 
 ec_enc_icdf8_run_requires_3 : tie.Need-ec_enc_icdf8_run-q-requires-then-z-ge4
 ec_enc_icdf8_run_requires_3 c κs =
     let z = c.before.before.before.before.before.before in
-    let t = residual_row z.requires.writing.rows z.args.k z.requires.k_bound.0 in
-    (z.requires.writing.core, (omega (arith, z.requires.writing.few), (t.good, t.writable _ (omega arith))))
+    let t = residual_row z.requires.0.rows z.args.k z.requires.1.0 in
+    (z.requires.0.core, (omega (arith, z.requires.0.few), (t.good, t.writable _ (omega arith))))
 
 extension_said_requires_2 : tie.Need-extension_said-requires-then-z-ge4
 extension_said_requires_2 c κs =
     let z = c.before.before.before.before.before.before.before.before.before.before in
-    rw (z_is z) (high_end z.args.z (rw (z_is z) at c.if-z-ge4.true), z.requires.k_bound.1)
+    rw (z_is z) (high_end z.args.z (rw (z_is z) at c.if-z-ge4.true), z.requires.1.1)
 
 ec_enc_icdf8_run_requires_4 : tie.Need-ec_enc_icdf8_run-requires-then-z-ge4
 ec_enc_icdf8_run_requires_4 c κs =
     let z = c.before.before.before.before.before.before.before.before.before.before.before.before in
     let a = c.ec_enc_icdf8_run-q-then-z-ge4 in
     let e : c.extension_said-then-z-ge4.result ≡ extension_said z.args.z = rw (z_is z) at c.extension_said-then-z-ge4.ensures in
-    let t = extension_row z.requires.writing.rows in
-    (a.ensures.core, (omega (arith, a.ensures.most, z.requires.writing.few), (t.good, t.writable _ (omega (arith, e, z.requires.k_bound.1)))))
+    let t = extension_row z.requires.0.rows in
+    (a.ensures.core, (omega (arith, a.ensures.most, z.requires.0.few), (t.good, t.writable _ (omega (arith, e, z.requires.1.1)))))
 
 returns_2 : tie.Need-returns-then-z-ge4
 unfolding residual
@@ -93,14 +93,14 @@ returns_2 c =
     let h : le_z (pos 4) z.args.z ≡ true = rw (z_is z) at j.true in
     let f : 8 ≡ residual_said z.args.z = rw (l, h) in
     let e : x.result ≡ extension_said z.args.z = rw (z_is z) at x.ensures in
-    told_ask {n = 16} (residual_row z.requires.writing.rows z.args.k z.requires.k_bound.0).is f a.ensures
-    (told_ask (extension_row z.requires.writing.rows).is e b.ensures (told_done b.ensures.core))
+    told_ask {n = 16} (residual_row z.requires.0.rows z.args.k z.requires.1.0).is f a.ensures
+    (told_ask (extension_row z.requires.0.rows).is e b.ensures (told_done b.ensures.core))
 
 ec_enc_icdf8_run_requires_5 : tie.Need-ec_enc_icdf8_run-requires-2
 ec_enc_icdf8_run_requires_5 c κs =
     let z = c.before.before.before.before.before.before.before in
-    let t = residual_row z.requires.writing.rows z.args.k z.requires.k_bound.0 in
-    (z.requires.writing.core, (omega (arith, z.requires.writing.few), (t.good, t.writable _ (omega (arith, c.centred_said.ensures.2)))))
+    let t = residual_row z.requires.0.rows z.args.k z.requires.1.0 in
+    (z.requires.0.core, (omega (arith, z.requires.0.few), (t.good, t.writable _ (omega (arith, c.centred_said.ensures.2)))))
 
 returns_3 : tie.Need-returns
 unfolding residual
@@ -117,7 +117,7 @@ returns_3 c =
     let p : v.result ≡ 0 → ⊥ = λ e. absurd (omega (arith, v.ensures.1)) in
     let q : v.result ≡ 8 → ⊥ = λ e. absurd (omega (arith, v.ensures.2)) in
     told_within {n = 16} {m = 32} (omega arith)
-    (told_ask {n = 0} (residual_row z.requires.writing.rows z.args.k z.requires.k_bound.0).is f a.ensures
+    (told_ask {n = 0} (residual_row z.requires.0.rows z.args.k z.requires.1.0).is f a.ensures
     (rw (ne_eqb _ 0 p, ne_eqb _ 8 q) (told_done a.ensures.core)))
 
 pub residual_tell_spec : {M : Type 1} → statement M

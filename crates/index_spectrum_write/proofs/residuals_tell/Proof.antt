@@ -34,13 +34,13 @@ abbrev decreases_loop : tie.decreases-loop-i
 decreases_loop buf₀ rows selectors khz n x base q₀ i₀ buf q i = n - i
 
 mul_base : tie.Need-overflow_mul-base invariant_loop decreases_loop
-mul_base c = let z = c.before.before.before in omega (arith, rate_most z.requires.rate.0)
+mul_base c = let z = c.before.before.before in omega (arith, rate_most z.requires.1.0.0)
 
 loop_holds : tie.Need-loop-i-init invariant_loop decreases_loop
 loop_holds c =
     let z = c.before.before.before in
     record {
-      told = rw (sub-zero z.args.n) (midway_start z.requires.writing.core);
+      told = rw (sub-zero z.args.n) (midway_start z.requires.0.core);
       to = omega arith;
       size = search (rules, z.well-formed.1.1.1.0);
       kept = refl;
@@ -49,26 +49,26 @@ loop_holds c =
 residual_pick_run_requires : tie.Need-residual_pick_run-k-requires invariant_loop decreases_loop
 residual_pick_run_requires c κs =
     let z = c.before.before.before.before.before in
-    omega (arith, z.requires.rate.1)
+    omega (arith, z.requires.1.0.1)
 
 element_copy_out_residual_tell : tie.Need-bounds-x-i invariant_loop decreases_loop
 element_copy_out_residual_tell c =
     let z = c.before.before.before.before.before.before.before in
-    omega (arith, z.requires.rate.2)
+    omega (arith, z.requires.1.0.2)
 
 add_residual_tell_2 : tie.Need-overflow_add-base invariant_loop decreases_loop
 add_residual_tell_2 c =
     let z = c.before.before.before.before.before.before.before.before in
-    omega (arith, rate_most z.requires.rate.0, c.residual_pick_run-k.ensures)
+    omega (arith, rate_most z.requires.1.0.0, c.residual_pick_run-k.ensures)
 
 residual_tell_requires : tie.Need-residual_tell-q-requires invariant_loop decreases_loop
 residual_tell_requires c κs =
     let z = c.before.before.before.before.before.before.before.before in
     let l = c.loop-i in
-    let u = z.requires.by_index (l.i + 1) (omega arith) (omega (arith, c.loop-i-test.true)) in
-    let few : l.q.total ≤ 2 ^ 29 = omega (arith, z.requires.writing.few, l.invariant.told.most, l.invariant.to, z.requires.rate.2) in (
-      record { core = l.invariant.told.core; few = few; rows = z.requires.writing.rows },
-      (omega (arith, rate_most z.requires.rate.0, c.residual_pick_run-k.ensures), rw (abs_kept w8 _ u (omega arith)) u),
+    let u = z.requires.1.1 (l.i + 1) (omega arith) (omega (arith, c.loop-i-test.true)) in
+    let few : l.q.total ≤ 2 ^ 29 = omega (arith, z.requires.0.few, l.invariant.told.most, l.invariant.to, z.requires.1.0.2) in (
+      record { core = l.invariant.told.core; few = few; rows = z.requires.0.rows },
+      (omega (arith, rate_most z.requires.1.0.0, c.residual_pick_run-k.ensures), rw (abs_kept w8 _ u (omega arith)) u),
     )
 
 loop_again : tie.Need-loop-i-preserved invariant_loop decreases_loop
@@ -78,13 +78,13 @@ loop_again c =
     let a = c.residual_tell-q in
     let p = c.residual_pick_run-k in
     let i = c.loop-i-test.true in
-    let v = get_or z.args.t4.nlsf (l.i + 1) (pos 0) in
-    let u = z.requires.by_index (l.i + 1) (omega arith) (omega (arith, i)) in
+    let v = get_or z.args.x.nlsf (l.i + 1) (pos 0) in
+    let u = z.requires.1.1 (l.i + 1) (omega arith) (omega (arith, i)) in
     let m = z.args.selectors.now in
     let t : Told (out l.buf l.q) v (residual (residual_row z.args.khz (residual_pick m l.i))) 32 (out a.new.0 a.result) =
     rw (p.ensures, abs_kept w8 v u (omega arith)) at a.ensures in
-    let r = z.requires.rate in
-    let s = residuals_told_next z.args.n l.i z.args.t4 z.args.khz m r.0 i (omega (arith, l.invariant.size, r.2)) u in
+    let r = z.requires.1.0 in
+    let s = residuals_told_next z.args.n l.i z.args.x z.args.khz m r.0 i (omega (arith, l.invariant.size, r.2)) u in
     record {
       told = midway_next l.invariant.told t s (omega arith);
       to = omega arith;
@@ -99,8 +99,8 @@ returns : tie.Need-returns invariant_loop decreases_loop
 returns c =
     let z = c.before.before.before.before.before in
     let l = c.loop-i in
-    told_within (omega (arith, l.invariant.to, z.requires.rate.2))
-    (midway_end l.invariant.told (residuals_told_end z.args.n l.i z.args.t4 z.args.khz z.args.selectors.now c.loop-i-test.false))
+    told_within (omega (arith, l.invariant.to, z.requires.1.0.2))
+    (midway_end l.invariant.told (residuals_told_end z.args.n l.i z.args.x z.args.khz z.args.selectors.now c.loop-i-test.false))
 
 pub residuals_tell_spec : {M : Type 1} → statement M
 residuals_tell_spec =

@@ -75,7 +75,7 @@ returns c =
     let s = (start t).args.input.now in
     let e =
     same s t1.number_at-khz.ensures t2.number_at-subframes.ensures t3.number_at-active.ensures t4.number_at-mode.ensures
-    v.number_at-prevtype.ensures (to_z-of_z {w = w16} (sfits_of v.value-at-run.type-inv) ∙ v.value_at_run-prevlag.ensures) in
+    v.number_at-prevtype.ensures (to_z-of_z {w = w16} (sfits_of v.value_at_run-prevlag.type_inv) ∙ v.value_at_run-prevlag.ensures) in
     printed_put (put_whole s (is_whole t) e c.put_read.ensures) (omega (arith, c.put_read-arg-1.given.0.1))
 
 returns_2 : tie.Need-returns

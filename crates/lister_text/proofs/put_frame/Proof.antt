@@ -40,7 +40,7 @@ take_same (suc n) zero x h = absurd (not-suc-le-zero h)
 take_same (suc n) (suc m) x h = ap (λ (l : List ℤ). x ∷ l) (take_same n m x (le_of_suc-le-suc h))
 
 few : (z : tie.Start) → blocks_of z.args.khz z.args.subframes ≤ 20
-few z = blocks_most z.args.khz z.args.subframes (rate_most z.requires.rate.0) (subframes_most z.requires.rate.1)
+few z = blocks_most z.args.khz z.args.subframes (rate_most z.requires.1.0.0) (subframes_most z.requires.1.0.1)
 
 offset_small : (z : ℤ) → Upto 1 z → SFits w8 z
 offset_small (pos n) h = parts_fit (pos n) (omega (arith, h.most)) (omega arith)
@@ -79,17 +79,17 @@ blanks o =
 put_indices_run_requires : tie.Need-put_indices_run-place-requires
 put_indices_run_requires c κs =
     let z = c.before.before.before.before in
-    ((search rules, rate_most z.requires.rate.0), (z.requires.prevtype_value.0, z.requires.rate.1))
+    ((search rules, rate_most z.requires.1.0.0), (z.requires.1.1.0, z.requires.1.0.1))
 
 cast_offset : tie.Need-overflow_cast-offset
 cast_offset c =
     let z = start c.before.before.before.before in
-    let o = z.pre.1.1.1 in
+    let o = z.requires.1.1.1 in
     rw (to_z-of_z (offset_small z.args.a.indices.offset o)) (offset_fits z.args.a.indices.offset o)
 
 blocks_of_run_requires : tie.Need-blocks_of_run-n-requires
 blocks_of_run_requires c κs =
-    let p = (start c.before.before.before.before).requires.rate in
+    let p = (start c.before.before.before.before).requires.1.0 in
     (rate_most p.0, subframes_most p.1)
 
 mul_n : tie.Need-overflow_mul-n
@@ -105,7 +105,7 @@ put_pulses_requires : tie.Need-put_pulses-requires
 put_pulses_requires c κs =
     let o = c.before.before in
     let i = listed (counted o) in
-    let p = (start i).pre in
+    let p = (start i).requires in
     let e = i.put-indices-run in (
       (omega (arith, e.ensures.behind, e.ensures.most, e.kept.0, p.0), rate_most p.1.0.0, subframes_most p.1.0.1),
       lent o ∙ ap (λ (k : ℕ). 16 * k) (counted o).blocks_of_run-n.ensures,
@@ -122,13 +122,13 @@ returns c =
     let i = listed (counted o) in
     let z = start i in
     let a = z.args in
-    let f = ap nat_abs (to_z-of_z (offset_small a.a.indices.offset z.pre.1.1.1)) in
+    let f = ap nat_abs (to_z-of_z (offset_small a.a.indices.offset z.requires.1.1.1)) in
     let p = take (16 * (counted o).blocks_of_run-n.result) o.zeros-pulses.result in
     let v = nat_abs (to_z w8 (of_z w8 a.a.indices.offset)) in
     let u = excitation_text a.packet.now a.a.state p a.khz a.subframes a.a.prevtype v in
     put_as (put_then {u = u} i.put_indices_run-place.ensures c.put_pulses.ensures)
     (same_text (indices_text a.khz a.subframes a.a.indices) a.packet.now a.a.state a.khz a.subframes (blanks o)
-    z.pre.1.1.0 f)
+    z.requires.1.1.0 f)
     (omega arith)
 
 pub put_frame_spec : {M : Type 1} → statement M

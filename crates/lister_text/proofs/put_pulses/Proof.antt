@@ -18,7 +18,7 @@ abbrev read : tie.After-blocks_of_run-blocks → tie.After-silk_decode_pulses
 read n = n.before.before
 
 few : (z : tie.Start) → blocks_of z.args.f.khz z.args.f.subframes ≤ 20
-few z = blocks_most z.args.f.khz z.args.f.subframes z.requires.at_in_bounds.1 z.requires.at_in_bounds.2
+few z = blocks_most z.args.f.khz z.args.f.subframes z.requires.0.1 z.requires.0.2
 
 put_pulses_run_requires : tie.Need-put_pulses_run-requires
 put_pulses_run_requires c κs =

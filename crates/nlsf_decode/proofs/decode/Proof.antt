@@ -27,29 +27,29 @@ as_natural (pos n) d u = (tt, omega arith)
 as_natural (negsuc n) d u = absurd (omega arith)
 
 -- the indices behind the reading of the first: 17 numbers of 8 bits, of an accepted call
-first_fits : (b : tie.After-v-1) → SFits w8 (at b.args.t2 0)
+first_fits : (b : tie.After-v-1) → SFits w8 (at b.args.index 0)
 first_fits b = sfits_of b.v-1.given
 
-all_there : (b : tie.After-v-1) → length b.args.t2 ≡ 17
+all_there : (b : tie.After-v-1) → length b.args.index ≡ 17
 all_there b = search rules
 
-taken : (b : tie.After-v-1) → let a = b.args in Accepted a.vector.now a.t2 a.khz
-taken b = let a = b.args in decode_accepted a.vector.now a.t2 a.khz b.requires
+taken : (b : tie.After-v-1) → let a = b.args in Accepted a.vector.now a.index a.khz
+taken b = let a = b.args in decode_accepted a.vector.now a.index a.khz b.requires
 
 cast_v : tie.Need-overflow_cast-v
-cast_v c = rw (to_z-of_z (first_fits c)) (as_natural (at c.args.t2 0) (taken c).first0 (taken c).first)
+cast_v c = rw (to_z-of_z (first_fits c)) (as_natural (at c.args.index 0) (taken c).first0 (taken c).first)
 
 -- what the arm of a book asks, and that its answer is the call's
 asks : (b : tie.After-v-1) {k : Book} {n : ℕ} → let a = b.args in Under a.khz k n
-    → Indexed n a.vector.now (nat_abs (to_z w8 (of_z w8 (at a.t2 0)))) (take n (drop 1 a.t2))
+    → Indexed n a.vector.now (nat_abs (to_z w8 (of_z w8 (at a.index 0)))) (take n (drop 1 a.index))
 asks b u =
     let a = b.args in
-    rw (to_z-of_z (first_fits b)) (indexed u a.t2 a.vector.now (all_there b) (taken b))
+    rw (to_z-of_z (first_fits b)) (indexed u a.index a.vector.now (all_there b) (taken b))
 
 answers : (b : tie.After-v-1) {k : Book} {n : ℕ} {s : Stable} → let a = b.args in Under a.khz k n
-    → s ≡ spectrum_of k (nat_abs (to_z w8 (of_z w8 (at a.t2 0)))) (take n (drop 1 a.t2))
-    → s ≡ decoded (book_of a.khz) a.t2
-answers b u e = (rw (to_z-of_z (first_fits b)) at e) ∙ decoded_as u b.args.t2 (taken b).first0
+    → s ≡ spectrum_of k (nat_abs (to_z w8 (of_z w8 (at a.index 0)))) (take n (drop 1 a.index))
+    → s ≡ decoded (book_of a.khz) a.index
+answers b u e = (rw (to_z-of_z (first_fits b)) at e) ∙ decoded_as u b.args.index (taken b).first0
 
 pub decode_spec : {M : Type 1} → statement M
 decode_spec =

@@ -11,7 +11,7 @@ use Rattle.nlsf_decode.proofs.numbers_ok.Tie as tie
 returns : tie.Need-returns
 unfolding numbers_ok
 returns c =
-    let f : SFits w8 (at c.args.t1 0) = sfits_of c.first-1.given in
+    let f : SFits w8 (at c.args.index 0) = sfits_of c.first-1.given in
     rw (to_z-of_z f, c.places_ok-small.ensures)
 
 pub numbers_ok_spec : {M : Type 1} → statement M

@@ -23,12 +23,12 @@ by_order u index e = e ∙ ap (λ (m : ℕ). every (in_range (negsuc 9) (pos 10)
 returns : tie.Need-returns-then-khz-eq16
 returns c =
     let t = c.before.before.before in
-    let a = t.args in by_order (wide_under a.khz t.if1.taken) a.t1 c.all_in_range.ensures
+    let a = t.args in by_order (wide_under a.khz t.if-khz-eq16.true) a.index c.all_in_range.ensures
 
 returns_2 : tie.Need-returns
 returns_2 c =
     let t = c.before.before.before in
-    let a = t.args in by_order (narrow_under a.khz t.if1.left) a.t1 c.all_in_range-2.ensures
+    let a = t.args in by_order (narrow_under a.khz t.if-khz-eq16.false) a.index c.all_in_range-2.ensures
 
 pub places_ok_spec : {M : Type 1} → statement M
 places_ok_spec =

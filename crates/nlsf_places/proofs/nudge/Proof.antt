@@ -59,7 +59,7 @@ sums c =
     let x = c.args.x in
     let f = c.ranges.x in
     let e : c.toward_zero.result ≡ toward_zero x = rw (to_z-of_z f) at c.toward_zero.ensures in
-    rw (product x f, to_z-of_z {w = w32} (sfits_of c.toward_zero.type-inv), e)
+    rw (product x f, to_z-of_z {w = w32} (sfits_of c.toward_zero.type_inv), e)
 
 cast_result : tie.Need-overflow_cast-result
 cast_result c = rw (to_z-of_z c.ranges.x) (wide c.args.x c.ranges.x)

@@ -23,7 +23,7 @@ number value weight r = quot_z (r *ℤ pos 16384) (pos weight) +ℤ pos (value *
 -- what the machine holds
 reads : (c : tie.After-moved-z)
     → to_z w32 (of_z w32 c.moved-z.result) ≡ number c.args.value c.args.weight c.args.r
-reads c = to_z-of_z {w = w32} (sfits_of c.moved.type-inv) ∙ (rw (to_z-of_z c.ranges.r) at c.moved-z.ensures)
+reads c = to_z-of_z {w = w32} (sfits_of c.moved-z.type_inv) ∙ (rw (to_z-of_z c.ranges.r) at c.moved-z.ensures)
 
 inside : (z : ℤ) → lt_z (pos 32767) z ≡ false → lt_z z (pos 0) ≡ false → SFits w16 z
 inside z e f =

@@ -115,7 +115,7 @@ fitting : (b : tie.At-loop-k invariant_loop decreases_loop) → (k : ℕ) → Ma
 unfolding predictor_of
 fitting b =
     let s = start b in
-    near (lent s) s.args.vector.now s.args.xs.now s.pre
+    near (lent s) s.args.vector.now s.args.xs.now s.requires
     (λ i.
     let l = list_of (get_or s.args.selectors.now (i / 2) 0) i in
     omega (arith, b.shared_slice_known-2-1.given (2 * i + l)))
@@ -135,10 +135,10 @@ odd_residual c =
     let p = l ∙ odd_by t.selectors t.lists k in
     let r = to_z w32 b.loop-k.r in
     let g = scaled s.args.step x in
-    to_z-of_z {w = w32} (sfits_of c.residual.type-inv)
+    to_z-of_z {w = w32} (sfits_of c.residual-r.type_inv)
     ∙ (rw (to_z-of_z f) at c.residual-r.ensures)
     ∙ ap (λ (n : ℕ). predicted n r +ℤ g) p
-    ∙ turn t s.args.vector.now s.args.xs.now s.pre j (2 * b.loop-k.k) r (omega arith) b.loop-k.inv.here b.loop-k.inv.left
+    ∙ turn t s.args.vector.now s.args.xs.now s.requires j (2 * b.loop-k.k) r (omega arith) b.loop-k.inv.here b.loop-k.inv.left
 
 last_share_run_requires : tie.Need-last_share_run-q-requires invariant_loop decreases_loop
 last_share_run_requires c κs =
@@ -174,9 +174,9 @@ residual_requires c κs =
     let j = 2 * (b.loop-k.k - 1) + 1 in
     let x = at s.args.xs.now j in
     let f : SFits w8 x = sfits_of c.residual-arg-1.given in
-    let w = within_at 10 10 s.args.xs.now s.pre.tens j in
+    let w = within_at 10 10 s.args.xs.now s.requires.tens j in
     let n : Mag 29200 (to_z w32 b.loop-k.r) = rw b.loop-k.invariant.left (fitting b (2 * b.loop-k.k)) in
-    rw (to_z-of_z f) (((w.1, w.0), s.pre.small), n)
+    rw (to_z-of_z f) (((w.1, w.0), s.requires.small), n)
 
 weigh_run_requires : tie.Need-weigh_run-w-requires invariant_loop decreases_loop
 weigh_run_requires c κs =
@@ -186,8 +186,8 @@ weigh_run_requires c κs =
     record {
       shares = b.shares-shares.ensures;
       roots = b.roots-roots.ensures;
-      rising = s.pre.rising;
-      inside = omega (arith, s.pre.book, b.loop-k.invariant.here);
+      rising = s.requires.rising;
+      inside = omega (arith, s.requires.book, b.loop-k.invariant.here);
       behind = b.loop-k.invariant.share ∙ ap (share_at s.args.values.now) e;
     }
 
@@ -196,8 +196,8 @@ place_requires c κs =
     let d = c.before.before.before.before in
     let b = head d in
     let j = 2 * (b.loop-k.k - 1) + 1 in
-    let w = (start b).pre.heavy j (omega (arith, b.loop-k.inv.here)) in
-    (rw (odd_residual d) (fitting b j), omega (arith, c.weigh_run-w.ensures.weight_value, w))
+    let w = (start b).requires.heavy j (omega (arith, b.loop-k.inv.here)) in
+    (rw (odd_residual d) (fitting b j), omega (arith, c.weigh_run-w.ensures.0, w))
 
 -- behind the odd place
 midway : (c : tie.After-place invariant_loop decreases_loop) → let d = odd_res c in
@@ -214,10 +214,10 @@ midway c =
     let w = c.weigh_run-w in
     let j = 2 * (b.loop-k.k - 1) + 1 in
     let r = odd_residual d in
-    let p = puts (lent s) s.args.vector.now s.args.xs.now s.pre j (omega (arith, b.loop-k.inv.here)) in
+    let p = puts (lent s) s.args.vector.now s.args.xs.now s.requires j (omega (arith, b.loop-k.inv.here)) in
     let x = get_or s.args.values.now j 0 in
-    let z = to_z-of_z {w = w16} (sfits_of c.place.type-inv) ∙ c.place.ensures ∙ ap₂ (placed x) w.ensures.0 r ∙ p in
-    went (lent s) s.args.vector.now s.args.xs.now s.pre b.loop-k.inv (omega arith) r z w.ensures.1
+    let z = to_z-of_z {w = w16} (sfits_of c.place.type_inv) ∙ c.place.ensures ∙ ap₂ (placed x) w.ensures.0 r ∙ p in
+    went (lent s) s.args.vector.now s.args.xs.now s.requires b.loop-k.inv (omega arith) r z w.ensures.1
 
 -- the residual that it has at the even place
 even_residual : (c : tie.After-residual-r-in-loop-k invariant_loop decreases_loop) → let b = head (odd_res (odd c)) in
@@ -236,15 +236,15 @@ even_residual c =
     let l : c.predictor-in-loop-k.result ≡ predictor_of t.lists (get_or t.selectors k 0 % 2) i = c.predictor-in-loop-k.ensures in
     let p = l ∙ even_by t.selectors t.lists k in
     let g = scaled s.args.step x in
-    to_z-of_z {w = w32} (sfits_of c.residual2.type-inv)
+    to_z-of_z {w = w32} (sfits_of c.residual-r-in-loop-k.type_inv)
     ∙ (rw (to_z-of_z f) at c.residual-r-in-loop-k.ensures)
     ∙ ap (λ (n : ℕ). predicted n r +ℤ g) p
-    ∙ turn t s.args.vector.now s.args.xs.now s.pre i (2 * k + 1) r (omega arith) (midway m).here (midway m).left
+    ∙ turn t s.args.vector.now s.args.xs.now s.requires i (2 * k + 1) r (omega arith) (midway m).here (midway m).left
 
 predictor_requires_2 : tie.Need-predictor-requires-in-loop-k invariant_loop decreases_loop
 predictor_requires_2 c κs =
     let b = head (odd_res c.before) in
-    let o = (start b).pre in
+    let o = (start b).requires in
     (omega arith, omega (arith, o.lists, b.loop-k.inv.here))
 
 residual_requires_2 : tie.Need-residual-r-requires-in-loop-k invariant_loop decreases_loop
@@ -255,9 +255,9 @@ residual_requires_2 c κs =
     let i = 2 * (b.loop-k.k - 1) in
     let x = at s.args.xs.now i in
     let f : SFits w8 x = sfits_of c.residual-arg-in-loop-k-1.given in
-    let w = within_at 10 10 s.args.xs.now s.pre.tens i in
+    let w = within_at 10 10 s.args.xs.now s.requires.tens i in
     let n : Mag 29200 (to_z w32 (of_z w32 (odd_res m).residual-r.result)) = rw (midway m).left (fitting b (i + 1)) in
-    rw (to_z-of_z f) (((w.1, w.0), s.pre.small), n)
+    rw (to_z-of_z f) (((w.1, w.0), s.requires.small), n)
 
 weigh_run_requires_2 : tie.Need-weigh_run-u-requires invariant_loop decreases_loop
 weigh_run_requires_2 c κs =
@@ -267,8 +267,8 @@ weigh_run_requires_2 c κs =
     record {
       shares = b.shares-shares.ensures;
       roots = b.roots-roots.ensures;
-      rising = s.pre.rising;
-      inside = omega (arith, s.pre.book, b.loop-k.inv.here);
+      rising = s.requires.rising;
+      inside = omega (arith, s.requires.book, b.loop-k.inv.here);
       behind = (midway m).share ∙ ap (share_at s.args.values.now) (omega arith);
     }
 
@@ -276,10 +276,10 @@ place_requires_2 : tie.Need-place-requires-in-loop-k invariant_loop decreases_lo
 place_requires_2 c κs =
     let d = c.before.before.before.before in
     let b = head (odd_res (odd d)) in
-    let o = (start b).pre in
+    let o = (start b).requires in
     let i = 2 * (b.loop-k.k - 1) in
     let w = o.heavy i (omega (arith, o.some, b.loop-k.inv.here)) in
-    (rw (even_residual d) (fitting b i), omega (arith, c.weigh_run-u.ensures.weight_value, w))
+    (rw (even_residual d) (fitting b i), omega (arith, c.weigh_run-u.ensures.0, w))
 
 loop_again : tie.Need-loop-k-preserved invariant_loop decreases_loop
 loop_again c =
@@ -290,10 +290,10 @@ loop_again c =
     let w = c.weigh_run-u in
     let i = 2 * (b.loop-k.k - 1) in
     let r = even_residual d in
-    let p = puts (lent s) s.args.vector.now s.args.xs.now s.pre i (omega (arith, b.loop-k.inv.here)) in
+    let p = puts (lent s) s.args.vector.now s.args.xs.now s.requires i (omega (arith, b.loop-k.inv.here)) in
     let x = get_or s.args.values.now i 0 in
-    let z = to_z-of_z {w = w16} (sfits_of c.place2.type-inv) ∙ c.place-in-loop-k.ensures ∙ ap₂ (placed x) w.ensures.0 r ∙ p in
-    went (lent s) s.args.vector.now s.args.xs.now s.pre (midway m) (omega arith) r z w.ensures.1
+    let z = to_z-of_z {w = w16} (sfits_of c.place-in-loop-k.type_inv) ∙ c.place-in-loop-k.ensures ∙ ap₂ (placed x) w.ensures.0 r ∙ p in
+    went (lent s) s.args.vector.now s.args.xs.now s.requires (midway m) (omega arith) r z w.ensures.1
 
 returns : tie.Need-returns invariant_loop decreases_loop
 returns c =
@@ -301,25 +301,25 @@ returns c =
     let s = start b in
     let e : b.loop-k.k ≡ 0 = omega arith in
     down_end (places_by (lent s) s.args.xs.now) s.args.vector.now b.loop-k.vector
-    (full (lent s) s.args.vector.now s.args.xs.now s.pre)
+    (full (lent s) s.args.vector.now s.args.xs.now s.requires)
     (rw e at b.loop-k.invariant.done)
 
 -- what the search does not reach
 read_even : tie.Need-bounds-values-i invariant_loop decreases_loop
 read_even c =
     let b = head (odd_res (odd c.before.before.before.before)) in
-    omega (arith, (start b).pre.book, b.loop-k.inv.here)
+    omega (arith, (start b).requires.book, b.loop-k.inv.here)
 
 mul_even : tie.Need-offset_bounds-vector-i invariant_loop decreases_loop
 mul_even c =
     let b = head (odd_res (odd (even_res c))) in
-    omega (arith, (start b).pre.few, b.loop-k.inv.here)
+    omega (arith, (start b).requires.few, b.loop-k.inv.here)
 
 write_even : tie.Need-bounds-vector-i invariant_loop decreases_loop
 write_even c =
     let m = odd (even_res c) in
     let b = head (odd_res m) in
-    omega (arith, (midway m).done.long, (start b).pre.some, b.loop-k.inv.here)
+    omega (arith, (midway m).done.long, (start b).requires.some, b.loop-k.inv.here)
 
 loop_less : tie.Need-loop-k-smaller invariant_loop decreases_loop
 loop_less c = omega (arith, (odd_res (odd (even_res c))).loop-k-test.taken)

@@ -30,7 +30,7 @@ sums c =
     let f = c.ranges in
     let e : c.predict.result ≡ predicted a.p a.behind = rw (to_z-of_z f.behind) at c.predict.ensures in
     let g : c.scale.result ≡ scaled a.step a.x = rw (to_z-of_z f.x) at c.scale.ensures in
-    rw (to_z-of_z {w = w32} (sfits_of c.predict.type-inv), to_z-of_z {w = w32} (sfits_of c.scale.type-inv), e, g)
+    rw (to_z-of_z {w = w32} (sfits_of c.predict.type_inv), to_z-of_z {w = w32} (sfits_of c.scale.type_inv), e, g)
 
 add_result : tie.Need-overflow_add-result
 add_result c = rw (sums c) (fits c.before.before)

@@ -23,7 +23,7 @@ reads : (c : tie.After-nudge)
     → to_z w32 (of_z w32 c.nudge.result) *ℤ to_z w32 c.args.step ≡ nudged c.args.x *ℤ pos c.args.step
 reads c =
     let e : c.nudge.result ≡ nudged c.args.x = rw (to_z-of_z c.ranges.x) at c.nudge.ensures in
-    rw (to_z-of_z {w = w32} (sfits_of c.nudge.type-inv), e, to_z_pos w32 {n = c.args.step} (omega arith))
+    rw (to_z-of_z {w = w32} (sfits_of c.nudge.type_inv), e, to_z_pos w32 {n = c.args.step} (omega arith))
 
 mul_result : tie.Need-overflow_mul-result
 mul_result c = rw (reads c) (product c.before)

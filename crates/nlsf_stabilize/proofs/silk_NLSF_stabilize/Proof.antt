@@ -35,7 +35,7 @@ rule_is r t e =
     let a = (start (measured r)).args in
     let l = lengths_are a.vector.now a.gaps.now (lengths_right (measured r)) in
     ruled_sum_lem (length a.vector.now) a.gaps.now _ (omega (arith, l.one_more))
-    (to_z-of_z {w = w32} (sfits_of r.ruled-sum-run.type-inv) ∙ r.ruled_sum_run-sum.ensures) t e
+    (to_z-of_z {w = w32} (sfits_of r.ruled_sum_run-sum.type_inv) ∙ r.ruled_sum_run-sum.ensures) t e
 
 stays_run_requires : tie.Need-stays_run-requires
 stays_run_requires c κs =
@@ -63,7 +63,7 @@ stabilise_run_requires c κs =
       (
         ready a.vector.now a.gaps.now (accepted a.vector.now a.gaps.now (lengths_right (measured r)) t),
         ruled_total (length a.vector.now) a.gaps.now _
-            (to_z-of_z {w = w32} (sfits_of r.ruled-sum-run.type-inv) ∙ r.ruled_sum_run-sum.ensures) t,
+            (to_z-of_z {w = w32} (sfits_of r.ruled_sum_run-sum.type_inv) ∙ r.ruled_sum_run-sum.ensures) t,
       ),
       sym r.stays_run.ensures ∙ r.if-stays_run.false,
     )

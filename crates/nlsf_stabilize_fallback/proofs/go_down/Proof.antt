@@ -52,7 +52,7 @@ slice_set_from_x c = omega (arith, c.loop-k.invariant.1.0.long)
 
 cast_next : tie.Need-overflow_cast-next invariant_loop decreases_loop
 cast_next c =
-    let f : SFits w16 c.lower_one-x.result = sfits_of c.lower-one.type-inv in rw (to_z-of_z f) (sfits_widen {w = w16} tt f)
+    let f : SFits w16 c.lower_one-x.result = sfits_of c.lower_one-x.type_inv in rw (to_z-of_z f) (sfits_widen {w = w16} tt f)
 
 loop_again : tie.Need-loop-k-preserved invariant_loop decreases_loop
 loop_again c =
@@ -64,7 +64,7 @@ loop_again c =
     let d = b.loop-k.invariant.1.0 in
     let x : SFits w16 (at b.loop-k.v j) = sfits_of c.lower_one-arg-1.given in
     let k : SFits w16 (at g b.loop-k.k) = sfits_of c.lower_one-arg-in-loop-k-1.given in
-    let r : SFits w16 c.lower_one-x.result = sfits_of c.lower-one.type-inv in
+    let r : SFits w16 c.lower_one-x.result = sfits_of c.lower_one-x.type_inv in
     let t = down_turn g v b.loop-k.k j (omega arith) b.loop-k.invariant.0 b.requires.0 b.requires.1 in
     let e : c.lower_one-x.result ≡ min_z (at b.loop-k.v j) (behind f b.loop-k.k -ℤ at g b.loop-k.k) =
     rw (to_z-of_z x, to_z-of_z k, b.loop-k.invariant.1.1) at c.lower_one-x.ensures in

@@ -51,7 +51,7 @@ loop_again c =
     let u = b.loop-i.invariant.1.0 in
     let x : SFits w16 (at b.loop-i.v i) = sfits_of c.raise_one-arg-1.given in
     let k : SFits w16 (at g i) = sfits_of c.raise_one-arg-in-loop-i-1.given in
-    let r : SFits w16 c.raise_one-x.result = sfits_of c.raise-one.type-inv in
+    let r : SFits w16 c.raise_one-x.result = sfits_of c.raise_one-x.type_inv in
     let h : i < length v = omega (arith, u.long) in
     let e : c.raise_one-x.result ≡ max_z (at b.loop-i.v i) (sat16 (at (pos 0 ∷ raised g v) i +ℤ at g i)) =
     rw (to_z-of_z x, to_z-of_z k, b.loop-i.invariant.1.1) at c.raise_one-x.ensures in

@@ -104,7 +104,7 @@ returns_2 c u h =
 -- ---- a pair
 
 inside : (c : tie.Else-i-v) → place c.before < length (values (start c.before))
-inside c = let s = start c.before in omega (arith, same_long s, s.pre.1, c.if-i-v.false)
+inside c = let s = start c.before in omega (arith, same_long s, s.requires.1, c.if-i-v.false)
 
 meet_at_requires : tie.Need-meet_at-m-requires
 meet_at_requires c κs =
@@ -127,7 +127,7 @@ abbrev begin : tie.After-meet_at-m → tie.Start
 begin c = start (pair c).before
 
 met_fits : (c : tie.After-meet_at-m) → SFits w32 c.meet_at-m.result
-met_fits c = sfits_of c.meet-at.type-inv
+met_fits c = sfits_of c.meet_at-m.type_inv
 
 met_is : (c : tie.After-meet_at-m) → let s = begin c in let w = s.args.w.now in let i = s.args.i in
     c.meet_at-m.result ≡ meeting (at w i) (at w (i + 1)) (odd (at s.args.g.now i)) (at w 17)
@@ -216,7 +216,7 @@ returns_3 c u h =
     let s = begin b in
     let g = s.args.g.now in
     let i = s.args.i in
-    let f : SFits w16 c.cap.result = sfits_of c.cap.type-inv in
+    let f : SFits w16 c.cap.result = sfits_of c.cap.type_inv in
     let k = gap_fits a in
     let e : c.cap.result ≡ capped (low d +ℤ at g i) =
     rw (held_low d, to_z-of_z (wide (low_fits d)), to_z-of_z k, to_z-of_z (wide k), to_z-of_z (high_fits d)) at c.cap.ensures in

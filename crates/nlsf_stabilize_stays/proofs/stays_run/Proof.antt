@@ -86,7 +86,7 @@ both c t e = rw (first c.before.before, second c) at e
 returns : tie.Need-returns-then-lost invariant_loop decreases_loop
 returns c =
     let b = turn_2 c.before in
-    stays_not b.args.g.now b.args.v.now b.before.pre b.loop-i.i (omega arith)
+    stays_not b.args.g.now b.args.v.now b.requires b.loop-i.i (omega arith)
     (both c.before true c.if-lost.true)
 
 loop_again : tie.Need-loop-i-preserved invariant_loop decreases_loop

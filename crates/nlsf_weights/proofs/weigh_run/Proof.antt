@@ -31,7 +31,7 @@ share_is : (d : tie.After-share-q) → d.share-q.result ≡ share_at (start d).a
 share_is d =
     let s = start d in
     d.share-q.ensures
-    ∙ ap₂ (λ (x a : ℕ). 1024 / (x - a)) (sym (edge_value s.args.values.now s.args.i s.pre.inside))
+    ∙ ap₂ (λ (x a : ℕ). 1024 / (x - a)) (sym (edge_value s.args.values.now s.args.i s.requires.inside))
     d.value_before.ensures
 
 -- both shares together
@@ -42,19 +42,19 @@ record Sum (d : tie.After-share-q) : Type 0 where
 sum : (d : tie.After-share-q) → Sum d
 sum d =
     let s = start d in
-    let p = share_some s.args.values.now s.pre.rising in
-    let l = s.pre.inside in
+    let p = share_some s.args.values.now s.requires.rising in
+    let l = s.requires.inside in
     let q = p s.args.i (omega (arith, l)) in
     let r = p (suc s.args.i) l in
-    record { some = omega (arith, share_is d, q.0); few = omega (arith, share_is d, q.1, r.1, s.pre.behind) }
+    record { some = omega (arith, share_is d, q.0); few = omega (arith, share_is d, q.1, r.1, s.requires.behind) }
 
 returns : tie.Need-returns
 returns c =
     let d = c.before in
     let s = start d in
     let v = s.args.values.now in
-    let e = ap₂ (λ (n m : ℕ). n + m) (share_is d) s.pre.behind in (
-      c.root.ensures ∙ ap (λ (n : ℕ). root_at (n * 2 ^ 16) (bit_length (n * 2 ^ 16))) e ∙ sym (weight_at v s.args.i s.pre.inside),
+    let e = ap₂ (λ (n m : ℕ). n + m) (share_is d) s.requires.behind in (
+      c.root.ensures ∙ ap (λ (n : ℕ). root_at (n * 2 ^ 16) (bit_length (n * 2 ^ 16))) e ∙ sym (weight_at v s.args.i s.requires.inside),
       share_is d,
     )
 

@@ -61,8 +61,8 @@ loop_again c =
     let e : b.loop-k.k ≡ suc i = omega arith in
     let d : drop (suc i) w ≡ drop (suc i) (weights_of v) = rw e at b.loop-k.invariant.1 in (
       (omega (arith, n.0), length-set w i x ∙ n.1),
-      from_place (weights_of v) w i x (omega (arith, n.0, n.1)) (n.1 ∙ sym l) c.weigh_run-w.ensures.weight_value d,
-      c.weigh_run-w.ensures.share_value,
+      from_place (weights_of v) w i x (omega (arith, n.0, n.1)) (n.1 ∙ sym l) c.weigh_run-w.ensures.0 d,
+      c.weigh_run-w.ensures.1,
     )
 
 returns : tie.Need-returns invariant_loop decreases_loop

@@ -13,7 +13,7 @@ returns c = c.part.ensures
 returns_2 : tie.Need-returns
 unfolding frame_at
 returns_2 c = let a = c.args in sym
-    (past_frames a.packet.now a.t2 a.k (search rules) (search rules) c.if-k-lt12.false)
+    (past_frames a.packet.now a.a a.k (search rules) (search rules) c.if-k-lt12.false)
 
 pub packet_frame_spec : {M : Type 1} → statement M
 packet_frame_spec =

@@ -62,17 +62,17 @@ all_long t =
 
 room : (t : tie.After-tail_run-zeros)
     → length (front t) + length (middle t) + length (frames t) + t.tail_run-zeros.result ≤ length (start t).args.out.now
-room t = omega (arith, ap length (whole t), all_long t, (start t).requires.frames_in_bounds)
+room t = omega (arith, ap length (whole t), all_long t, (start t).requires.1)
 
 -- ---- the needs
 
 put_front_run_requires : tie.Need-put_front_run-first-requires
-put_front_run_requires c κs = ((start c.before).requires.k_bound.0, omega (arith, room c.before))
+put_front_run_requires c κs = ((start c.before).requires.0.0, omega (arith, room c.before))
 
 put_middle_run_requires : tie.Need-put_middle_run-second-requires
 put_middle_run_requires c κs =
     let t = worked_out (by_front c) in
-    ((start t).pre.0.1, (start t).pre.0.3, omega (arith, room t, (by_front c).put_front_run-first.ensures.behind))
+    ((start t).requires.0.1, (start t).requires.0.3, omega (arith, room t, (by_front c).put_front_run-first.ensures.behind))
 
 put_word_run_requires : tie.Need-put_word_run-third-requires
 put_word_run_requires c κs =

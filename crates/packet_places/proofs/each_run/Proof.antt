@@ -17,16 +17,16 @@ abbrev start : tie.At-loop-k invariant_loop decreases_loop → tie.Start invaria
 start b = b.before.before.before
 
 below : (c : tie.In-loop-k invariant_loop decreases_loop) → c.loop-k.k < 12
-below c = omega (arith, c.loop-k-test.true, (start c.before).pre.1)
+below c = omega (arith, c.loop-k-test.true, (start c.before).requires.1)
 
 near : (c : tie.In-loop-k invariant_loop decreases_loop) → (c.loop-k.place + 1275 ≤ 31684) × (c.loop-k.at ≤ 20024)
-near c = turn_near (start c.before).pre.0 c.loop-k.invariant (below c)
+near c = turn_near (start c.before).requires.0 c.loop-k.invariant (below c)
 
 loop_holds : tie.Need-loop-k-init invariant_loop decreases_loop
 loop_holds c = turn_start c.requires.0
 
 next_run_requires : tie.Need-next_run-c-requires invariant_loop decreases_loop
-next_run_requires c κs = turn_next (start c.before).pre.0 c.loop-k.invariant (omega (arith, c.loop-k-test.true))
+next_run_requires c κs = turn_next (start c.before).requires.0 c.loop-k.invariant (omega (arith, c.loop-k-test.true))
 
 add_at : tie.Need-overflow_add-at-in-loop-k invariant_loop decreases_loop
 add_at c = let n = c.before.before in omega (arith, (near n.before).1, n.next_run-c.ensures.short)

@@ -17,7 +17,7 @@ abbrev start : tie.At-loop-k invariant_loop decreases_loop → tie.Start invaria
 start b = b.before.before.before
 
 near : (c : tie.In-loop-k invariant_loop decreases_loop) → (c.loop-k.place + 1275 ≤ 31684) × (c.loop-k.at ≤ 20024)
-near c = turn_near (start c.before).pre.0 c.loop-k.invariant (omega (arith, c.loop-k-test.true))
+near c = turn_near (start c.before).requires.0 c.loop-k.invariant (omega (arith, c.loop-k-test.true))
 
 loop_holds : tie.Need-loop-k-init invariant_loop decreases_loop
 loop_holds c = turn_start c.requires.0

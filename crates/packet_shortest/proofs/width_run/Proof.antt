@@ -29,7 +29,7 @@ add_width c = omega arith
 loop_again : tie.Need-loop-k-preserved invariant_loop decreases_loop
 loop_again c =
     let b = c.before.before.before in
-    let s = b.before.before.args.sizes.now in
+    let s = b.args.sizes.now in
     let e = c.bytes_of-width.ensures in (
       omega arith,
       omega (arith, b.loop-k.invariant.1, width_more s b.loop-k.k c.bytes_of-width.result (omega arith) e.0),
@@ -40,7 +40,7 @@ loop_again c =
 returns : tie.Need-returns invariant_loop decreases_loop
 returns c =
     let b = c.before in
-    let s = b.before.before.args.sizes.now in
+    let s = b.args.sizes.now in
     let e : b.loop-k.k ≡ length s - 1 = omega arith in
     (b.loop-k.invariant.1 ∙ ap (λ (k : ℕ). length (codes_of s k)) e, omega arith)
 

@@ -7,37 +7,37 @@ use Rattle.packet_shortest.proofs.widths_run.Tie as tie
 
 returns : tie.Need-returns-then-same
 returns c =
-    let s = c.before.before.args.sizes.now in
+    let s = c.args.sizes.now in
     record {
       most = omega arith;
-      exact = λ h. width_none s (sym c.before.before.requires ∙ c.if-same.true);
+      exact = λ h. width_none s (sym c.requires ∙ c.if-same.true);
       more = λ h. absurd
           (omega arith);
     }
 
 returns_2 : tie.Need-returns-then-sizes-gt-LONGEST_PACKET
 returns_2 c =
-    let s = c.before.before.before.args.sizes.now in
+    let s = c.args.sizes.now in
     record {
       most = omega arith;
       exact = λ h. absurd (omega arith);
       more = λ h. width_many s
-          (sym c.before.before.before.requires ∙ c.before.if-same.false) c.if-sizes-gt-LONGEST_PACKET.true;
+          (sym c.requires ∙ c.if-same.false) c.if-sizes-gt-LONGEST_PACKET.true;
     }
 
 width_run_requires : tie.Need-width_run-requires
 width_run_requires c κs =
-    let s = c.before.before.before.args.sizes.now in
-    (alike_some s (sym c.before.before.before.requires ∙ c.before.if-same.false), c.if-sizes-gt-LONGEST_PACKET.false)
+    let s = c.args.sizes.now in
+    (alike_some s (sym c.requires ∙ c.if-same.false), c.if-sizes-gt-LONGEST_PACKET.false)
 
 returns_3 : tie.Need-returns
 returns_3 c =
-    let s = c.before.before.before.before.args.sizes.now in
+    let s = c.args.sizes.now in
     let e = c.width_run.ensures in
     record {
       most = omega (arith, e.1);
       exact = λ h. width_some s _
-          (sym c.before.before.before.before.requires ∙ c.before.before.if-same.false) e.0;
+          (sym c.requires ∙ c.if-same.false) e.0;
       more = λ h. absurd (omega (arith, e.1));
     }
 

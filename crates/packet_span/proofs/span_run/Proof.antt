@@ -51,7 +51,7 @@ abbrev form : tie.After-firsts_run-c → Form
 form g = (start (first_byte g)).args.f
 
 formed : (g : tie.After-firsts_run-c) → form g ≡ form_of (packet g)
-formed g = (start (first_byte g)).requires.f_value.0
+formed g = (start (first_byte g)).requires.1.0
 
 bytes : (g : tie.After-firsts_run-c) → AtMost 255 (packet g)
 bytes g i = omega (arith, (begun (first_byte g)).shared_slice_known-1.given i)
@@ -62,21 +62,21 @@ known : (g : tie.After-firsts_run-c)
 known g fits =
     let b = first_byte g in
     let t = g.in_time in
-    let r = g.firsts_run-c.ensures.value_value in
+    let r = g.firsts_run-c.ensures.0 in
     reached (packet g) (form g) (formed g) b.byte_at-toc.result b.byte_at-toc.ensures.0 _ _ t.result t.ensures
-    g.if-in_time.true b.before.if1.left r.0 r.1 fits
+    g.if-in_time.true b.if-n-eq0.false r.0 r.1 fits
 
 -- ---- the returns
 
 returns : tie.Need-returns-then-n-eq0
 returns c =
     let z = c.before.before.before in
-    c.none.ensures ∙ broken z.args.s.now z.args.f z.requires.f_value.0 (λ k. omega (arith, k.some, c.if-n-eq0.true))
+    c.none.ensures ∙ broken z.args.s.now z.args.f z.requires.1.0 (λ k. omega (arith, k.some, c.if-n-eq0.true))
 
 returns_2 : tie.Need-returns-then-s-used
 returns_2 c =
     let g = lengths_read c.before.before in
-    let r = g.firsts_run-c.ensures.value_value in
+    let r = g.firsts_run-c.ensures.0 in
     c.none-then-s-used.ensures
     ∙ broken (packet g) (form g) (formed g) (λ k. omega (arith, k.fits, c.if-s-used.true, r.0, r.1))
 
@@ -100,7 +100,7 @@ returns_5 c =
     let a = (start b).args in
     let q = timed a.s.now a.f.count b.byte_at-toc.result _ b.byte_at-toc.ensures.0 c.in_time.ensures in
     let l = leb-false (a.f.count * duration (config_of a.s.now)) 1200 (sym q ∙ c.if-in_time.false) in
-    c.none-2.ensures ∙ broken a.s.now a.f (start b).requires.f_value.0 (λ k. omega (arith, k.time, l))
+    c.none-2.ensures ∙ broken a.s.now a.f (start b).requires.1.0 (λ k. omega (arith, k.time, l))
 
 pub span_run_spec : {M : Type 1} → statement M
 span_run_spec =

@@ -38,7 +38,7 @@ loop_again c =
 returns : tie.Need-returns invariant_loop decreases_loop
 returns c =
     let b = c.before in
-    let a = b.args.t3 in
+    let a = b.args.a in
     let e : b.loop-k.k ≡ a.count = omega arith in
     put_as b.loop-k.invariant.2 (ap (frame_lines a) e) (omega arith)
 

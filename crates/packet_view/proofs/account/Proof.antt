@@ -91,17 +91,17 @@ module _ {M : Type 1} {𝓤 : Ura M} (𝓛 : Logic 𝓤) (mem : Memory → SProp
   abbrev to : (Called 𝓛 mem run).Ghost
   to = (((κ, tt), (q, tt), tt, (d.packet, (d.reader, tt)), passed), tt)
 
-  asked : ent 𝓤 (on_entry 𝓛 by_value.signature (κ, tt) (q, tt) (d.packet, (d.reader, tt)) passed) ((Called 𝓛 mem run).pre to)
+  asked : ent 𝓤 (on_entry 𝓛 by_value.signature (κ, tt) (q, tt) (d.packet, (d.reader, tt)) passed) ((Called 𝓛 mem run).requires to)
   asked =
       qed 𝓛 ((‵ (flft κ q) ⊛ ‵ ftrue) ∷ ‵ (owns (ShrSlice (named 0) κ u8 ∷ N.the_row ∷ []) (d.packet, (d.reader, tt)) passed) ∷ []) ∵ join ! $ frame ! $ done !
 
   -- what the struct owns gives what the callee asks, and is kept
-  apart : ent 𝓤 (on_entry 𝓛 account.signature (κ, tt) (q, tt) (d, tt) (mach ∷ [], tt)) (sep 𝓤 ((Called 𝓛 mem run).pre to) (sem 𝓛 (OwnView α d)))
+  apart : ent 𝓤 (on_entry 𝓛 account.signature (κ, tt) (q, tt) (d, tt) (mach ∷ [], tt)) (sep 𝓤 ((Called 𝓛 mem run).requires to) (sem 𝓛 (OwnView α d)))
   apart =
       qed 𝓛 ((‵ (flft κ q) ⊛ ‵ ftrue) ∷ ‵ (owns (B (κ, tt) ∷ []) (d, tt) (mach ∷ [], tt)) ∷ []) ∵
       move ! (1 ∷ []) $ fsplit ! $ move ! (1 ∷ []) $ drop ! $ use1 𝓛 (‵ (Fields α d) ⊛ ‵ (OwnView α d)) (taken 𝓛 α d) $ split ! $
       -- [what the fields own; what the struct owns; the token]
-      move ! (2 ∷ 0 ∷ []) $ use2 𝓛 (raw ((Called 𝓛 mem run).pre to)) asked $ frame ! $ done !
+      move ! (2 ∷ 0 ∷ []) $ use2 𝓛 (raw ((Called 𝓛 mem run).requires to)) asked $ frame ! $ done !
 
   -- of the callee's `ensured`, the clause alone: it has no `&mut`, so what is said of last values is dropped
   said : (r : Decoded) → ent 𝓤 (ensured 𝓛 by_value.ended (by_value.clauses 𝓛 mem run) (κ, tt) (d.packet, (d.reader, tt)) tt r) (fact 𝓤 (r ≡ found))
@@ -132,7 +132,7 @@ module _ {M : Type 1} {𝓤 : Ura M} (𝓛 : Logic 𝓤) (mem : Memory → SProp
         alloc1 ! (λ l₀. alloc1 ! (λ l₁. alloc1 ! (λ l₂. alloc1 ! (λ l₃. alloc1 ! (λ l₄. alloc0 ! $ params1 ! $ pass1 ! (init ! 6 refl wt) $ pass0 ! $
         assigns ! (of_opd ! (load ! (from ! (fld ! refl (stop !))) (look_in ! 6 (sub ! 0 refl (whole !))))) (from ! (stop !)) (init ! 4 refl (tt, wt.1.0)) $
         assigns ! (of_opd ! (load ! (from ! (fld ! refl (stop !))) (look_in ! 6 (sub ! 1 refl (whole !))))) (from ! (stop !)) (init ! 0 refl (tt, wt.1.1.0)) $
-        move ! (10 ∷ []) $ use1 𝓛 (raw ((Called 𝓛 mem run).pre to) ⊛ ‵ (OwnView α d)) apart $ split ! $
+        move ! (10 ∷ []) $ use1 𝓛 (raw ((Called 𝓛 mem run).requires to) ⊛ ‵ (OwnView α d)) apart $ split ! $
         calls_at ! fm (Called 𝓛 mem run) known to
         (and_then ! (load ! (from ! (stop !)) (look ! 6 refl)) (and_then ! (load ! (from ! (stop !)) (look ! 2 refl)) (no_more !))) (λ u.
         use1 𝓛 (later (some (λ (r : Decoded). ((‵ (flft κ q) ⊛ ‵ ftrue) ⊛ ‵ ((D.the_row).own_val r (u ∷ []))) ⊛

@@ -115,14 +115,14 @@ module _ {M : Type 1} {𝓤 : Ura M} (𝓛 : Logic 𝓤) (mem : Memory → SProp
   to_open = (((κ, tt), (q, tt), tt, (s, tt), (lent_val s ∷ [], tt)), tt)
 
   goes_open : ent 𝓤 (on_entry 𝓛 first.signature κs (q, (q', tt)) args at)
-      (sep 𝓤 ((Open 𝓛 mem run).pre to_open) (sep 𝓤 (sem 𝓛 (flft κ' q')) (sep 𝓤 (sem 𝓛 (OwnLent α s)) (sem 𝓛 (OwnLent β t)))))
+      (sep 𝓤 ((Open 𝓛 mem run).requires to_open) (sep 𝓤 (sem 𝓛 (flft κ' q')) (sep 𝓤 (sem 𝓛 (OwnLent α s)) (sem 𝓛 (OwnLent β t)))))
   goes_open =
       qed 𝓛 ((‵ (flft κ q) ⊛ ‵ (flft κ' q') ⊛ ‵ ftrue) ∷ ‵ (owns (ShrSlice (named 0) κ u8 ∷ ShrSlice (named 1) κ' u8 ∷ u32 ∷ []) args at) ∷ []) ∵
       split ! $ move ! (1 ∷ []) $ split ! $ move ! (3 ∷ []) $ fsplit ! $
       use1 𝓛 (‵ (OwnLent α s) ⊛ ‵ (OwnLent α s)) ((shr_slice_copy 𝓛 (named 0) κ u8).twice s (lent_val s ∷ [])) $ split ! $
       -- [the packet; the packet; table and scale; the table's token; nothing; the packet's token]
       nothing ! $ move ! (1 ∷ 0 ∷ []) $ fjoin ! $ move ! (5 ∷ 4 ∷ []) $ join ! $
-      use2 𝓛 (raw ((Open 𝓛 mem run).pre to_open))
+      use2 𝓛 (raw ((Open 𝓛 mem run).requires to_open))
       (qed 𝓛 ((‵ (flft κ q) ⊛ ‵ ftrue) ∷ ‵ (owns (ShrSlice (named 0) κ u8 ∷ []) (s, tt) (lent_val s ∷ [], tt)) ∷ []) ∵ join ! $
       frame ! $ done !) $
       frame ! $ move ! (2 ∷ []) $ frame ! $ frame ! $ fsplit ! $ move ! (1 ∷ []) $ drop ! $ done !
@@ -136,7 +136,7 @@ module _ {M : Type 1} {𝓤 : Ura M} (𝓛 : Logic 𝓤) (mem : Memory → SProp
   to_reached a u = (((κ, tt), (q, tt), tt, (a, tt), (u ∷ [], tt)), tt)
 
   goes_reached : (a : PacketRead) (u : Val)
-      → ent 𝓤 (⋆ 𝓛 (‵ ((Read.the_row α).own_val a (u ∷ [])) ∷ (‵ (flft κ q) ⊛ ‵ ftrue) ∷ [])) ((Reached 𝓛 mem run).pre (to_reached a u))
+      → ent 𝓤 (⋆ 𝓛 (‵ ((Read.the_row α).own_val a (u ∷ [])) ∷ (‵ (flft κ q) ⊛ ‵ ftrue) ∷ [])) ((Reached 𝓛 mem run).requires (to_reached a u))
   goes_reached a u =
       qed 𝓛 (‵ ((Read.the_row α).own_val a (u ∷ [])) ∷ (‵ (flft κ q) ⊛ ‵ ftrue) ∷ []) ∵ nothing ! $ move ! (1 ∷ 0 ∷ []) $ fjoin ! $ move ! (1 ∷ 0 ∷ []) $
       join ! $ frame ! $ done !
@@ -152,7 +152,7 @@ module _ {M : Type 1} {𝓤 : Ura M} (𝓛 : Logic 𝓤) (mem : Memory → SProp
   goes_symbol : (v : PacketView) (w : Val)
       → ent 𝓤 (sep 𝓤 (⋆ 𝓛 (‵ ((View.the_row α).own_val v (w ∷ [])) ∷ (‵ (flft κ q) ⊛ ‵ ftrue) ∷ []))
       (sep 𝓤 (sem 𝓛 (flft κ' q')) (sep 𝓤 (sem 𝓛 (OwnLent α s)) (sem 𝓛 (OwnLent β t)))))
-      (sep 𝓤 ((Symbol 𝓛 mem run).pre (to_symbol v w)) (sep 𝓤 (sem 𝓛 (OwnLent α s)) (sem 𝓛 (OwnLent β t))))
+      (sep 𝓤 ((Symbol 𝓛 mem run).requires (to_symbol v w)) (sep 𝓤 (sem 𝓛 (OwnLent α s)) (sem 𝓛 (OwnLent β t))))
   goes_symbol v w =
       qed 𝓛 ((‵ ((View.the_row α).own_val v (w ∷ [])) ⊛ (‵ (flft κ q) ⊛ ‵ ftrue)) ∷ (‵ (flft κ' q') ⊛ ‵ (OwnLent α s) ⊛ ‵ (OwnLent β t)) ∷ []) ∵
       split ! $ move ! (2 ∷ []) $ split ! $ move ! (1 ∷ []) $ split ! $ move ! (1 ∷ []) $
@@ -161,7 +161,7 @@ module _ {M : Type 1} {𝓤 : Ura M} (𝓛 : Logic 𝓤) (mem : Memory → SProp
       nothing ! $ owned ! u32 (Is u32) (uint_Makes 𝓛 w32) n _ (refl, ok) $ fjoin ! $ move ! (1 ∷ 0 ∷ []) $ fjoin ! $ move ! (4 ∷ 0 ∷ []) $
       fjoin ! $
       move ! (4 ∷ []) $ split ! $ move ! (5 ∷ 1 ∷ []) $ join ! $ move ! (1 ∷ 0 ∷ []) $ join ! $
-      use2 𝓛 (raw ((Symbol 𝓛 mem run).pre (to_symbol v w)))
+      use2 𝓛 (raw ((Symbol 𝓛 mem run).requires (to_symbol v w)))
       (qed 𝓛 ((‵ (flft κ q) ⊛ ‵ (flft κ' q') ⊛ ‵ ftrue) ∷ ‵ (owns (View.the_row α ∷ ShrSlice (named 1) κ' u8 ∷ u32 ∷ [])
       (v, (t, (n, tt))) (w ∷ [], (lent_val t ∷ [], (vint w32 n ∷ [], tt)))) ∷ []) ∵
       join ! $ frame ! $ done !) $ frame ! $ move ! (1 ∷ 0 ∷ []) $ frame ! $ done !
@@ -208,7 +208,7 @@ module _ {M : Type 1} {𝓤 : Ura M} (𝓛 : Logic 𝓤) (mem : Memory → SProp
         pass1 ! (init ! 10 refl ((shr_slice_Lawful 𝓛 (named 0) κ u8).typed s (lent_val s ∷ []) p).0) $
         pass1 ! (init ! 8 refl ((shr_slice_Lawful 𝓛 (named 1) κ' u8).typed t (lent_val t ∷ []) p').0) $
         pass1 ! (init ! 6 refl (tt, record { fits = ok })) $ pass0 ! $
-        move ! (14 ∷ []) $ use1 𝓛 (raw ((Open 𝓛 mem run).pre to_open) ⊛ (‵ (flft κ' q') ⊛ ‵ (OwnLent α s) ⊛ ‵ (OwnLent β t))) goes_open $ split ! $
+        move ! (14 ∷ []) $ use1 𝓛 (raw ((Open 𝓛 mem run).requires to_open) ⊛ (‵ (flft κ' q') ⊛ ‵ (OwnLent α s) ⊛ ‵ (OwnLent β t))) goes_open $ split ! $
         calls_at ! fm (Open 𝓛 mem run) known-open to_open (and_then ! (load ! (from ! (stop !)) (look ! 12 refl)) (no_more !)) (λ u.
         use1 𝓛 (later (some (λ (a : PacketRead). ((‵ (flft κ q) ⊛ ‵ ftrue) ⊛ ‵ ((Read.the_row α).own_val a (u ∷ []))) ⊛
         raw (ensured 𝓛 open-fn.ended (open-fn.clauses 𝓛 mem run) (κ, tt) (s, tt) tt a)))) (id⊢ 𝓤 _) $ await ! tt $ pick ! (λ a.
@@ -216,7 +216,7 @@ module _ {M : Type 1} {𝓤 : Ura M} (𝓛 : Logic 𝓤) (mem : Memory → SProp
         -- [the opening's answer; the packet's token; what is kept; room for _6; …; _5; …; _4; …; _3; …; _2; …; _1; …; room for _0; …]
         peeks ! (Read.the_row α) (Is (Read.the_row α)) (shows 𝓛 (Read.the_row α)) a (u ∷ []) (λ is₁.
         land ! (from ! (stop !)) (init ! 3 refl (read_typed a u is₁)) $
-        use2 𝓛 (raw ((Reached 𝓛 mem run).pre (to_reached a u))) (goes_reached a u) $
+        use2 𝓛 (raw ((Reached 𝓛 mem run).requires (to_reached a u))) (goes_reached a u) $
         calls_at ! fm (Reached 𝓛 mem run) known-reached (to_reached a u) (and_then ! (load ! (from ! (stop !)) (look ! 2 refl)) (no_more !)) (λ w.
         use1 𝓛 (later (some (λ (v : PacketView). ((‵ (flft κ q) ⊛ ‵ ftrue) ⊛ ‵ ((View.the_row α).own_val v (w ∷ []))) ⊛
         raw (ensured 𝓛 reached.ended (reached.clauses 𝓛 mem run) (κ, tt) (a, tt) tt v)))) (id⊢ 𝓤 _) $ await ! tt $ pick ! (λ v.
@@ -225,7 +225,7 @@ module _ {M : Type 1} {𝓤 : Ura M} (𝓛 : Logic 𝓤) (mem : Memory → SProp
         -- [the view; the packet's token; what is kept; _6; …; room for _5; …]
         peeks ! (View.the_row α) (Is (View.the_row α)) (shows 𝓛 (View.the_row α)) v (w ∷ []) (λ is₂.
         land ! (from ! (stop !)) (init ! 5 refl ((LL.lawful (View.the_type αᵉ) (View'.the_laws αᵉ) 𝓛).typed v _ is₂).0) $
-        join ! $ use2 𝓛 (raw ((Symbol 𝓛 mem run).pre (to_symbol v w)) ⊛ (‵ (OwnLent α s) ⊛ ‵ (OwnLent β t))) (goes_symbol v w) $ split ! $
+        join ! $ use2 𝓛 (raw ((Symbol 𝓛 mem run).requires (to_symbol v w)) ⊛ (‵ (OwnLent α s) ⊛ ‵ (OwnLent β t))) (goes_symbol v w) $ split ! $
         calls_at ! fm (Symbol 𝓛 mem run) known-symbol (to_symbol v w)
         (and_then ! (load ! (from ! (stop !)) (look ! 4 refl)) (and_then ! (load ! (from ! (stop !)) (look ! 10 refl))
         (and_then ! (load ! (from ! (stop !)) (look ! 8 refl)) (no_more !)))) (λ x.

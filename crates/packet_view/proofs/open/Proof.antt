@@ -75,12 +75,12 @@ module _ {M : Type 1} {𝓤 : Ura M} (𝓛 : Logic 𝓤) (mem : Memory → SProp
   to = (((κ, tt), (q, tt), tt, (s, tt), (lent_val s ∷ [], tt)), tt)
 
   -- the packet is lent to the callee, and kept
-  asked : ent 𝓤 (on_entry 𝓛 open-fn.signature (κ, tt) (q, tt) (s, tt) (lent_val s ∷ [], tt)) (sep 𝓤 ((Called 𝓛 mem run).pre to) (sem 𝓛 (OwnLent α s)))
+  asked : ent 𝓤 (on_entry 𝓛 open-fn.signature (κ, tt) (q, tt) (s, tt) (lent_val s ∷ [], tt)) (sep 𝓤 ((Called 𝓛 mem run).requires to) (sem 𝓛 (OwnLent α s)))
   asked =
       qed 𝓛 ((‵ (flft κ q) ⊛ ‵ ftrue) ∷ ‵ (owns (ShrSlice (named 0) κ u8 ∷ []) (s, tt) (lent_val s ∷ [], tt)) ∷ []) ∵
       move ! (1 ∷ []) $ fsplit ! $ use1 𝓛 (‵ (OwnLent α s) ⊛ ‵ (OwnLent α s)) ((shr_slice_copy 𝓛 (named 0) κ u8).twice s (lent_val s ∷ [])) $
       split ! $
-      move ! (0 ∷ 2 ∷ []) $ fjoin ! $ move ! (2 ∷ 0 ∷ []) $ use2 𝓛 (raw ((Called 𝓛 mem run).pre to))
+      move ! (0 ∷ 2 ∷ []) $ fjoin ! $ move ! (2 ∷ 0 ∷ []) $ use2 𝓛 (raw ((Called 𝓛 mem run).requires to))
       (qed 𝓛 ((‵ (flft κ q) ⊛ ‵ ftrue) ∷ ‵ (owns (ShrSlice (named 0) κ u8 ∷ []) (s, tt) (lent_val s ∷ [], tt)) ∷ []) ∵ join ! $ frame ! $ done !) $
       frame ! $ done !
 
@@ -111,7 +111,7 @@ module _ {M : Type 1} {𝓤 : Ura M} (𝓛 : Logic 𝓤) (mem : Memory → SProp
         let wt = ((shr_slice_Lawful 𝓛 (named 0) κ u8).typed s (lent_val s ∷ []) p).0 in
         qed 𝓛 (raw (on_entry 𝓛 open-fn.signature (κ, tt) (q, tt) (s, tt) (lent_val s ∷ [], tt)) ∷ []) ∵ enter ! C Λ code.function (lent_val s ∷ []) _ $
         alloc1 ! (λ l₀. alloc1 ! (λ l₁. alloc1 ! (λ l₂. alloc0 ! $ params1 ! $ pass1 ! (init ! 2 refl wt) $ pass0 ! $
-        move ! (6 ∷ []) $ use1 𝓛 (raw ((Called 𝓛 mem run).pre to) ⊛ ‵ (OwnLent α s)) asked $ split ! $
+        move ! (6 ∷ []) $ use1 𝓛 (raw ((Called 𝓛 mem run).requires to) ⊛ ‵ (OwnLent α s)) asked $ split ! $
         calls_at ! fm (Called 𝓛 mem run) known to (and_then ! (load ! (from ! (stop !)) (look ! 4 refl)) (no_more !)) (λ u.
         use1 𝓛 (later (some (λ (r : Decoded). ((‵ (flft κ q) ⊛ ‵ ftrue) ⊛ ‵ ((D.the_row).own_val r (u ∷ []))) ⊛
         raw (ensured 𝓛 by_value.ended (by_value.clauses 𝓛 mem run) (κ, tt) (s, tt) tt r)))) (id⊢ 𝓤 _) $ await ! tt $ pick ! (λ r.

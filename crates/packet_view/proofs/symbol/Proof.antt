@@ -113,13 +113,13 @@ module _ {M : Type 1} {𝓤 : Ura M} (𝓛 : Logic 𝓤) (mem : Memory → SProp
   abbrev to : (Called 𝓛 mem run).Ghost
   to = ((κs, (q, (q', tt)), tt, given_args, passed), tt)
 
-  asked : ent 𝓤 (on_entry 𝓛 by_value.signature κs (q, (q', tt)) given_args passed) ((Called 𝓛 mem run).pre to)
+  asked : ent 𝓤 (on_entry 𝓛 by_value.signature κs (q, (q', tt)) given_args passed) ((Called 𝓛 mem run).requires to)
   asked =
       qed 𝓛 ((‵ (flft κ q) ⊛ ‵ (flft κ' q') ⊛ ‵ ftrue) ∷ ‵ (owns (ShrSlice (named 0) κ u8 ∷ N.the_row ∷ ShrSlice (named 1) κ' u8 ∷ u32 ∷ []) given_args passed) ∷ []) ∵
       join ! $ frame ! $ done !
 
   -- what view and table own gives what the callee asks, and is kept
-  apart : ent 𝓤 (on_entry 𝓛 symbol.signature κs (q, (q', tt)) args at) (sep 𝓤 ((Called 𝓛 mem run).pre to) (sep 𝓤 (sem 𝓛 (OwnView α d)) (sem 𝓛 OwnT)))
+  apart : ent 𝓤 (on_entry 𝓛 symbol.signature κs (q, (q', tt)) args at) (sep 𝓤 ((Called 𝓛 mem run).requires to) (sep 𝓤 (sem 𝓛 (OwnView α d)) (sem 𝓛 OwnT)))
   apart =
       qed 𝓛 ((‵ (flft κ q) ⊛ ‵ (flft κ' q') ⊛ ‵ ftrue) ∷ ‵ (owns (B κs ∷ ShrSlice (named 1) κ' u8 ∷ u32 ∷ []) args at) ∷ []) ∵
       move ! (1 ∷ []) $ fsplit ! $ move ! (1 ∷ []) $ fsplit ! $
@@ -128,7 +128,7 @@ module _ {M : Type 1} {𝓤 : Ura M} (𝓛 : Logic 𝓤) (mem : Memory → SProp
       move ! (2 ∷ []) $ use1 𝓛 (‵ (Fields α d) ⊛ ‵ (OwnView α d)) (taken 𝓛 α d) $ split ! $ fsplit ! $ move ! (1 ∷ []) $ fsplit ! $
       -- [what the reader owns; nothing; what the packet owns; the view; table and scale; the table; the tokens]
       move ! (1 ∷ []) $ drop ! $ move ! (0 ∷ 3 ∷ []) $ fjoin ! $ move ! (1 ∷ 0 ∷ []) $ fjoin ! $
-      move ! (3 ∷ 0 ∷ []) $ use2 𝓛 (raw ((Called 𝓛 mem run).pre to)) asked $ frame ! $ frame ! $ done !
+      move ! (3 ∷ 0 ∷ []) $ use2 𝓛 (raw ((Called 𝓛 mem run).requires to)) asked $ frame ! $ frame ! $ done !
 
   -- of what the call ensures, the clause alone: it has no `&mut`, so what is said of last values is dropped
   said : (r : Decoded) → ent 𝓤 (ensured 𝓛 by_value.ended (by_value.clauses 𝓛 mem run) κs given_args tt r) (fact 𝓤 (r ≡ found))
@@ -164,7 +164,7 @@ module _ {M : Type 1} {𝓤 : Ura M} (𝓛 : Logic 𝓤) (mem : Memory → SProp
         pass1 ! (init ! 6 refl (tt, record { fits = ok })) $ pass0 ! $
         assigns ! (of_opd ! (load ! (from ! (fld ! refl (stop !))) (look_in ! 10 (sub ! 0 refl (whole !))))) (from ! (stop !)) (init ! 4 refl (tt, wt.1.0)) $
         assigns ! (of_opd ! (load ! (from ! (fld ! refl (stop !))) (look_in ! 10 (sub ! 1 refl (whole !))))) (from ! (stop !)) (init ! 0 refl (tt, wt.1.1.0)) $
-        move ! (14 ∷ []) $ use1 𝓛 (raw ((Called 𝓛 mem run).pre to) ⊛ (‵ (OwnView α d) ⊛ ‵ OwnT)) apart $ split ! $
+        move ! (14 ∷ []) $ use1 𝓛 (raw ((Called 𝓛 mem run).requires to) ⊛ (‵ (OwnView α d) ⊛ ‵ OwnT)) apart $ split ! $
         calls_at ! fm (Called 𝓛 mem run) known to
         (and_then ! (load ! (from ! (stop !)) (look ! 6 refl)) (and_then ! (load ! (from ! (stop !)) (look ! 2 refl))
         (and_then ! (load ! (from ! (stop !)) (look ! 10 refl)) (and_then ! (load ! (from ! (stop !)) (look ! 8 refl)) (no_more !))))) (λ u.

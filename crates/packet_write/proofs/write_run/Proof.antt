@@ -25,8 +25,8 @@ begun f = start f.before.before.before
 
 short : (c : tie.After-struct_known-1) → (start c).args.p.bare ≤ 16384
 short c =
-    let w = (start c).requires.writable in
-    omega (arith, w.long, w.room, w.buffer, (shortest_range (start c).args.sizes.now).0, (start c).requires.same_value.2)
+    let w = (start c).requires.0 in
+    omega (arith, w.long, w.room, w.buffer, (shortest_range (start c).args.sizes.now).0, (start c).requires.1.2)
 
 worked : (f : tie.After-final_code-code)
     → Worked (begun f).args.p f.less-k.result f.own_run-shortest.result f.final_code-code.result
@@ -36,7 +36,7 @@ worked f =
 first_byte : (f : tie.After-final_code-code) → 8 * (begun f).args.c + f.final_code-code.result < 256
 first_byte f =
     let z = begun f in
-    omega (arith, z.pre.0.config, code_four z.args.sizes.now z.args.p z.pre.1 (worked f))
+    omega (arith, z.requires.0.config, code_four z.args.sizes.now z.args.p z.requires.1 (worked f))
 
 abbrev whole : tie.After-final_code-code → List ℕ
 whole f =
@@ -48,14 +48,14 @@ packet : (f : tie.After-final_code-code)
     → whole f ≡ packet_of (begun f).args.c (begun f).args.sizes.now (begun f).args.frames.now (begun f).args.p.length
 packet f =
     let a = (begun f).args in
-    whole_is a.sizes.now a.p (begun f).requires.same_value a.c a.frames.now (worked f)
+    whole_is a.sizes.now a.p (begun f).requires.1 a.c a.frames.now (worked f)
 
 put_whole_run_requires : tie.Need-put_whole_run-requires
 put_whole_run_requires c κs =
     let f = c.before.before in
     let a = (begun f).args in
     let s = a.sizes.now in
-    let w = (begun f).requires.writable in (
+    let w = (begun f).requires.0 in (
       (
         omega (arith, f.less-k.ensures, w.room, w.buffer),
         w.some,

@@ -33,11 +33,11 @@ silk_encode_signs_run_requires c κs =
     let s = c.before.before in
     let b = start s in
     let f = b.args.f in
-    let p = b.pre.1.1.1 in
+    let p = b.requires.1.1.1 in
     let e = row_is s in
     let w = sign_writable f.signal f.offset b.args.c p.2 p.3 in
     let good = sign_good f.signal f.offset b.args.c p.2 p.3 in
-    (b.pre.0, (b.pre.1.0, (rw e good, ((rw e (w 0 (omega arith)), rw e (w 1 (omega arith))), p.0))))
+    (b.requires.0, (b.requires.1.0, (rw e good, ((rw e (w 0 (omega arith)), rw e (w 1 (omega arith))), p.0))))
 
 returns : tie.Need-returns-then-some_pulses
 returns c =
@@ -52,7 +52,7 @@ returns_2 : tie.Need-returns
 returns_2 c =
     let b = c.before.before.before.before in
     let e = c.some_pulses.ensures c.if-some_pulses.false in
-    signs_untold _ b.args.c b.args.j b.args.part.now b.requires.part_len.1 e.0 e.1 b.requires.core
+    signs_untold _ b.args.c b.args.j b.args.part.now b.requires.1.1.1.1 e.0 e.1 b.requires.0
 
 pub block_signs_run_spec : {M : Type 1} → statement M
 block_signs_run_spec =

@@ -14,7 +14,7 @@ silk_shell_encoder_run_requires : tie.Need-silk_shell_encoder_run-requires
 silk_shell_encoder_run_requires c κs =
     let b = c.before.before.before.before.before.before.before in
     let s = c.shrink_run in
-    (b.requires.core, (b.requires.total_bound, (b.requires.pulse_rows, (b.requires.part_len.1, s.auto.0, ap total s.ensures ∙ b.requires.part_len.3))))
+    (b.requires.0, (b.requires.1.0, (b.requires.1.1.0, (b.requires.1.1.1.1, s.auto.0, ap total s.ensures ∙ b.requires.1.1.1.3))))
 
 returns : tie.Need-returns
 returns c =

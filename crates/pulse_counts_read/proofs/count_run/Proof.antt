@@ -48,14 +48,14 @@ start l = l.before.before.before.before.before.before
 ec_dec_icdf8_run_requires : tie.Need-ec_dec_icdf8_run-a-requires invariant_loop decreases_loop
 ec_dec_icdf8_run_requires c κs =
     let z = c.before.before.before in
-    let e = count_in z.args.rows.now z.args.level z.requires.pulse_rows (omega arith) in
-    (z.requires.core, (omega (arith, z.requires.total_bound), rw e (row_good (48 + z.args.level) (omega arith))))
+    let e = count_in z.args.rows.now z.args.level z.requires.1.1.0 (omega arith) in
+    (z.requires.0, (omega (arith, z.requires.1.0), rw e (row_good (48 + z.args.level) (omega arith))))
 
 loop_holds : tie.Need-loop-v-init invariant_loop decreases_loop
 loop_holds c =
     let z = c.before.before.before.before.before in
     let a = c.ec_dec_icdf8_run-a.ensures in
-    let e = count_in z.args.rows.now z.args.level z.requires.pulse_rows (omega arith) in
+    let e = count_in z.args.rows.now z.args.level z.requires.1.1.0 (omega arith) in
     record {
       rest = refl;
       core = a.core;
@@ -77,8 +77,8 @@ ec_dec_icdf8_run_requires_2 : tie.Need-ec_dec_icdf8_run-b-requires invariant_loo
 ec_dec_icdf8_run_requires_2 c κs =
     let z = start c.before.before.before in
     let l = c.loop-v in
-    let e = later_in z.args.rows.now (l.j + 1) c.later_at-at.result z.pre.1.1.0 c.later_at-at.ensures in
-    (l.invariant.core, (omega (arith, l.invariant.most, z.pre.1.0), rw e (later (l.j + 1)).good))
+    let e = later_in z.args.rows.now (l.j + 1) c.later_at-at.result z.requires.1.1.0 c.later_at-at.ensures in
+    (l.invariant.core, (omega (arith, l.invariant.most, z.requires.1.0), rw e (later (l.j + 1)).good))
 
 loop_less : tie.Need-loop-v-smaller invariant_loop decreases_loop
 loop_less c =
@@ -93,7 +93,7 @@ loop_again c =
     let t = c.loop-v-test.true in
     let p : l.j < 10 = not_tenth l.j l.v l.invariant.to l.invariant.tenth t in
     let at = c.later_at-at in
-    let e = later_in z.args.rows.now (l.j + 1) at.result z.pre.1.1.0 at.ensures in
+    let e = later_in z.args.rows.now (l.j + 1) at.result z.requires.1.1.0 at.ensures in
     let b = c.ec_dec_icdf8_run-b in
     let g = later (l.j + 1) in
     record {
@@ -114,7 +114,7 @@ returns c =
     let i = l.invariant in
     let a = c.ec_dec_icdf8_run-a in
     let n : l.v ≡ 17 → ⊥ = c.loop-v-test.false in
-    let e = count_in z.args.rows.now z.args.level z.pre.1.1.0 (omega arith) in (
+    let e = count_in z.args.rows.now z.args.level z.requires.1.1.0 (omega arith) in (
       record {
         is = sym (asked _ z.args.from _ (count_row z.args.level) (count_said 0) (λ v. low_counts 10 0 v) a.result e a.ensures)
             ∙ sym i.rest

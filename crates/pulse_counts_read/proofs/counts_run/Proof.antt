@@ -47,7 +47,7 @@ unfolding blocks_from
 loop_holds c =
     let z = c.before.before in
     record {
-      through = rw (sub-zero z.args.n) (through_start z.requires.core);
+      through = rw (sub-zero z.args.n) (through_start z.requires.0);
       to = omega arith;
       size = refl;
       size2 = refl;
@@ -59,7 +59,7 @@ count_run_requires : tie.Need-count_run-b-requires invariant_loop decreases_loop
 count_run_requires c κs =
     let z = c.before.before.before.before in
     let i = c.loop-i.invariant in
-    (i.through.core, (omega (arith, i.through.most, z.requires.total_bound, z.requires.level_bound.1), (z.requires.pulse_rows, z.requires.level_bound.0)))
+    (i.through.core, (omega (arith, i.through.most, z.requires.1.0, z.requires.1.1.1.1), (z.requires.1.1.0, z.requires.1.1.1.0)))
 
 loop_again : tie.Need-loop-i-preserved invariant_loop decreases_loop
 loop_again c =
@@ -83,7 +83,7 @@ returns : tie.Need-returns invariant_loop decreases_loop
 returns c =
     let z = start c.before in
     let l = c.loop-i in
-    (finish _ z.args.level z.args.n _ l.counts l.lows _ l.i l.invariant (omega arith) z.pre.1.1.1.1, (l.invariant.small, l.invariant.small2))
+    (finish _ z.args.level z.args.n _ l.counts l.lows _ l.i l.invariant (omega arith) z.requires.1.1.1.1, (l.invariant.small, l.invariant.small2))
 
 pub counts_run_spec : {M : Type 1} → statement M
 counts_run_spec =

@@ -52,21 +52,21 @@ loop_holds c =
     record { midway = rw (sub-zero z.args.n) (midway_start z.requires.0); to = omega arith; kept = refl }
 
 cast_count_said : tie.Need-overflow_cast-sum invariant_loop decreases_loop
-cast_count_said c = omega (arith, (start c.before).pre.1.1.1.1.0 c.loop-i.i)
+cast_count_said c = omega (arith, (start c.before).requires.1.1.1.1.0 c.loop-i.i)
 
 cast_count_said_2 : tie.Need-overflow_cast-shift invariant_loop decreases_loop
-cast_count_said_2 c = omega (arith, (start c.before).pre.1.1.1.1.1 c.loop-i.i)
+cast_count_said_2 c = omega (arith, (start c.before).requires.1.1.1.1.1 c.loop-i.i)
 
 ec_enc_icdf_run_requires : tie.Need-ec_enc_icdf_run-w-requires invariant_loop decreases_loop
 ec_enc_icdf_run_requires c κs =
     let l = c.loop-i in
     let z = start c.before.before.before.before in
     let m = l.invariant.midway in
-    let p = z.pre.1.1 in
+    let p = z.requires.1.1 in
     let e = count_in z.args.rows.now z.args.level p.0 (omega arith) in
     let v = c.count_said-first.ensures in
-    let h = first_writable (block_at z.args.t5 z.args.t6 l.i) z.args.level (p.1.1.0 l.i) (omega arith) in
-    (m.core, (omega (arith, m.most, z.pre.1.0, p.1.0.1), rw (e, v) (row_good (48 + z.args.level) (omega arith), h)))
+    let h = first_writable (block_at z.args.sums z.args.lows l.i) z.args.level (p.1.1.0 l.i) (omega arith) in
+    (m.core, (omega (arith, m.most, z.requires.1.0, p.1.0.1), rw (e, v) (row_good (48 + z.args.level) (omega arith), h)))
 
 cast_later_tell : tie.Need-overflow_cast-sum-then-shift-ne0 invariant_loop decreases_loop
 cast_later_tell c =
@@ -81,9 +81,9 @@ later_tell_requires c κs =
     let l = c.before.before.before.before.before.before.before.before.before in
     let z = start l in
     let i = l.loop-i.i in
-    let p = z.pre.1.1 in
+    let p = z.requires.1.1 in
     let a = c.ec_enc_icdf_run-w.ensures in
-    (a.core, (omega (arith, a.most, l.loop-i.invariant.midway.most, z.pre.1.0, p.1.0.1), (p.0, (p.1.1.0 i, p.1.1.1 i))))
+    (a.core, (omega (arith, a.most, l.loop-i.invariant.midway.most, z.requires.1.0, p.1.0.1), (p.0, (p.1.1.0 i, p.1.1.1 i))))
 
 loop_again : tie.Need-loop-i-preserved invariant_loop decreases_loop
 loop_again c =
@@ -91,11 +91,11 @@ loop_again c =
     let z = start h.before in
     let l = h.loop-i in
     let a = c.ec_enc_icdf_run-w in
-    let p = z.pre.1.1 in
-    let b = block_at z.args.t5 z.args.t6 l.i in
+    let p = z.requires.1.1 in
+    let b = block_at z.args.sums z.args.lows l.i in
     let e = count_in z.args.rows.now z.args.level p.0 (omega arith) in
     let v = c.count_said-first.ensures in
-    let s = counts_said z.args.t5 z.args.t6 z.args.level z.args.n l.i h.loop-i-test.true in
+    let s = counts_said z.args.sums z.args.lows z.args.level z.args.n l.i h.loop-i-test.true in
     ⊎_elim
     (λ w.
     rw (w.5, w.6)
@@ -122,8 +122,8 @@ returns : tie.Need-returns invariant_loop decreases_loop
 returns c =
     let z = start c.before in
     let l = c.loop-i in
-    told_within (omega (arith, l.invariant.to, z.pre.1.1.1.0.1))
-    (midway_end l.invariant.midway (counts_silent z.args.t5 z.args.t6 z.args.level z.args.n l.i (omega arith)))
+    told_within (omega (arith, l.invariant.to, z.requires.1.1.1.0.1))
+    (midway_end l.invariant.midway (counts_silent z.args.sums z.args.lows z.args.level z.args.n l.i (omega arith)))
 
 pub counts_tell_run_spec : {M : Type 1} → statement M
 counts_tell_run_spec =

@@ -31,7 +31,7 @@ abbrev start : tie.At-loop-j invariant_loop decreases_loop → tie.Start invaria
 start l = l.before.before.before
 
 loop_holds : tie.Need-loop-j-init invariant_loop decreases_loop
-loop_holds c = record { midway = midway_start c.requires.core; to = omega arith; kept = refl }
+loop_holds c = record { midway = midway_start c.requires.0; to = omega arith; kept = refl }
 
 sub_ec_enc_icdf_run : tie.Need-slice_bounds-ec_enc_icdf_run-count invariant_loop decreases_loop
 sub_ec_enc_icdf_run c =
@@ -49,11 +49,11 @@ ec_enc_icdf_run_requires c κs =
     let z = start c.before.before.before.before.before in
     let l = c.loop-j in
     let at = c.later_at-at in
-    let p = z.pre.1.1 in
+    let p = z.requires.1.1 in
     let e = later_in z.args.rows.now (l.j + 1) at.result p.0 at.ensures in
     let v = c.count_said-v.ensures in (
       l.invariant.midway.core,
-      (omega (arith, l.invariant.midway.most, z.pre.1.0), rw (e, v) ((later (l.j + 1)).good, said_writable (said z) (l.j + 1) p.1.0 p.1.1)),
+      (omega (arith, l.invariant.midway.most, z.requires.1.0), rw (e, v) ((later (l.j + 1)).good, said_writable (said z) (l.j + 1) p.1.0 p.1.1)),
     )
 
 loop_again : tie.Need-loop-j-preserved invariant_loop decreases_loop
@@ -63,7 +63,7 @@ loop_again c =
     let l = h.loop-j in
     let at = c.later_at-at in
     let a = c.ec_enc_icdf_run-w in
-    let e = later_in z.args.rows.now (l.j + 1) at.result z.pre.1.1.0 at.ensures in
+    let e = later_in z.args.rows.now (l.j + 1) at.result z.requires.1.1.0 at.ensures in
     let v = c.count_said-v.ensures in
     record {
       midway = midway_asked (rw (lows_left (said z) 10 l.j (omega arith) h.loop-j-test.true) at l.invariant.midway) e v a.ensures (omega arith);
@@ -78,7 +78,7 @@ returns : tie.Need-returns invariant_loop decreases_loop
 returns c =
     let z = start c.before in
     let l = c.loop-j in
-    told_within (omega arith) (midway_end l.invariant.midway (lows_said (said z) (10 - l.j) l.j (omega arith) z.pre.1.1.1.0))
+    told_within (omega arith) (midway_end l.invariant.midway (lows_said (said z) (10 - l.j) l.j (omega arith) z.requires.1.1.1.0))
 
 pub later_tell_spec : {M : Type 1} → statement M
 later_tell_spec =

@@ -37,7 +37,7 @@ abbrev start : tie.At-loop-k invariant_loop decreases_loop → tie.Start invaria
 start l = l.before.before.before
 
 counted : (c : tie.Start invariant_loop decreases_loop) → length (mags c.args.places.now) ≡ 16
-counted c = length-map c.args.places.now nat_abs ∙ c.requires.natural.1
+counted c = length-map c.args.places.now nat_abs ∙ c.requires.1.1.1.1
 
 -- the magnitude at hand
 small : (c : tie.At-loop-k invariant_loop decreases_loop) → c.loop-k.k < 16 → nat_abs (get_or c.loop-k.places c.loop-k.k (pos 0)) ≤ 16
@@ -45,7 +45,7 @@ small c l =
     let b = c.before.before.before in
     let h = counted b in
     rw (going_value _ _ _ _ _ _ (mags b.args.places.now) c.loop-k.places c.loop-k.d c.loop-k.k c.loop-k.invariant.going (omega arith))
-    (b.requires.natural.2 c.loop-k.k)
+    (b.requires.1.1.1.2 c.loop-k.k)
 
 natural_fits : (z : ℤ) → z ≡ pos (nat_abs z) → nat_abs z ≤ 16 → T (non_neg z) × Fits w32 (nat_abs z)
 natural_fits (pos n) e h = (tt, omega arith)
@@ -54,7 +54,7 @@ natural_fits (negsuc n) e h = let q : ◌≡◌ {A = ℕ} 0 1 = cc in absurd (om
 loop_holds : tie.Need-loop-k-init invariant_loop decreases_loop
 loop_holds c =
     let b = c.before.before in
-    record { going = going_start _ _ _ _ _ _ _ _ b.requires.natural.0 b.requires.core; to = omega arith; size = b.requires.natural.1 }
+    record { going = going_start _ _ _ _ _ _ _ _ b.requires.1.1.1.0 b.requires.0; to = omega arith; size = b.requires.1.1.1.1 }
 
 cast_low_bits : tie.Need-overflow_cast-m invariant_loop decreases_loop
 cast_low_bits c =
@@ -71,7 +71,7 @@ low_bits_requires c κs =
     let l = c.loop-k in
     let g = l.invariant.going.through in
     let f : SFits w16 (get_or l.places l.k (pos 0)) = sfits_of c.m-1.given in
-    (g.core, (omega (arith, g.most, b.pre.1.0), (b.pre.1.1.0.0, (rw (to_z-of_z f) (small c.before.before (omega arith)), b.pre.1.1.0.1))))
+    (g.core, (omega (arith, g.most, b.requires.1.0), (b.requires.1.1.0.0, (rw (to_z-of_z f) (small c.before.before (omega arith)), b.requires.1.1.0.1))))
 
 loop_again : tie.Need-loop-k-preserved invariant_loop decreases_loop
 loop_again c =

@@ -24,7 +24,7 @@ none b d n s e c h =
 returns : tie.Need-returns-then-n-eq0
 returns c =
     let b = c.before.before.before in
-    none _ _ b.args.n b.args.places.now c.if-n-eq0.true b.requires.core b.requires.natural.0
+    none _ _ b.args.n b.args.places.now c.if-n-eq0.true b.requires.0 b.requires.1.1.1.0
 
 pub block_lows_run_spec : {M : Type 1} → statement M
 block_lows_run_spec = tie.close (tie.spec returns (λ c κs. search rules) (λ c. search rules) (λ c. search rules))

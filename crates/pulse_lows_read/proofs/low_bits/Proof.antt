@@ -43,7 +43,7 @@ loop_holds c =
     let z = c.before.before in
     record {
       rest = ap (λ (k : ℕ). run z.args.packet.now z.args.from (low_bits k z.args.m)) (sub-zero z.args.n);
-      core = z.requires.core;
+      core = z.requires.0;
       to = omega arith;
       small = omega arith;
       least = omega arith;
@@ -54,7 +54,7 @@ ec_dec_icdf8_run_requires : tie.Need-ec_dec_icdf8_run-a-requires invariant_loop 
 ec_dec_icdf8_run_requires c κs =
     let z = c.before.before.before.before in
     let i = c.loop-j.invariant in
-    (i.core, (omega (arith, i.most, z.requires.total_bound, z.requires.m_bound.1), rw z.requires.row_value (row_good 123 (omega arith))))
+    (i.core, (omega (arith, i.most, z.requires.1.0, z.requires.1.1.1.1), rw z.requires.1.1.0 (row_good 123 (omega arith))))
 
 -- the value so far, and the bit read
 small_values : (c : tie.After-ec_dec_icdf8_run-a invariant_loop decreases_loop)
@@ -77,10 +77,10 @@ loop_again c =
     let a = c.ec_dec_icdf8_run-a in
     let q : 2 ^ (l.j + 1) ≡ 2 ^ l.j * 2 = pow-add 2 l.j 1 in
     record {
-      rest = bits_next _ l.d _ z.args.n l.j l.v a.result z.pre.1.1.0 a.ensures (omega arith) ∙ l.invariant.rest;
+      rest = bits_next _ l.d _ z.args.n l.j l.v a.result z.requires.1.1.0 a.ensures (omega arith) ∙ l.invariant.rest;
       core = a.ensures.core;
       to = omega arith;
-      small = omega (arith, l.invariant.small, a.ensures.inside, ap length z.pre.1.1.0, low_bit_size);
+      small = omega (arith, l.invariant.small, a.ensures.inside, ap length z.requires.1.1.0, low_bit_size);
       least = omega (arith, a.ensures.least);
       most = omega (arith, a.ensures.most);
     }
@@ -94,9 +94,9 @@ returns c =
         is = sym i.rest ∙ bits_end _ l.d z.args.n l.j l.v (omega arith);
         core = i.core;
         least = i.least;
-        most = omega (arith, i.most, z.pre.1.1.1.1);
+        most = omega (arith, i.most, z.requires.1.1.1.1);
       },
-      within i z.pre.1.1.1.1,
+      within i z.requires.1.1.1.1,
     )
 
 pub low_bits_spec : {M : Type 1} → statement M

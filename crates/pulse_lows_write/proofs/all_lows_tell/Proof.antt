@@ -28,19 +28,19 @@ abbrev decreases_loop : tie.decreases-loop-k
 decreases_loop buf₀ row pulses n w₀ k₀ buf w k = 16 - k
 
 counted : (c : tie.Start invariant_loop decreases_loop) → length (map nat_abs c.args.pulses.now) ≡ 16
-counted c = length-map c.args.pulses.now nat_abs ∙ c.requires.pulses_len
+counted c = length-map c.args.pulses.now nat_abs ∙ c.requires.1.1.1
 
 abbrev start : tie.At-loop-k invariant_loop decreases_loop → tie.Start invariant_loop decreases_loop
 start l = l.before.before.before
 
 loop_holds : tie.Need-loop-k-init invariant_loop decreases_loop
-loop_holds c = record { told = midway_start c.requires.core; to = omega arith; kept = refl }
+loop_holds c = record { told = midway_start c.requires.0; to = omega arith; kept = refl }
 
 low_bits_tell_requires : tie.Need-low_bits_tell-w-requires invariant_loop decreases_loop
 low_bits_tell_requires c κs =
     let z = c.before.before.before.before.before.before.before in
     let t = c.loop-k.invariant.told in
-    (t.core, (omega (arith, t.most, z.requires.total_bound), z.requires.row_value))
+    (t.core, (omega (arith, t.most, z.requires.1.0), z.requires.1.1.0))
 
 loop_again : tie.Need-loop-k-preserved invariant_loop decreases_loop
 loop_again c =

@@ -29,10 +29,10 @@ abbrev start : tie.At-loop-k invariant_loop decreases_loop → tie.Start invaria
 start l = l.before.before.before
 
 loop_holds : tie.Need-loop-k-init invariant_loop decreases_loop
-loop_holds c = record { midway = midway_start c.requires.core; to = omega arith; kept = refl }
+loop_holds c = record { midway = midway_start c.requires.0; to = omega arith; kept = refl }
 
 shr_bit : tie.Need-overflow_shr-bit invariant_loop decreases_loop
-shr_bit c = omega (arith, c.loop-k.invariant.to, c.requires.row_value.1)
+shr_bit c = omega (arith, c.loop-k.invariant.to, c.requires.1.1.1)
 
 ec_enc_icdf_run_requires : tie.Need-ec_enc_icdf_run-w-requires invariant_loop decreases_loop
 ec_enc_icdf_run_requires c κs =
@@ -42,8 +42,8 @@ ec_enc_icdf_run_requires c κs =
     let bit = z.args.m / 2 ^ (l.k - 1) % 2 in (
       m.core,
       (
-        omega (arith, m.most, z.pre.1.0, z.pre.1.1.1),
-        rw z.pre.1.1.0 (row_good 123 (omega arith), row_writable 123 bit (omega arith) (omega (arith, low_bit_size))),
+        omega (arith, m.most, z.requires.1.0, z.requires.1.1.1),
+        rw z.requires.1.1.0 (row_good 123 (omega arith), row_writable 123 bit (omega arith) (omega (arith, low_bit_size))),
       ),
     )
 
@@ -53,7 +53,7 @@ loop_again c =
     let l = c.loop-k in
     let a = c.ec_enc_icdf_run-w in
     record {
-      midway = bit_told l.k (l.k - 1) z.args.m (omega arith) l.invariant.midway z.pre.1.1.0 a.ensures (omega arith);
+      midway = bit_told l.k (l.k - 1) z.args.m (omega arith) l.invariant.midway z.requires.1.1.0 a.ensures (omega arith);
       to = omega arith;
       kept = a.auto.0 ∙ l.invariant.kept;
     }
@@ -66,7 +66,7 @@ returns c =
     let z = start c.before in
     let l = c.loop-k in
     let e : l.k ≡ 0 = omega arith in
-    told_within (omega (arith, z.pre.1.1.1)) (midway_end (rw e at l.invariant.midway) (bits_silent z.args.m _))
+    told_within (omega (arith, z.requires.1.1.1)) (midway_end (rw e at l.invariant.midway) (bits_silent z.args.m _))
 
 pub low_bits_tell_spec : {M : Type 1} → statement M
 low_bits_tell_spec =

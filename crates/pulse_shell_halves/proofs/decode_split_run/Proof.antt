@@ -18,13 +18,13 @@ start c = c.before.before.before.before
 place : (c : tie.After-split_start_run-start)
     → let a = (start c).args in
     Stands (58 + a.table * 16 + a.p) a.rows.now c.split_start_run-start.result (a.p + 1)
-place c = stands_in (start c).requires.pulse_rows.is (c.split_start_run-start.ensures (omega arith))
+place c = stands_in (start c).requires.1.1.0.is (c.split_start_run-start.ensures (omega arith))
 
 returns : tie.Need-returns-then-p-eq0
-returns c = let b = c.before.before.before in (split_none b.args.table b.args.p c.if-p-eq0.true b.requires.core, omega arith)
+returns c = let b = c.before.before.before in (split_none b.args.table b.args.p c.if-p-eq0.true b.requires.0, omega arith)
 
 add_end_2 : tie.Need-overflow_add-end-2
-add_end_2 c = omega (arith, (place c).within, (start c).requires.pulse_rows.size)
+add_end_2 c = omega (arith, (place c).within, (start c).requires.1.1.0.size)
 
 part_ec_dec_icdf8_run_end : tie.Need-slice_bounds-ec_dec_icdf8_run-end
 part_ec_dec_icdf8_run_end c = (place c).within
@@ -32,7 +32,7 @@ part_ec_dec_icdf8_run_end c = (place c).within
 ec_dec_icdf8_run_requires : tie.Need-ec_dec_icdf8_run-requires
 ec_dec_icdf8_run_requires c κs =
     let b = start c.before in
-    (b.pre.0, (b.pre.1.0, rw (lent _ (place c.before) refl) (row_good (58 + b.args.table * 16 + b.args.p) (omega arith))))
+    (b.requires.0, (b.requires.1.0, rw (lent _ (place c.before) refl) (row_good (58 + b.args.table * 16 + b.args.p) (omega arith))))
 
 returns_2 : tie.Need-returns
 returns_2 c =

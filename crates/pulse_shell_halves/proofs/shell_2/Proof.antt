@@ -22,9 +22,9 @@ returns : tie.Need-returns
 returns c =
     let b = c.before.before.before.before in
     let l = c.decode_split_run-a.result.value in
-    let h : b.args.p ≤ 16 = b.requires.p_bound.0 in
+    let h : b.args.p ≤ 16 = b.requires.1.1.1.0 in
     let a = c.decode_split_run-a.ensures in
-    rw (both_set b.args.places.now _ _ b.requires.p_bound.1, to_z_pos w16 {n = l} (omega (arith, a.1)), to_z_pos w16 {n = b.args.p - l} (omega arith))
+    rw (both_set b.args.places.now _ _ b.requires.1.1.1.1, to_z_pos w16 {n = l} (omega (arith, a.1)), to_z_pos w16 {n = b.args.p - l} (omega arith))
     (halves 0 b.args.p a.0 (one_place l a.0.core) (one_place (b.args.p - l) a.0.core))
 
 pub shell_2_spec : {M : Type 1} → statement M

@@ -16,14 +16,14 @@ abbrev start : tie.After-decode_split_run-a invariant_loop decreases_loop → ti
 start a = a.before.before.before
 
 loop_holds : tie.Need-loop-h-init invariant_loop decreases_loop
-loop_holds c = let a = c.decode_split_run-a.ensures in halving_start a.0.core a.1 (start c.before).pre.1.1.1.1
+loop_holds c = let a = c.decode_split_run-a.ensures in halving_start a.0.core a.1 (start c.before).requires.1.1.1.1
 
 shell_4_requires : tie.Need-shell_4-q-requires invariant_loop decreases_loop
 shell_4_requires c κs =
     let a = c.before.before.before.before.before in
     let p = (start a).requires.1 in
     halving_asks c.loop-h.invariant c.loop-h-test.true c.half_count_run-c.ensures
-    (omega (arith, a.decode_split_run-a.ensures.ran.most, p.0)) p.1.0 p.1.1.0
+    (omega (arith, a.decode_split_run-a.ensures.0.most, p.0)) p.1.0 p.1.1.0
 
 loop_again : tie.Need-loop-h-preserved invariant_loop decreases_loop
 loop_again c =
@@ -35,11 +35,11 @@ pub shell_8_run_spec : {M : Type 1} → statement M
 shell_8_run_spec =
     tie.close
     (tie.spec invariant_loop decreases_loop
-    (λ c κs. let p = c.requires in (p.core, (omega (arith, p.total_bound), (p.pulse_rows, (omega arith, p.p_bound.0)))))
+    (λ c κs. let p = c.requires in (p.0, (omega (arith, p.1.0), (p.1.1.0, (omega arith, p.1.1.1.0)))))
     loop_holds (λ c. search rules) (λ c. search rules)
     (λ c κs. c.loop-h.invariant.fewer)
     (λ c. search rules) (λ c. search rules) (λ c. search rules)
     (λ c. halving_fits c.loop-h.invariant c.loop-h-test.true)
     shell_4_requires (λ c. search rules) (λ c. search rules) loop_again
     (λ c. halving_kept c.loop-h.invariant)
-    (λ c. halving_end c.loop-h.invariant c.loop-h-test.false c.decode_split_run-a.ensures.ran))
+    (λ c. halving_end c.loop-h.invariant c.loop-h-test.false c.decode_split_run-a.ensures.0))

@@ -69,7 +69,7 @@ returns : tie.Need-returns
 returns c =
     let b = start c.before.before.before.before.before.before.before.before in
     let s = b.args.x.now in
-    (all_sums_lem s b.args.p b.pre.0 b.pre.2, left_sums_lem s b.pre.0)
+    (all_sums_lem s b.args.p b.requires.0 b.requires.2, left_sums_lem s b.requires.0)
 
 pub splits_of_run_spec : {M : Type 1} → statement M
 splits_of_run_spec =

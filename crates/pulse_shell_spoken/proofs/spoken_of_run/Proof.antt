@@ -27,7 +27,7 @@ abbrev decreases_loop : tie.decreases-loop-k
 decreases_loop start₀ all₀ left₀ x p tables s n₀ k₀ start all left n k = 15 - k
 
 splits_of_run_requires : tie.Need-splits_of_run-s-requires invariant_loop decreases_loop
-splits_of_run_requires c κs = c.requires.x_len
+splits_of_run_requires c κs = c.requires.1
 
 abbrev start : tie.At-loop-k invariant_loop decreases_loop → tie.Start invariant_loop decreases_loop
 start l = l.before.before.before.before.before.before
@@ -40,11 +40,11 @@ part : (c : tie.In-loop-k invariant_loop decreases_loop)
 part c =
     let b = start c.before in
     let s = c.splits_of_run-s in
-    part_at b.args.x.now s.result.all s.result.left c.loop-k.k c.loop-k-test.true (omega (arith, b.pre.1.1, b.pre.1.2))
+    part_at b.args.x.now s.result.all s.result.left c.loop-k.k c.loop-k-test.true (omega (arith, b.requires.1.1, b.requires.1.2))
     s.ensures.0 s.ensures.1
 
 loop_holds : tie.Need-loop-k-init invariant_loop decreases_loop
-loop_holds c = record { are = gathered_none c.requires.sized; few = omega arith; to = omega arith }
+loop_holds c = record { are = gathered_none c.requires.0; few = omega arith; to = omega arith }
 
 cast_split_start_run : tie.Need-overflow_cast-tables invariant_loop decreases_loop
 cast_split_start_run c = let a = part c.before in omega (arith, a.table, a.within.table)
@@ -102,13 +102,13 @@ loop_again c =
     }
 
 same_length : tie.Need-shape_of-start invariant_loop decreases_loop
-same_length c = omega (arith, c.loop-k.invariant.are.sizes.start_size, (start c.before).pre.0.start_size)
+same_length c = omega (arith, c.loop-k.invariant.are.sizes.start_size, (start c.before).requires.0.start_size)
 
 same_length_2 : tie.Need-shape_of-all invariant_loop decreases_loop
-same_length_2 c = omega (arith, c.loop-k.invariant.are.sizes.all_size, (start c.before).pre.0.all_size)
+same_length_2 c = omega (arith, c.loop-k.invariant.are.sizes.all_size, (start c.before).requires.0.all_size)
 
 same_length_3 : tie.Need-shape_of-left invariant_loop decreases_loop
-same_length_3 c = omega (arith, c.loop-k.invariant.are.sizes.left_size, (start c.before).pre.0.left_size)
+same_length_3 c = omega (arith, c.loop-k.invariant.are.sizes.left_size, (start c.before).requires.0.left_size)
 
 returns : tie.Need-returns invariant_loop decreases_loop
 returns c =

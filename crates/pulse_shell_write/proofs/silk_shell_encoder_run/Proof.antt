@@ -32,7 +32,7 @@ decreases_loop buf₀ rows places p starts alls lefts count q₀ k₀ buf q k = 
 spoken_of_run_requires : tie.Need-spoken_of_run-count-requires invariant_loop decreases_loop
 spoken_of_run_requires c κs =
     let b = c.before.before.before.before.before.before in
-    (record { start_size = refl; all_size = refl; left_size = refl }, (b.requires.p_bound.1, b.requires.p_bound.0, b.requires.p_bound.2))
+    (record { start_size = refl; all_size = refl; left_size = refl }, (b.requires.1.1.1.1, b.requires.1.1.1.0, b.requires.1.1.1.2))
 
 abbrev spoke : tie.At-loop-k invariant_loop decreases_loop → tie.After-spoken_of_run-count invariant_loop decreases_loop
 spoke l = l.before.before.before.before
@@ -45,7 +45,7 @@ abbrev parts : tie.At-loop-k invariant_loop decreases_loop → List Part
 parts l = spoken (parts_of 4 (start (spoke l)).args.places.now)
 
 loop_holds : tie.Need-loop-k-init invariant_loop decreases_loop
-loop_holds c = record { told = midway_start (start c.before.before.before).pre.0; to = omega arith; kept = refl }
+loop_holds c = record { told = midway_start (start c.before.before.before).requires.0; to = omega arith; kept = refl }
 
 -- the part at hand
 part : (c : tie.In-loop-k invariant_loop decreases_loop)
@@ -63,7 +63,7 @@ place : (c : tie.In-loop-k invariant_loop decreases_loop)
     let k = c.loop-k.k in
     let q = get_or (parts c.before) k no_part in
     Stands (58 + q.table * 16 + all_of q) (start s).args.rows.now (get_or s.spoken-of-run.last.0 k 0) (get_or s.spoken-of-run.last.1.0 k 0 + 1)
-place c = let a = part c in rw a.all_is (stands_in (start (spoke c.before)).pre.1.1.0.is a.stands)
+place c = let a = part c in rw a.all_is (stands_in (start (spoke c.before)).requires.1.1.0.is a.stands)
 
 mul_start : tie.Need-offset_bounds-starts-k invariant_loop decreases_loop
 mul_start c = omega (arith, inside c)
@@ -81,7 +81,7 @@ add_end : tie.Need-overflow_add-end invariant_loop decreases_loop
 add_end c = let a = part c in omega (arith, a.all_is, a.within.most)
 
 add_end_2 : tie.Need-overflow_add-end-in-loop-k invariant_loop decreases_loop
-add_end_2 c = omega (arith, (place c).within, (start (spoke c.before)).pre.1.1.0.size)
+add_end_2 c = omega (arith, (place c).within, (start (spoke c.before)).requires.1.1.0.size)
 
 array_read_left : tie.Need-bounds-lefts-k invariant_loop decreases_loop
 array_read_left c = inside c
@@ -105,7 +105,7 @@ ec_enc_icdf_run_requires c κs =
     let h : i < row_count = omega (arith, a.within.table, a.within.most) in (
       t.core,
       (
-        omega (arith, t.most, b.pre.1.0, l.invariant.to),
+        omega (arith, t.most, b.requires.1.0, l.invariant.to),
         rw (lent _ s refl) (row_good i h, row_writable i _ h (omega (arith, s.size, a.left_is, a.left_most, a.all_is))),
       ),
     )
@@ -134,7 +134,7 @@ returns c =
     let s = spoke c.before in
     let b = start s in
     let l = c.loop-k in
-    shell_told 4 b.args.p b.args.places.now b.pre.1.1.1.2
+    shell_told 4 b.args.p b.args.places.now b.requires.1.1.1.2
     (told_within (omega (arith, l.invariant.to))
     (places_told _ _ _ _ _ (parts c.before) l.k l.invariant.told (omega (arith, s.spoken_of_run-count.ensures.count, c.loop-k-test.false))))
 

@@ -42,9 +42,9 @@ loop_holds c =
     let b = c.before.before.before.before.before in
     record {
       gathered = c.pulse_places-n.ensures;
-      going = going_start _ _ _ _ _ _ _ _ b.requires.natural.0 b.requires.core;
+      going = going_start _ _ _ _ _ _ _ _ b.requires.1.1.1.0 b.requires.0;
       to = omega arith;
-      size = b.requires.natural.1;
+      size = b.requires.1.1.1.1;
     }
 
 abbrev start : tie.At-loop-t invariant_loop decreases_loop → tie.Start invariant_loop decreases_loop
@@ -63,15 +63,15 @@ decode_sign_requires c κs =
     let l = c.loop-t in
     let h = c.loop-t-test.true in
     let k = place c.before.before in
-    let g = reached _ _ _ _ _ _ l.places l.d l.t l.invariant h b.pre.1.1.1.1 in
-    let m : k < length b.args.places.now = omega (arith, l.invariant.gathered.below l.t h, b.pre.1.1.1.1) in
+    let g = reached _ _ _ _ _ _ l.places l.d l.t l.invariant h b.requires.1.1.1.1 in
+    let m : k < length b.args.places.now = omega (arith, l.invariant.gathered.below l.t h, b.requires.1.1.1.1) in
     let f : SFits w16 (get_or l.places k (pos 0)) = sfits_of c.m-1.given in
     let n = (l.invariant.gathered.next l.t h).some in (
       g.through.core,
       (
-        omega (arith, g.through.most, m, b.pre.1.0, b.pre.1.1.1.1),
+        omega (arith, g.through.most, m, b.requires.1.0, b.requires.1.1.1.1),
         (
-          b.pre.1.1.0,
+          b.requires.1.1.0,
           rw (to_z-of_z f) (
             signing_natural _ _ b.args.places.now _ l.places l.d k g m,
             omega (arith, n, signing_mag _ _ b.args.places.now _ l.places l.d k g m),
@@ -87,12 +87,12 @@ loop_again c =
     let l = i.loop-t in
     let h = i.loop-t-test.true in
     let k = place i.before in
-    let g = reached _ _ _ _ _ _ l.places l.d l.t l.invariant h b.pre.1.1.1.1 in
+    let g = reached _ _ _ _ _ _ l.places l.d l.t l.invariant h b.requires.1.1.1.1 in
     let a = c.decode_sign-a in
     let f : SFits w16 (get_or l.places k (pos 0)) = sfits_of c.m-1.given in
     let p : SFits w16 a.result.pulse = search rules in
     let s = b.args.places.now in
-    let m : k < length (mags s) = omega (arith, l.invariant.gathered.below l.t h, b.pre.1.1.1.1, length-map s nat_abs) in
+    let m : k < length (mags s) = omega (arith, l.invariant.gathered.below l.t h, b.requires.1.1.1.1, length-map s nat_abs) in
     rw (to_z-of_z p, add-one)
     (record {
       gathered = l.invariant.gathered;
@@ -111,7 +111,7 @@ returns c =
     let e : l.t ≡ c.pulse_places-n.result = omega (arith, i.to) in
     let r = i.gathered in
     let s = b.args.places.now in
-    let n = b.pre.1.1.1.1 in
+    let n = b.requires.1.1.1.1 in
     let g = rw e at i.going in
     signing_ended _ _ s _ l.places l.d (signing_bare _ _ s _ l.places l.d _ 16 r.to (omega (arith, n)) r.rest g) n
 

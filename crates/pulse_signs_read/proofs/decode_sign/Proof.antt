@@ -26,14 +26,14 @@ minus_fits m e f =
 sub_pulse : tie.Need-overflow_sub-pulse
 sub_pulse c =
     let b = c.before.before.before.before.before.before in
-    rw (to_z-of_z b.ranges.m) (minus_fits b.args.m b.requires.m_value.0 b.ranges.m)
+    rw (to_z-of_z b.ranges.m) (minus_fits b.args.m b.requires.1.1.1.0 b.ranges.m)
 
 returns : tie.Need-returns-then-a-eq0
 returns c =
     let b = c.before.before.before.before.before.before in
     let m = b.args.m in
-    rw (to_z-of_z b.ranges.m, to_z-of_z {w = w16} (minus_fits m b.requires.m_value.0 b.ranges.m), minus m b.requires.m_value.0)
-    (sign_minus b.args.row.now (nat_abs m) b.requires.m_value.1 c.ec_dec_icdf8_run-a.ensures c.if-a-eq0.true)
+    rw (to_z-of_z b.ranges.m, to_z-of_z {w = w16} (minus_fits m b.requires.1.1.1.0 b.ranges.m), minus m b.requires.1.1.1.0)
+    (sign_minus b.args.row.now (nat_abs m) b.requires.1.1.1.1 c.ec_dec_icdf8_run-a.ensures c.if-a-eq0.true)
 
 returns_2 : tie.Need-returns
 returns_2 c =
@@ -41,8 +41,8 @@ returns_2 c =
     let m = b.args.m in
     let r = c.ec_dec_icdf8_run-a in
     rw (to_z-of_z b.ranges.m)
-    (subst (λ (z : ℤ). Ran b.args.packet.now b.args.d (sign b.args.row.now (nat_abs m)) 16 z r.result.state) (sym b.requires.m_value.0)
-    (sign_plus b.args.row.now (nat_abs m) b.requires.m_value.1 r.ensures c.if-a-eq0.false))
+    (subst (λ (z : ℤ). Ran b.args.packet.now b.args.d (sign b.args.row.now (nat_abs m)) 16 z r.result.state) (sym b.requires.1.1.1.0)
+    (sign_plus b.args.row.now (nat_abs m) b.requires.1.1.1.1 r.ensures c.if-a-eq0.false))
 
 pub decode_sign_spec : {M : Type 1} → statement M
 decode_sign_spec = tie.close (tie.spec (λ c κs. search rules) sub_pulse returns returns_2)

@@ -46,7 +46,7 @@ symbol c k h =
 loop_holds : tie.Need-loop-k-init invariant_loop decreases_loop
 loop_holds c =
     let b = c.before.before.before.before.before in
-    record { told = signs_start _ _ _ b.requires.core; to = omega arith; kept = refl }
+    record { told = signs_start _ _ _ b.requires.0; to = omega arith; kept = refl }
 
 array_read_ec_enc_icdf_run : tie.Need-bounds-symbols-k invariant_loop decreases_loop
 array_read_ec_enc_icdf_run c = omega (arith, c.signs_said-count.ensures.0)
@@ -66,8 +66,8 @@ ec_enc_icdf_run_requires c κs =
     let few = signs_bits b.args.pulses.now l.k in (
       t.core,
       (
-        omega (arith, t.most, b.requires.total_bound, s.signs_said-count.ensures.0),
-        (b.requires.icdf, bit_writable _ (omega (arith, symbol s l.k (omega arith), few)) b.requires.writable),
+        omega (arith, t.most, b.requires.1.0, s.signs_said-count.ensures.0),
+        (b.requires.1.1.0, bit_writable _ (omega (arith, symbol s l.k (omega arith), few)) b.requires.1.1.1.0),
       ),
     )
 

@@ -31,7 +31,7 @@ loop_holds c = (omega arith, sym (ap (every (inside c)) (drop-length c.args.xs.n
 loop_again : tie.Need-loop-k-preserved invariant_loop decreases_loop
 loop_again c =
     let b = c.before.before in
-    let xs = b.before.args.xs.now in
+    let xs = b.args.xs.now in
     let j = b.loop-k.k - 1 in
     let f : SFits w8 (get_or xs j (pos 0)) = sfits_of c.x-1.given in
     let e : b.loop-k.k ≡ suc j = omega arith in
@@ -45,11 +45,11 @@ loop_again c =
 returns : tie.Need-returns invariant_loop decreases_loop
 returns c =
     let b = c.before in
-    let xs = b.before.args.xs.now in
+    let xs = b.args.xs.now in
     let e : b.loop-k.k ≡ 0 = omega arith in
     b.loop-k.invariant.1
     ∙ ap (λ (n : ℕ). every (inside b.before) (drop n xs)) e
-    ∙ ap₂ (λ (lo hi : ℤ). every (in_range lo hi) xs) (to_z-of_z b.before.ranges.least) (to_z-of_z b.before.ranges.most)
+    ∙ ap₂ (λ (lo hi : ℤ). every (in_range lo hi) xs) (to_z-of_z b.ranges.least) (to_z-of_z b.ranges.most)
 
 pub all_in_range_spec : {M : Type 1} → statement M
 all_in_range_spec =

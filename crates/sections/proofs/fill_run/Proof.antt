@@ -32,7 +32,7 @@ loop_again c =
     let a = b.args in
     let i = b.loop-i.i in
     let v = b.loop-i.values in
-    let x = to_z-of_z {w = w16} (sfits_of c.value-at-run.type-inv) ∙ c.value_at_run-x.ensures in (
+    let x = to_z-of_z {w = w16} (sfits_of c.value_at_run-x.type_inv) ∙ c.value_at_run-x.ensures in (
       search rules,
       length-set v i _ ∙ b.loop-i.invariant.1,
       rw add-one

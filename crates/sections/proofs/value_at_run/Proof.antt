@@ -24,7 +24,7 @@ returns c =
     let h = c.byte_at in
     let l = c.byte_at-2 in
     let e : to_z w32 (256 * h.result + l.result) ≡ pos (256 * h.result + l.result) = to_z_pos w32 (search rules) in
-    to_z-of_z {w = w16} (sfits_of c.fold16-run.type-inv)
+    to_z-of_z {w = w16} (sfits_of c.fold16_run.type_inv)
     ∙ c.fold16_run.ensures
     ∙ ap wrap16 e
     ∙ ap₂ (λ (a b : ℕ). wrap16 (pos (256 * a + b))) h.ensures.0 l.ensures.0

@@ -20,7 +20,7 @@ put_counted_run_requires : tie.Need-put_counted_run-requires
 put_counted_run_requires c κs =
     let b = c.before.before.before.before.before.before.before.before.before in
     let a = b.before.before.before in
-    let h = a.requires.small.values b.if-a-eq0.true in
+    let h = a.requires.1.values b.if-a-eq0.true in
     (omega arith, omega arith)
 
 -- an accepted vector's lines, in their order
@@ -37,7 +37,7 @@ returns c =
     let b = c.before.before.before.before.before.before.before in
     let t = b.before.before.before.before.before in
     let a = t.before.before.before in
-    let h = a.requires.small.values t.if-a-eq0.true in
+    let h = a.requires.1.values t.if-a-eq0.true in
     put_as (put_then b.put_line_run-place.ensures c.put_counted_run.ensures)
     (rw (to_z_pos w16 {n = a.args.a.moves} (omega arith))
     (accepted (record { vector = a.args.vector.now; answer = a.args.a }) t.if-a-eq0.true))

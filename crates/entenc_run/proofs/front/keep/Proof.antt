@@ -11,8 +11,8 @@ use Rattle.entenc_run.proofs.front.keep.Tie as tie
 normalize_requires : tie.Need-normalize-requires
 normalize_requires c κs =
     let b = c.before.before.before.before in
-    let o = b.requires.core in
-    let k = b.requires.cut_ok in (
+    let o = b.requires.0 in
+    let k = b.requires.1.1 in (
       record {
         roomy =
             record {
@@ -21,8 +21,8 @@ normalize_requires c κs =
               within = o.roomy.within;
             };
         some = omega (arith, k.some);
-        run = omega (arith, o.tidy, b.requires.total_bound);
-        few = omega (arith, b.requires.total_bound);
+        run = omega (arith, o.tidy, b.requires.1.0);
+        few = omega (arith, b.requires.1.0);
       },
       omega (arith, k.some),
     )
@@ -33,7 +33,7 @@ returns c =
     let w = b.args.w in
     let o = out b.args.buf.now w in
     let e : c.wrapping_add_u32.result ≡ w.val + (w.rng - b.args.t) = omega arith in
-    cut_step o _ b.args.t b.args.s b.requires.core b.requires.total_bound b.requires.cut_ok
+    cut_step o _ b.args.t b.args.s b.requires.0 b.requires.1.0 b.requires.1.1
     (c.normalize.ensures
     ∙ ap (λ (v : ℕ). settled (at_turn o (b.args.t - b.args.s) v w.total)) e
     ∙ cut_is o b.args.t b.args.s)

@@ -15,7 +15,7 @@ abbrev decreases_loop : tie.decreases-loop-w
 decreases_loop buf₀ w₀ buf w = 2 ^ 24 - w.rng
 
 loop_holds : tie.Need-loop-w-init invariant_loop decreases_loop
-loop_holds c = (refl, c.requires.ready, c.requires.le_rng, refl)
+loop_holds c = (refl, c.requires.0, c.requires.1, refl)
 
 turn_requires : tie.Need-turn-w-requires invariant_loop decreases_loop
 turn_requires c κs = (c.loop-w.invariant.1, c.loop-w-test.true)

@@ -18,8 +18,8 @@ returns c =
     let f = c.spare_for-a in
     let a = f.result in
     let e : c.wrapping_add_u32.result ≡ a.window + v * 2 ^ a.wbits
-    = c.wrapping_add_u32.ensures ∙ window_sum a.window v a.wbits n f.ensures.windowed.slim b.requires.le_n.2 f.ensures.free in
-    append_step o _ n v b.requires.core b.requires.total_bound b.requires.le_n.1 b.requires.le_n.2
+    = c.wrapping_add_u32.ensures ∙ window_sum a.window v a.wbits n f.ensures.windowed.slim b.requires.1.1.2 f.ensures.free in
+    append_step o _ n v b.requires.0 b.requires.1.0 b.requires.1.1.1 b.requires.1.1.2
     (ap (λ (x : ℕ). at_window (out f.new.0 a) x (a.wbits + n) (w.total + n)) e
     ∙ ap (λ (p : Out). at_window p (p.state.window + v * 2 ^ p.state.wbits) (p.state.wbits + n) (w.total + n)) f.ensures.is
     ∙ append_is o n v)

@@ -48,7 +48,7 @@ to_stabilise : (q : tie.After-narrow_gaps-gaps) → let a = (start (rowed q)).ar
 to_stabilise q =
     let d = rowed q in
     let p = q.places_run in
-    handed narrow_usable narrow_shaped.order (lent_are d) (start d).pre q.narrow_gaps-gaps.ensures p.ensures p.auto.0
+    handed narrow_usable narrow_shaped.order (lent_are d) (start d).requires q.narrow_gaps-gaps.ensures p.ensures p.auto.0
 
 stays : tie.Need-returns-then-stays_run
 stays c =

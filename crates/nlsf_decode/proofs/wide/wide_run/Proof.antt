@@ -48,7 +48,7 @@ to_stabilise : (q : tie.After-wide_gaps-gaps) → let a = (start (rowed q)).args
 to_stabilise q =
     let d = rowed q in
     let p = q.places_run in
-    handed wide_usable wide_shaped.order (lent_are d) (start d).pre q.wide_gaps-gaps.ensures p.ensures p.auto.0
+    handed wide_usable wide_shaped.order (lent_are d) (start d).requires q.wide_gaps-gaps.ensures p.ensures p.auto.0
 
 stays : tie.Need-returns-then-stays_run
 stays c =

@@ -9,8 +9,7 @@ use mir.Val.{has_key}
 use Rattle.lists.proofs.EveryLaws.{every_below, below_at}
 use Rattle.framing.specs.Toc.{durations, duration}
 use Rattle.packet_time.proofs.DurationLaws.{arm, skipped}
-use Rattle.packet_time.proofs.duration_run.Statement.{statement}
-use Rattle.packet_time.proofs.duration_run.Tie as tie
+use Rattle.packet_time.proofs.duration_run.Goals as goal
 
 abbrev shortest : List ℕ
 shortest = 16 ∷ 20 ∷ 24 ∷ 28 ∷ []
@@ -43,29 +42,26 @@ first v = has_key short v || second v
 each : every_below (λ v. has_key shortest v || first v) 32 ≡ true
 each = unfold durations in refl
 
-returns : tie.Need-returns-in-16
-returns c = arm shortest 25 _ (unfold durations in refl) c.match.keys1
+pub returns-in-16 : goal.returns-in-16
+returns-in-16 c = arm shortest 25 _ (unfold durations in refl) c.in-16.is
 
-returns_2 : tie.Need-returns-in-17
-returns_2 c = arm short 50 _ (unfold durations in refl) c.match.keys2
+pub returns-in-17 : goal.returns-in-17
+returns-in-17 c = arm short 50 _ (unfold durations in refl) c.in-17.is
 
-returns_3 : tie.Need-returns-in-1
-returns_3 c = arm usual 200 _ (unfold durations in refl) c.match.keys3
+pub returns-in-1 : goal.returns-in-1
+returns-in-1 c = arm usual 200 _ (unfold durations in refl) c.in-1.is
 
-returns_4 : tie.Need-returns-in-2
-returns_4 c = arm long 400 _ (unfold durations in refl) c.match.keys4
+pub returns-in-2 : goal.returns-in-2
+returns-in-2 c = arm long 400 _ (unfold durations in refl) c.in-2.is
 
-returns_5 : tie.Need-returns-in-3
-returns_5 c = arm longest 600 _ (unfold durations in refl) c.match.keys5
+pub returns-in-3 : goal.returns-in-3
+returns-in-3 c = arm longest 600 _ (unfold durations in refl) c.in-3.is
 
-returns_6 : tie.Need-returns-in_default
-returns_6 c =
+pub returns-in_default : goal.returns-in_default
+returns-in_default c =
     let v = c.args.config in
-    let o = c.match.rest in
+    let o = c.in_default.in_default-own in
     let e = below_at (λ n. has_key shortest n || first n) 32 each v c.requires in
     let d = skipped short v (second v) o.0.0.0.1 (skipped shortest v (first v) o.0.0.0.0.1 e) in
     let b = skipped long v (fourth v) o.0.1 (skipped usual v (third v) o.0.0.1 d) in
     eqb-true 100 (duration v) (skipped longest v (eqb 100 (duration v)) o.1 b)
-
-pub duration_run_spec : {M : Type 1} → statement M
-duration_run_spec = tie.close (tie.spec returns returns_2 returns_3 returns_4 returns_5 returns_6)
