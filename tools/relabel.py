@@ -12,7 +12,6 @@ import re
 import sys
 
 FIELDS = {'ensures', 'result', 'true', 'false', 'invariant', 'given', 'after', 'new', 'is', 'branch', 'auto', 'was', 'fits', 'match', 'requires', 'type-inv', 'type_inv'}
-ATOM = re.compile(r'\([^()]*(?:\([^()]*(?:\([^()]*\)[^()]*)*\)[^()]*)*\)|[^\s()]+')
 
 
 def plain(name):
@@ -49,14 +48,16 @@ def arguments(text):
     start = text.find('tie.spec')
     if start < 0:
         return None
-    depth, end = 0, start
-    for end in range(start, len(text)):
-        depth += (text[end] == '(') - (text[end] == ')')
+    found, depth = [''], 0
+    for sign in text[start + len('tie.spec'):]:
+        depth += (sign == '(') - (sign == ')')
         if depth < 0:
             break
-    else:
-        end = len(text)
-    return ATOM.findall(text[start + len('tie.spec'):end])
+        if depth == 0 and sign.isspace():
+            found.append('')
+        else:
+            found[-1] += sign
+    return [it for it in found if it]
 
 
 def fitting(given, goals, asked):
@@ -139,7 +140,7 @@ def turned(text, names, say):
                 continue
             new = names.steps.get(plain(parts[i]))
             ends = i + 1 == len(parts) and (i > 1 or parts[0] == 'c')
-            if new and (ends or i + 1 < len(parts) and (parts[i + 1] in FIELDS or plain(parts[i]).startswith('loop'))):
+            if new and (ends or i + 1 < len(parts) and (parts[i + 1] in FIELDS or re.match('loop|if[0-9]', plain(parts[i])))):
                 parts[i] = new
         # A step is found from any place behind it.
         last = 1

@@ -2,7 +2,6 @@
 use borrow.Author.Rules.{rules}
 use Prim.Native.Nat.{◌-◌}
 use mathlib.Core.Path.{◌≡◌, refl, sym}
-use mathlib.Core.Logic.{⊎_elim}
 use native.Mathlib.Omega.{arith}
 use lib.ListN.{length}
 use Rattle.entcode.specs.Flat.{out}
@@ -10,6 +9,7 @@ use Rattle.silk.proofs.PulsePlans.{suited_at}
 use Rattle.silk.proofs.PulseTelling.{SplitsTelling}
 use Rattle.encode_pulses_run.proofs.Empty.{splits_untold}
 use Rattle.encode_pulses_run.proofs.Rounds.{block_size, round_start, round_next, round_end}
+use Rattle.encode_pulses_run.proofs.splits.Lts.{then-c-ne0, else-c-ne0}
 use Rattle.encode_pulses_run.proofs.splits.Statement.{statement}
 use Rattle.encode_pulses_run.proofs.splits.Tie as tie
 
@@ -47,10 +47,10 @@ loop_again : tie.Need-loop-i-preserved invariant_loop decreases_loop
 loop_again c =
     let t = c.before.before.before in
     let g = t.loop-i.invariant in
-    ⊎_elim
-    (λ a. rw (a.6, a.7) (round_next g t.loop-i-test.true a.3.ensures a.3.kept.0))
-    (λ a. rw (a.1, a.2) (round_next g t.loop-i-test.true (splits_untold _ _ a.0.left g.0.midway.core) refl))
-    c.if-c-ne0.branch
+    elim c.if-c-ne0.branch [
+      then-c-ne0 a ↦ rw (a.buf-is, a.w-is) (round_next g t.loop-i-test.true a.block_splits_run-w.ensures a.block_splits_run-w.auto.buf)
+    | else-c-ne0 a ↦ rw (a.buf-is, a.w-is) (round_next g t.loop-i-test.true (splits_untold _ _ a.if-c-ne0.false g.0.midway.core) refl)
+    ]
 
 pub splits_spec : {M : Type 1} → statement M
 splits_spec =

@@ -127,7 +127,7 @@ raw_bits_run_requires c κs =
 
 returns : tie.Need-returns
 returns c =
-    let r = c.before.before in
+    let r = c.before.before.before in
     let b = begun (chosen r) in
     let p = b.args.packet.now in
     let d = b.args.d in

@@ -38,7 +38,7 @@ loop_again c =
     let e = c.flush_byte-w.ensures in (
       rw e (flushed_step o h ∙ l.invariant.0),
       rw e (shed_kept o l.invariant.1 h),
-      c.flush_byte-w.auto.0 ∙ l.invariant.2,
+      c.flush_byte-w.auto.buf ∙ l.invariant.2,
     )
 
 same_length : tie.Need-shape_of-buf invariant_loop decreases_loop

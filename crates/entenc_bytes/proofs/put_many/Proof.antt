@@ -34,7 +34,7 @@ loop_again c =
     let e = c.put_byte-w.ensures in (
       rw e (many_one _ _ _ c.loop-n-test.true ∙ i.0),
       rw e (put_roomy _ _ i.1),
-      c.put_byte-w.auto.0 ∙ i.2,
+      c.put_byte-w.auto.buf ∙ i.2,
     )
 
 same_length : tie.Need-shape_of-buf invariant_loop decreases_loop

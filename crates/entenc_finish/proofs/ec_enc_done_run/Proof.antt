@@ -38,7 +38,7 @@ begun c = c.before.before.before.before.before
 abbrev start : tie.After-put_digits_run-a → Out
 start c = out (begun c).args.buf.now (begun c).args.w
 
-coded : (c : tie.After-put_digits_run-a) → out c.put_digits_run-a.new.0 c.put_digits_run-a.result ≡ fronted (start c)
+coded : (c : tie.After-put_digits_run-a) → out c.put_digits_run-a.new.buf c.put_digits_run-a.result ≡ fronted (start c)
 coded c = front (start c) _ _ _ _ (chosen c).end_bits_run-bits.ensures c.round_up_run-end.ensures refl c.put_digits_run-a.ensures
 
 -- where the window's bytes are out
@@ -84,7 +84,7 @@ returns : tie.Need-returns
 returns c =
     let f = c.before.before.before.before.before.before in
     let o = start (digits f) in
-    let l = (chosen (digits f)).end-bits-run in
+    let l = (chosen (digits f)).end_bits_run-bits in
     let j = 8 * ((l.result + 7) / 8) - l.result in
     let e : j ≡ spare_bits (bits_of o.state.rng o.state.val) = ap spare_bits l.ensures in
     ap (λ (q : Out). at_window q o.state.window o.state.wbits q.state.total)

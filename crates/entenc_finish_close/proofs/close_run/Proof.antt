@@ -27,7 +27,7 @@ stow_run_requires : tie.Need-stow_run-requires
 stow_run_requires c κs =
     let a = c.before.before.before.before.before in
     let p = (begun a).requires.0 in
-    let n = a.clear.auto.0 in (
+    let n = a.clear.auto.buf in (
       record {
         roomy =
             record {
@@ -56,7 +56,7 @@ returns_2 c =
     let o = start a in
     let f = (begun a).requires.0.roomy.fair in
     let u : o.state.wbits ≡ 0 = omega (arith, c.if-w-gt0.false) in
-    close_whole o (begun a).args.j _ f a.clear.auto.0 (a.clear.ensures ∙ middle o f) (good a) u
+    close_whole o (begun a).args.j _ f a.clear.auto.buf (a.clear.ensures ∙ middle o f) (good a) u
 
 returns_3 : tie.Need-returns-else-w-eq0
 returns_3 c =

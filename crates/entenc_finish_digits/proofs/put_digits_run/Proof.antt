@@ -46,7 +46,7 @@ loop_again c =
       k.held,
       omega (arith, k.run, i.3),
       omega arith,
-      c.carry_out_run-w.auto.0 ∙ i.5,
+      c.carry_out_run-w.auto.buf ∙ i.5,
     )
 
 put_rest_requires : tie.Need-put_rest-requires invariant_loop decreases_loop
@@ -55,7 +55,7 @@ put_rest_requires c κs =
     (i.1, (i.2, omega (arith, i.3)))
 
 same_length : tie.Need-shape_of-buf invariant_loop decreases_loop
-same_length c = c.put_rest.auto.0 ∙ c.loop-n.invariant.5
+same_length c = c.put_rest.auto.buf ∙ c.loop-n.invariant.5
 
 returns : tie.Need-returns invariant_loop decreases_loop
 returns c =

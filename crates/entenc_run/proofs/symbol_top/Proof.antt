@@ -1,23 +1,27 @@
 -- `symbol_top` meets its contract: the entry before times the unit. Assumes nothing.
-use Rattle.std.proofs.Common.{◌≡◌, ℕ, ◌-◌, ◌*◌, ◌<◌, length, get_or, ap, ◌∙◌, ⊎_elim, arith, rules}
+use Rattle.std.proofs.Common.{◌≡◌, ℕ, ◌-◌, ◌*◌, ◌<◌, length, get_or, ap, ◌∙◌, arith, rules}
 use Rattle.entenc_run.proofs.Parts.{later_top}
+use Rattle.entenc_run.proofs.symbol_top.Lts.{then-i-eq0, else-i-eq0}
 use Rattle.entenc_run.proofs.symbol_top.Statement.{statement}
 use Rattle.entenc_run.proofs.symbol_top.Tie as tie
 
 -- where the entry stands
-at : (c : tie.Joined-i-eq0) → (c.if1.j < length c.args.table.now) × ((c.args.k ≡ 0 → ⊥) → c.if1.j ≡ c.args.k - 1)
+at : (c : tie.Joined-i-eq0) → (c.if-i-eq0.j < length c.args.table.now) × ((c.args.k ≡ 0 → ⊥) → c.if-i-eq0.j ≡ c.args.k - 1)
 at c =
     let h = c.requires.0 in
-    ⊎_elim (λ w. (omega (arith, w.0.taken, w.1), λ n. absurd (n w.0.taken))) (λ w. (omega (arith, w.1), λ n. w.1)) c.if-i-eq0.branch
+    elim c.if-i-eq0.branch [
+      then-i-eq0 w ↦ (omega (arith, w.if-i-eq0.true, w.j-is), λ n. absurd (n w.if-i-eq0.true))
+    | else-i-eq0 w ↦ (omega (arith, w.j-is), λ n. w.j-is)
+    ]
 
 shared_slice_read_part : tie.Need-bounds-table-j
 shared_slice_read_part c = (at c.before).0
 
 cast_part : tie.Need-overflow_cast-part
-cast_part c = omega (arith, c.shared_slice_known-1.given c.before.if1.j)
+cast_part c = omega (arith, c.shared_slice_known-1.given c.before.if-i-eq0.j)
 
 mul_part : tie.Need-overflow_mul-part
-mul_part c = omega (arith, c.requires.1 c.before.if1.j)
+mul_part c = omega (arith, c.requires.1 c.before.if-i-eq0.j)
 
 returns_2 : tie.Need-returns-else-k-eq0
 returns_2 c =

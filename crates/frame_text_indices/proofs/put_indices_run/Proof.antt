@@ -61,7 +61,7 @@ same_length c =
     let s = i.before.before.before.before.before.before in
     let g = s.before.before.before.before in
     let k = g.before.before.before.before in
-    o.put_one_run.auto.0
+    o.put_one_run-place.auto.0
     ∙ p.put_pitch_run-place.auto.0
     ∙ i.put_one_run-place.auto.0
     ∙ s.put_spectrum-place.auto.0
@@ -80,7 +80,7 @@ returns c =
     let z = k.before.before.before in
     let t = put_then (put_then k.put_kind_run-place.ensures g.put_gains-place.ensures) s.put_spectrum-place.ensures in
     let u = put_then (put_then t (rw (to_z-of_z (interp_fits z)) at i.put_one_run-place.ensures)) p.put_pitch_run-place.ensures in
-    put_then u (rw (to_z-of_z (seed_fits z)) at o.put_one_run.ensures)
+    put_then u (rw (to_z-of_z (seed_fits z)) at o.put_one_run-place.ensures)
 
 pub put_indices_run_spec : {M : Type 1} → statement M
 put_indices_run_spec =

@@ -28,9 +28,9 @@ returns c =
     let g : SFits w8 m.result = search rules in
     let e : c.all_in_range.result ≡ every (in_range (pos 0) m.result) (take (z.args.subframes - 0) (drop 0 z.args.ltp)) =
     rw (to_z-of_z g) at c.all_in_range.ensures in
-    rw (to_z-of_z z.fits.period, e)
+    rw (to_z-of_z z.ranges.period, e)
     (filters_tested z.args.subframes z.args.ltp z.args.period m.result (omega (arith, size z, subframes_most z.requires))
-    (rw (to_z-of_z z.fits.period) at m.ensures))
+    (rw (to_z-of_z z.ranges.period) at m.ensures))
 
 pub filters_ok_spec : {M : Type 1} → statement M
 filters_ok_spec =

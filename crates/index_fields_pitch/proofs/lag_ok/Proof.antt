@@ -32,7 +32,7 @@ returns c =
     let m = 16 * c.args.khz - 1 in
     let e : to_z w16 m ≡ pos m = to_z_pos w16 {n = m} (omega (arith, rate_bounds c.requires)) in
     let t : Decides (in_range (pos 0) (to_z w16 m) c.args.lag) (Upto m c.args.lag) = rw e (upto_tested m c.args.lag) in
-    rw (to_z-of_z c.fits.lag) t
+    rw (to_z-of_z c.ranges.lag) t
 
 pub lag_ok_spec : {M : Type 1} → statement M
 lag_ok_spec = tie.close (tie.spec mul_most sub_most cast_most returns)

@@ -28,10 +28,10 @@ module _ (z : tie.Start) where
   kept = to_z w8 (of_z w8 z.args.z)
 
   low_is : lt_z kept (pos 0) ≡ true → negsuc 3 -ℤ kept ≡ pos (nat_abs z.args.z - 4)
-  low_is = rw (to_z-of_z z.fits.z) (past_low z.args.z z.requires.0)
+  low_is = rw (to_z-of_z z.ranges.z) (past_low z.args.z z.requires.0)
 
   high_is : lt_z kept (pos 0) ≡ false → kept -ℤ pos 4 ≡ pos (nat_abs z.args.z - 4)
-  high_is = rw (to_z-of_z z.fits.z) (past_high z.args.z z.requires.0)
+  high_is = rw (to_z-of_z z.ranges.z) (past_high z.args.z z.requires.0)
 
   fits : SFits w8 (pos (nat_abs z.args.z - 4))
   fits = record { sfits = omega (arith, z.requires.1) }

@@ -133,12 +133,12 @@ odd_residual c =
     let f : SFits w8 x = sfits_of c.residual-arg-1.given in
     let l : c.predictor.result ≡ predictor_of t.lists (get_or t.selectors k 0 / 16 % 2) j = c.predictor.ensures in
     let p = l ∙ odd_by t.selectors t.lists k in
-    let r = to_z w32 b.loop-k.r in
+    let r = to_z w32 b.loop-k.r-bits in
     let g = scaled s.args.step x in
     to_z-of_z {w = w32} (sfits_of c.residual-r.type_inv)
     ∙ (rw (to_z-of_z f) at c.residual-r.ensures)
     ∙ ap (λ (n : ℕ). predicted n r +ℤ g) p
-    ∙ turn t s.args.vector.now s.args.xs.now s.requires j (2 * b.loop-k.k) r (omega arith) b.loop-k.inv.here b.loop-k.inv.left
+    ∙ turn t s.args.vector.now s.args.xs.now s.requires j (2 * b.loop-k.k) r (omega arith) b.loop-k.invariant.here b.loop-k.invariant.left
 
 last_share_run_requires : tie.Need-last_share_run-q-requires invariant_loop decreases_loop
 last_share_run_requires c κs =
@@ -175,7 +175,7 @@ residual_requires c κs =
     let x = at s.args.xs.now j in
     let f : SFits w8 x = sfits_of c.residual-arg-1.given in
     let w = within_at 10 10 s.args.xs.now s.requires.tens j in
-    let n : Mag 29200 (to_z w32 b.loop-k.r) = rw b.loop-k.invariant.left (fitting b (2 * b.loop-k.k)) in
+    let n : Mag 29200 (to_z w32 b.loop-k.r-bits) = rw b.loop-k.invariant.left (fitting b (2 * b.loop-k.k)) in
     rw (to_z-of_z f) (((w.1, w.0), s.requires.small), n)
 
 weigh_run_requires : tie.Need-weigh_run-w-requires invariant_loop decreases_loop
@@ -196,7 +196,7 @@ place_requires c κs =
     let d = c.before.before.before.before in
     let b = head d in
     let j = 2 * (b.loop-k.k - 1) + 1 in
-    let w = (start b).requires.heavy j (omega (arith, b.loop-k.inv.here)) in
+    let w = (start b).requires.heavy j (omega (arith, b.loop-k.invariant.here)) in
     (rw (odd_residual d) (fitting b j), omega (arith, c.weigh_run-w.ensures.0, w))
 
 -- behind the odd place
@@ -214,10 +214,10 @@ midway c =
     let w = c.weigh_run-w in
     let j = 2 * (b.loop-k.k - 1) + 1 in
     let r = odd_residual d in
-    let p = puts (lent s) s.args.vector.now s.args.xs.now s.requires j (omega (arith, b.loop-k.inv.here)) in
+    let p = puts (lent s) s.args.vector.now s.args.xs.now s.requires j (omega (arith, b.loop-k.invariant.here)) in
     let x = get_or s.args.values.now j 0 in
     let z = to_z-of_z {w = w16} (sfits_of c.place.type_inv) ∙ c.place.ensures ∙ ap₂ (placed x) w.ensures.0 r ∙ p in
-    went (lent s) s.args.vector.now s.args.xs.now s.requires b.loop-k.inv (omega arith) r z w.ensures.1
+    went (lent s) s.args.vector.now s.args.xs.now s.requires b.loop-k.invariant (omega arith) r z w.ensures.1
 
 -- the residual that it has at the even place
 even_residual : (c : tie.After-residual-r-in-loop-k invariant_loop decreases_loop) → let b = head (odd_res (odd c)) in
@@ -245,7 +245,7 @@ predictor_requires_2 : tie.Need-predictor-requires-in-loop-k invariant_loop decr
 predictor_requires_2 c κs =
     let b = head (odd_res c.before) in
     let o = (start b).requires in
-    (omega arith, omega (arith, o.lists, b.loop-k.inv.here))
+    (omega arith, omega (arith, o.lists, b.loop-k.invariant.here))
 
 residual_requires_2 : tie.Need-residual-r-requires-in-loop-k invariant_loop decreases_loop
 residual_requires_2 c κs =
@@ -268,7 +268,7 @@ weigh_run_requires_2 c κs =
       shares = b.shares-shares.ensures;
       roots = b.roots-roots.ensures;
       rising = s.requires.rising;
-      inside = omega (arith, s.requires.book, b.loop-k.inv.here);
+      inside = omega (arith, s.requires.book, b.loop-k.invariant.here);
       behind = (midway m).share ∙ ap (share_at s.args.values.now) (omega arith);
     }
 
@@ -278,7 +278,7 @@ place_requires_2 c κs =
     let b = head (odd_res (odd d)) in
     let o = (start b).requires in
     let i = 2 * (b.loop-k.k - 1) in
-    let w = o.heavy i (omega (arith, o.some, b.loop-k.inv.here)) in
+    let w = o.heavy i (omega (arith, o.some, b.loop-k.invariant.here)) in
     (rw (even_residual d) (fitting b i), omega (arith, c.weigh_run-u.ensures.0, w))
 
 loop_again : tie.Need-loop-k-preserved invariant_loop decreases_loop
@@ -290,7 +290,7 @@ loop_again c =
     let w = c.weigh_run-u in
     let i = 2 * (b.loop-k.k - 1) in
     let r = even_residual d in
-    let p = puts (lent s) s.args.vector.now s.args.xs.now s.requires i (omega (arith, b.loop-k.inv.here)) in
+    let p = puts (lent s) s.args.vector.now s.args.xs.now s.requires i (omega (arith, b.loop-k.invariant.here)) in
     let x = get_or s.args.values.now i 0 in
     let z = to_z-of_z {w = w16} (sfits_of c.place-in-loop-k.type_inv) ∙ c.place-in-loop-k.ensures ∙ ap₂ (placed x) w.ensures.0 r ∙ p in
     went (lent s) s.args.vector.now s.args.xs.now s.requires (midway m) (omega arith) r z w.ensures.1
@@ -308,21 +308,21 @@ returns c =
 read_even : tie.Need-bounds-values-i invariant_loop decreases_loop
 read_even c =
     let b = head (odd_res (odd c.before.before.before.before)) in
-    omega (arith, (start b).requires.book, b.loop-k.inv.here)
+    omega (arith, (start b).requires.book, b.loop-k.invariant.here)
 
 mul_even : tie.Need-offset_bounds-vector-i invariant_loop decreases_loop
 mul_even c =
     let b = head (odd_res (odd (even_res c))) in
-    omega (arith, (start b).requires.few, b.loop-k.inv.here)
+    omega (arith, (start b).requires.few, b.loop-k.invariant.here)
 
 write_even : tie.Need-bounds-vector-i invariant_loop decreases_loop
 write_even c =
     let m = odd (even_res c) in
     let b = head (odd_res m) in
-    omega (arith, (midway m).done.long, (start b).requires.some, b.loop-k.inv.here)
+    omega (arith, (midway m).done.long, (start b).requires.some, b.loop-k.invariant.here)
 
 loop_less : tie.Need-loop-k-smaller invariant_loop decreases_loop
-loop_less c = omega (arith, (odd_res (odd (even_res c))).loop-k-test.taken)
+loop_less c = omega (arith, (odd_res (odd (even_res c))).loop-k-test.true)
 
 pub places_run_spec : {M : Type 1} → statement M
 places_run_spec =

@@ -138,7 +138,7 @@ as_given : (c : tie.After-move_at_run invariant_loop decreases_loop) → length 
 as_given c =
     let b = searched (found c) in
     let t = turn b in
-    as_long _ _ _ _ _ (moved c) ∙ length_move (gaps b) t.values (found c).place_run-i.result ∙ sym (many b) ∙ b.loop-m.inv.1.0
+    as_long _ _ _ _ _ (moved c) ∙ length_move (gaps b) t.values (found c).place_run-i.result ∙ sym (many b) ∙ b.loop-m.invariant.1.0
 
 rises_run_requires : tie.Need-rises_run-requires invariant_loop decreases_loop
 rises_run_requires c κs =
@@ -182,7 +182,7 @@ abbrev left : tie.After-fall_back_run invariant_loop decreases_loop → tie.At-l
 left c = c.before.before.before
 
 same_length_2 : tie.Need-shape_of-v invariant_loop decreases_loop
-same_length_2 c = c.fall_back_run.auto.0 ∙ (left c.before).loop-m.inv.1.0
+same_length_2 c = c.fall_back_run.auto.0 ∙ (left c.before).loop-m.invariant.1.0
 
 returns_2 : tie.Need-returns invariant_loop decreases_loop
 returns_2 c =

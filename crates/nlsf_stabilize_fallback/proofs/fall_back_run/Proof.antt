@@ -23,7 +23,7 @@ same_within g v s u e f r l =
 
 -- what the sort left, and the way upward
 abbrev sorted_to : tie.After-silk_insertion_sort_increasing_all_values_int16 → List ℤ
-sorted_to s = s.silk_insertion_sort_increasing_all_values_int16.new.0
+sorted_to s = s.silk_insertion_sort_increasing_all_values_int16.new.v
 
 sorted_is : (s : tie.After-silk_insertion_sort_increasing_all_values_int16) → sorted_to s ≡ sorted s.args.v.now
 sorted_is s = s.silk_insertion_sort_increasing_all_values_int16.ensures
@@ -49,7 +49,7 @@ go_down_requires c κs =
     let g = b.args.g.now in
     let f = u.go_up.ensures in
     let n = ap length f ∙ length_raised g (sorted_to s) ∙ sorted_long s in
-    (b.requires.1.0 ∙ ap suc (sym n), same_within g b.args.v.now (sorted_to s) u.go_up.new.0 (sorted_is s) f b.requires.1.1 b.requires.1.0)
+    (b.requires.1.0 ∙ ap suc (sym n), same_within g b.args.v.now (sorted_to s) u.go_up.new.v (sorted_is s) f b.requires.1.1 b.requires.1.0)
 
 returns : tie.Need-returns
 unfolding fallback

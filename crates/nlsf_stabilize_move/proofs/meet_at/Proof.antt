@@ -33,7 +33,7 @@ meet_requires c κs =
     let i = s.args.i in
     let m = s.requires.0.0.1 in
     let f : SFits w32 c.odd_of.result = sfits_of c.odd_of.type_inv in
-    rw (to_z-of_z (slack_fits s i), to_z-of_z (slack_fits s (i + 1)), to_z-of_z s.fits.room, to_z-of_z f) (
+    rw (to_z-of_z (slack_fits s i), to_z-of_z (slack_fits s (i + 1)), to_z-of_z s.ranges.room, to_z-of_z f) (
       (m i, m (i + 1)),
       (subst⁻¹ (Mag 1) (odd_is c) (odd_near (at s.args.g.now i) s.requires.1.1.1), s.requires.0.1),
     )
@@ -46,7 +46,7 @@ returns c =
     let f : SFits w32 b.odd_of.result = sfits_of b.odd_of.type_inv in
     let w = s.args.w.now in
     let e : c.meet.result ≡ meeting (at w i) (at w (i + 1)) b.odd_of.result s.args.room =
-    rw (to_z-of_z (slack_fits s i), to_z-of_z (slack_fits s (i + 1)), to_z-of_z s.fits.room, to_z-of_z f) at c.meet.ensures in
+    rw (to_z-of_z (slack_fits s i), to_z-of_z (slack_fits s (i + 1)), to_z-of_z s.ranges.room, to_z-of_z f) at c.meet.ensures in
     to_z-of_z {w = w32} (sfits_of c.meet.type_inv) ∙ e ∙ ap (λ (d : ℤ). meeting (at w i) (at w (i + 1)) d s.args.room) (odd_is b)
 
 pub meet_at_spec : {M : Type 1} → statement M

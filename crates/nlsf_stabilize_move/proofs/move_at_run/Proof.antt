@@ -107,8 +107,7 @@ inside : (c : tie.Else-i-v) → place c.before < length (values (start c.before)
 inside c = let s = start c.before in omega (arith, same_long s, s.requires.1, c.if-i-v.false)
 
 meet_at_requires : tie.Need-meet_at-m-requires
-meet_at_requires c κs =
-    let t = c.before in
+meet_at_requires t κs =
     let s = start t.before in
     let h = held s in
     rw (to_z-of_z (room_fits t.before)) (
@@ -121,7 +120,7 @@ meet_at_requires c κs =
 
 -- where the pair meets
 abbrev pair : tie.After-meet_at-m → tie.Else-i-v
-pair c = c.before.before
+pair c = c.before
 
 abbrev begin : tie.After-meet_at-m → tie.Start
 begin c = start (pair c).before

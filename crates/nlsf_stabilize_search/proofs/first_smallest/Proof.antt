@@ -2,7 +2,7 @@
 -- value at i. Assumes nothing.
 use Prim.Native.Nat.{ℕ, ◌+◌, ◌-◌, ◌<◌}
 use mathlib.Core.Path.{◌≡◌, refl, ap, subst}
-use mathlib.Core.Logic.{⊎_elim}
+use Rattle.nlsf_stabilize_search.proofs.first_smallest.Lts.{then-d-least, else-d-least}
 use native.Mathlib.Omega.{arith}
 use native.Mathlib.Numerals.{add-one}
 use borrow.Author.Rules.{rules}
@@ -53,17 +53,17 @@ loop_again c =
     let b = c.before.before.before in
     let s = b.before.before.before in
     let f = step s.args.w.now in
-    let l = b.loop in
+    let l = b.loop-i in
     let i = l.i in
-    let z = to_z w32 l.least in
-    let d = to_z w32 (of_z w32 (to_z w32 (of_z w32 (at s.args.w.now (i + 1))) -ℤ to_z w32 l.x)) in
+    let z = to_z w32 l.least-bits in
+    let d = to_z w32 (of_z w32 (to_z w32 (of_z w32 (at s.args.w.now (i + 1))) -ℤ to_z w32 l.x-bits)) in
     let e : d ≡ f i = rw (read s (i + 1), l.invariant.1, to_z-of_z (fits s (i + 1) i), add-one i) refl in (
       omega arith,
       read s (i + 1),
-      ⊎_elim
-          (λ t. best_newer f i l.place z d l.invariant.2 e (omega (arith, lt_z_true, le_z_true, t.0.taken)) (ap (to_z w32) t.1) t.2)
-          (λ t. best_older f i l.place z d l.invariant.2 e (omega (arith, lt_z_false, le_z_false, t.0.left)) (ap (to_z w32) t.1) t.2)
-          c.if-d-least.branch,
+      elim c.if-d-least.branch [
+        | then-d-least t ↦ best_newer f i l.place z d l.invariant.2 e (omega (arith, lt_z_true, le_z_true, t.if-d-least.true)) t.least-is t.place-is
+        | else-d-least t ↦ best_older f i l.place z d l.invariant.2 e (omega (arith, lt_z_false, le_z_false, t.if-d-least.false)) t.least-is t.place-is
+      ],
     )
 
 returns : tie.Need-returns invariant_loop decreases_loop

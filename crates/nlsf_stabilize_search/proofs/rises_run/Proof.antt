@@ -28,7 +28,7 @@ loop_holds c =
 
 -- the test as the contract has it: the value at i is less than the value before it, or not
 test : (c : tie.After-y-1 invariant_loop decreases_loop) (t : Bool) → let b = c.before.before in let w = b.args.w.now in
-    lt_z (to_z w32 (of_z w32 (at w b.loop-i.i))) (to_z w32 b.loop-i.x) ≡ t → lt_z (at w (suc (b.loop-i.i - 1))) (at w (b.loop-i.i - 1)) ≡ t
+    lt_z (to_z w32 (of_z w32 (at w b.loop-i.i))) (to_z w32 b.loop-i.x-bits) ≡ t → lt_z (at w (suc (b.loop-i.i - 1))) (at w (b.loop-i.i - 1)) ≡ t
 test c t e =
     let b = c.before.before in
     let f : SFits w32 (at b.args.w.now b.loop-i.i) = sfits_of c.y-1.given in

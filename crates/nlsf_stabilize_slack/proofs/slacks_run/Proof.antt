@@ -33,11 +33,11 @@ gap : (c : tie.After-sum-1 invariant_loop decreases_loop) → SFits w16 (at c.ar
 gap c = sfits_of c.sum-1.given
 
 next : (c : tie.After-sum-1 invariant_loop decreases_loop) → NextSum c.args.g.now c.loop-i.i
-    (to_z w32 c.loop-i.sum +ℤ at c.args.g.now c.loop-i.i)
+    (to_z w32 c.loop-i.sum-bits +ℤ at c.args.g.now c.loop-i.i)
 next c =
     let b = c.before.before in
     let p = b.requires.1 in
-    next_sum b.args.g.now (length b.args.v.now) b.loop-i.i (to_z w32 b.loop-i.sum)
+    next_sum b.args.g.now (length b.args.v.now) b.loop-i.i (to_z w32 b.loop-i.sum-bits)
     p.0.0 p.0.1 (omega arith) b.loop-i.invariant.1.1
 
 cast_sum : tie.Need-overflow_cast-sum invariant_loop decreases_loop
@@ -65,7 +65,7 @@ loop_again c =
     let n = next c.before in
     let g = b.args.g.now in
     let v = b.args.v.now in
-    let l = b.loop in
+    let l = b.loop-i in
     rw (read16 (value c), read16 (gap c.before), to_z-of_z (sum_fits _ n), to_z-of_z (slack_fits _ _ (value c) n)) (
       omega arith,
       (filled_step g v l.w l.s l.i _ (omega arith) b.requires.1.1.1 n (value c) l.invariant.1.0, n.is),

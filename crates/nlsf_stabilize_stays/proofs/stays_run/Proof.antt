@@ -68,7 +68,7 @@ first : (c : tie.After-lost invariant_loop decreases_loop) → let b = turn c in
 first c =
     let b = turn c in
     let h : SFits w16 (at b.args.g.now b.loop-i.i) = sfits_of c.lost-arg-1.given in
-    rw (read16 (value c.before.before.before), to_z-of_z h, b.loop-i.inv.2) at c.lost.ensures
+    rw (read16 (value c.before.before.before), to_z-of_z h, b.loop-i.invariant.2) at c.lost.ensures
 
 second : (c : tie.After-lost-in-loop-i invariant_loop decreases_loop) → let b = turn_2 c in
     c.lost-in-loop-i.result ≡ lost_at b.args.g.now b.args.v.now (suc b.loop-i.i)
@@ -95,7 +95,7 @@ loop_again c =
     let v = b.args.v.now in
     let i = b.loop-i.i in
     let f = value_2 (next c.before) in
-    let p = passed_two b.args.g.now v i b.loop-i.inv.3 (both c.before false c.if-lost.false) in
+    let p = passed_two b.args.g.now v i b.loop-i.invariant.3 (both c.before false c.if-lost.false) in
     rw (read16 f) (omega arith, f, ap (at v) (add-one i) ∙ ap (at (pos 0 ∷ v)) (sym (add-two i)), λ k h. p k (omega arith))
 
 cast_x_2 : tie.Need-overflow_cast-x-then-i-v invariant_loop decreases_loop

@@ -60,7 +60,7 @@ returns-in-3 c = arm longest 600 _ (unfold durations in refl) c.in-3.is
 pub returns-in_default : goal.returns-in_default
 returns-in_default c =
     let v = c.args.config in
-    let o = c.in_default.in_default-own in
+    let o = c.in_default.in_default-own.rest in
     let e = below_at (λ n. has_key shortest n || first n) 32 each v c.requires in
     let d = skipped short v (second v) o.0.0.0.1 (skipped shortest v (first v) o.0.0.0.0.1 e) in
     let b = skipped long v (fourth v) o.0.1 (skipped usual v (third v) o.0.0.1 d) in

@@ -6,7 +6,6 @@ use native.Mathlib.Nat.{sub-zero}
 use native.Mathlib.Omega.{arith}
 use mathlib.Core.Path.{◌≡◌, refl, sym, subst, ◌∙◌}
 use mathlib.Core.List.{List}
-use mathlib.Core.Logic.{⊎_elim}
 use lib.ListN.{length}
 use Rattle.sheet.specs.Directory.{count_row}
 use Rattle.sheet.proofs.SheetRule.{row_good}
@@ -19,6 +18,7 @@ use Rattle.silk.specs.PulseSyntax.{Block, count_said, low_counts, count, counts}
 use Rattle.silk.specs.Inner.Pulses.{block_at, blocks_from}
 use Rattle.silk.proofs.PulseRowLaws.{count_in}
 use Rattle.silk.proofs.PulseTold.{first_writable, lows_said, counts_said, counts_silent}
+use Rattle.pulse_counts_write.proofs.counts_tell_run.Lts.{then-shift-ne0, else-shift-ne0}
 use Rattle.pulse_counts_write.proofs.counts_tell_run.Statement.{statement}
 use Rattle.pulse_counts_write.proofs.counts_tell_run.Tie as tie
 
@@ -96,24 +96,23 @@ loop_again c =
     let e = count_in z.args.rows.now z.args.level p.0 (omega arith) in
     let v = c.count_said-first.ensures in
     let s = counts_said z.args.sums z.args.lows z.args.level z.args.n l.i h.loop-i-test.true in
-    ⊎_elim
-    (λ w.
-    rw (w.5, w.6)
-    (record {
-      midway = midway_next l.invariant.midway (count_told z.args.level b e v a.ensures w.2.ensures) s (omega arith);
-      to = omega arith;
-      kept = w.2.kept.0 ∙ a.auto.0 ∙ l.invariant.kept;
-    }))
-    (λ w.
-    rw (w.1, w.2)
-    (record {
-      midway =
-          midway_next l.invariant.midway
-          (count_told z.args.level b e v a.ensures (lows_untold b (omega (arith, w.0.left)) (p.1.1.0 l.i) a.ensures.core)) s (omega arith);
-      to = omega arith;
-      kept = a.auto.0 ∙ l.invariant.kept;
-    }))
-    c.if-shift-ne0.branch
+    elim c.if-shift-ne0.branch [
+      | then-shift-ne0 w ↦ rw (w.buf-is, w.w-is)
+          (record {
+            midway = midway_next l.invariant.midway (count_told z.args.level b e v a.ensures w.later_tell-w.ensures) s (omega arith);
+            to = omega arith;
+            kept = w.later_tell-w.auto.buf ∙ a.auto.buf ∙ l.invariant.kept;
+          })
+      | else-shift-ne0 w ↦ rw (w.buf-is, w.w-is)
+          (record {
+            midway =
+                midway_next l.invariant.midway
+                (count_told z.args.level b e v a.ensures (lows_untold b (omega (arith, w.if-shift-ne0.false)) (p.1.1.0 l.i) a.ensures.core)) s
+                (omega arith);
+            to = omega arith;
+            kept = a.auto.buf ∙ l.invariant.kept;
+          })
+    ]
 
 same_length : tie.Need-shape_of-buf invariant_loop decreases_loop
 same_length c = c.loop-i.invariant.kept

@@ -68,7 +68,7 @@ loop_again c =
     record {
       midway = midway_asked (rw (lows_left (said z) 10 l.j (omega arith) h.loop-j-test.true) at l.invariant.midway) e v a.ensures (omega arith);
       to = omega arith;
-      kept = a.auto.0 ∙ l.invariant.kept;
+      kept = a.auto.buf ∙ l.invariant.kept;
     }
 
 same_length : tie.Need-shape_of-buf invariant_loop decreases_loop

@@ -39,7 +39,7 @@ decreases_loop packet row places₀ at n d₀ t₀ places d t = n - t
 
 loop_holds : tie.Need-loop-t-init invariant_loop decreases_loop
 loop_holds c =
-    let b = c.before.before.before.before.before in
+    let b = c.before.before.before.before in
     record {
       gathered = c.pulse_places-n.ensures;
       going = going_start _ _ _ _ _ _ _ _ b.requires.1.1.1.0 b.requires.0;
@@ -48,11 +48,11 @@ loop_holds c =
     }
 
 abbrev start : tie.At-loop-t invariant_loop decreases_loop → tie.Start invariant_loop decreases_loop
-start l = l.before.before.before.before.before.before
+start l = l.before.before.before.before.before
 
 -- the place at hand
 abbrev place : tie.At-loop-t invariant_loop decreases_loop → ℕ
-place l = get_or l.pulse_places-n.new.1.0 l.loop-t.t 0
+place l = get_or l.pulse_places-n.new.at l.loop-t.t 0
 
 below : (c : tie.In-loop-t invariant_loop decreases_loop) → place c.before < length c.loop-t.places
 below c = let l = c.loop-t in omega (arith, l.invariant.gathered.below l.t c.loop-t-test.true, l.invariant.size)

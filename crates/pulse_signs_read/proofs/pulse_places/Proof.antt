@@ -44,7 +44,7 @@ loop_holds c = (omega arith, (c.requires.1, gathered_start c.args.places.now c.a
 loop_again : tie.Need-loop-k-preserved invariant_loop decreases_loop
 loop_again c =
     let b = c.before.before in
-    let l = b.loop in
+    let l = b.loop-k in
     let s = b.args.places.now in
     let x = get_or s l.k (pos 0) in
     let f : SFits w16 x = sfits_of c.m-1.given in (

@@ -28,7 +28,7 @@ none b d r s e c = rw e (record { is = no_signs b d r (length s); core = c; leas
 
 returns : tie.Need-returns-then-no_pulse
 returns c =
-    let b = c.before.before.before.before.before.before in
+    let b = c.before.before.before.before.before in
     none _ _ _ b.args.places.now (c.no_pulse.ensures c.if-no_pulse.true) b.requires.0
 
 pub silk_decode_signs_run_spec : {M : Type 1} → statement M

@@ -35,10 +35,10 @@ bit_writable (suc (suc v)) l h = absurd (omega arith)
 counted : (c : tie.After-signs_said-count invariant_loop decreases_loop) → length (signs_said c.args.pulses.now) ≡ c.signs_said-count.result
 counted c =
     let s = c.signs_said-count in
-    ap length (sym s.ensures.1) ∙ length-take-le s.result s.new.0 (omega (arith, s.ensures.0, s.auto.0))
+    ap length (sym s.ensures.1) ∙ length-take-le s.result s.new.symbols (omega (arith, s.ensures.0, s.auto.0))
 
 symbol : (c : tie.After-signs_said-count invariant_loop decreases_loop) (k : ℕ) → k < c.signs_said-count.result
-    → get_or c.signs_said-count.new.0 k 0 ≡ get_or (signs_said c.args.pulses.now) k 0
+    → get_or c.signs_said-count.new.symbols k 0 ≡ get_or (signs_said c.args.pulses.now) k 0
 symbol c k h =
     let s = c.signs_said-count in
     sym (get_or-take s.result s.new.0 k 0 h) ∙ ap (λ (l : List ℕ). get_or l k 0) s.ensures.1

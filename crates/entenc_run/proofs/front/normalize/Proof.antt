@@ -39,7 +39,7 @@ loop_again c =
       rw e (settled_turn o l.invariant.2 h ∙ l.invariant.0),
       rw e (turn_ready o l.invariant.1 h),
       omega (arith, l.invariant.2, grows _ _ e),
-      c.turn-w.auto.0 ∙ l.invariant.3,
+      c.turn-w.auto.buf ∙ l.invariant.3,
     )
 
 same_length : tie.Need-shape_of-buf invariant_loop decreases_loop

@@ -20,7 +20,7 @@ returns c =
     let e : c.wrapping_add_u32.result ≡ a.window + v * 2 ^ a.wbits
     = c.wrapping_add_u32.ensures ∙ window_sum a.window v a.wbits n f.ensures.windowed.slim b.requires.1.1.2 f.ensures.free in
     append_step o _ n v b.requires.0 b.requires.1.0 b.requires.1.1.1 b.requires.1.1.2
-    (ap (λ (x : ℕ). at_window (out f.new.0 a) x (a.wbits + n) (w.total + n)) e
+    (ap (λ (x : ℕ). at_window (out f.new.buf a) x (a.wbits + n) (w.total + n)) e
     ∙ ap (λ (p : Out). at_window p (p.state.window + v * 2 ^ p.state.wbits) (p.state.wbits + n) (w.total + n)) f.ensures.is
     ∙ append_is o n v)
 

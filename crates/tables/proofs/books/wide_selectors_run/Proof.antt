@@ -16,4 +16,4 @@ wide_selectors_run_spec =
     (λ c. search (arm t)) (λ c. search (arm t)) (λ c. search (arm t)) (λ c. search (arm t)) (λ c. search (arm t))
     (λ c. search (arm t)) (λ c. search (arm t)) (λ c. search (arm t)) (λ c. search (arm t)) (λ c. search (arm t))
     (λ c. search (arm t)) (λ c. search (arm t)) (λ c. search (arm t)) (λ c. search (arm t)) (λ c. search (arm t))
-    (λ c. search (arm t)) (λ c. arm t (last 31 c.args.v c.requires c.match.rest) refl))
+    (λ c. search (arm t)) (λ c. arm t (last 31 c.args.v c.requires c.in_default.in_default-own.rest) refl))

@@ -12,7 +12,7 @@ use Rattle.tables.proofs.rows.index_rows.Tie as tie
 returns : tie.Need-returns
 returns c =
     let a = c.all_rows-all in
-    let e : c.copy.new.1.0 ≡ take 556 (drop 10 a.result) = c.copy.ensures in
+    let e : c.copy.new.to ≡ take 556 (drop 10 a.result) = c.copy.ensures in
     e ∙ ap (λ (l : List ℕ). take 556 (drop 10 l)) a.ensures ∙ index_part
 
 pub index_rows_spec : {M : Type 1} → statement M

@@ -12,7 +12,7 @@ use Rattle.tables.proofs.rows.pulse_rows.Tie as tie
 returns : tie.Need-returns
 returns c =
     let a = c.all_rows-all in
-    let e : c.copy.new.1.0 ≡ take 909 (drop 566 a.result) = c.copy.ensures in
+    let e : c.copy.new.to ≡ take 909 (drop 566 a.result) = c.copy.ensures in
     e ∙ ap (λ (l : List ℕ). take 909 (drop 566 l)) a.ensures ∙ pulse_part
 
 pub pulse_rows_spec : {M : Type 1} → statement M
