@@ -57,11 +57,11 @@ record Fields (x : Indices) : Type 0 where
 fields : (z : tie.Start) → Fields z.args.x
 fields z =
     record {
-      lag = search (rules, z.well-formed.1.1.0);
-      contour = search (rules, z.well-formed.1.1.0);
-      period = search (rules, z.well-formed.1.1.0);
-      scale = search (rules, z.well-formed.1.1.0);
-      filters = search (rules, z.well-formed.1.1.0);
+      lag = search (rules, z.well_formed.1.1.0);
+      contour = search (rules, z.well_formed.1.1.0);
+      period = search (rules, z.well_formed.1.1.0);
+      scale = search (rules, z.well_formed.1.1.0);
+      filters = search (rules, z.well_formed.1.1.0);
     }
 
 returns : tie.Need-returns-then-signal-ne2

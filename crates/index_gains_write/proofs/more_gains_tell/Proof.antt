@@ -81,7 +81,7 @@ loop_again c =
       from = omega arith;
       to = omega arith;
       size = l.invariant.size;
-      kept = a.auto.0 ∙ l.invariant.kept;
+      kept = a.auto.buf ∙ l.invariant.kept;
     }
 
 same_length : tie.Need-shape_of-buf invariant_loop decreases_loop

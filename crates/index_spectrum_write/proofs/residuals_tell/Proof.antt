@@ -42,7 +42,7 @@ loop_holds c =
     record {
       told = rw (sub-zero z.args.n) (midway_start z.requires.0.core);
       to = omega arith;
-      size = search (rules, z.well-formed.1.1.1.0);
+      size = search (rules, z.well_formed.1.1.1.0);
       kept = refl;
     }
 
@@ -81,7 +81,7 @@ loop_again c =
     let v = get_or z.args.x.nlsf (l.i + 1) (pos 0) in
     let u = z.requires.1.1 (l.i + 1) (omega arith) (omega (arith, i)) in
     let m = z.args.selectors.now in
-    let t : Told (out l.buf l.q) v (residual (residual_row z.args.khz (residual_pick m l.i))) 32 (out a.new.0 a.result) =
+    let t : Told (out l.buf l.q) v (residual (residual_row z.args.khz (residual_pick m l.i))) 32 (out a.new.buf a.result) =
     rw (p.ensures, abs_kept w8 v u (omega arith)) at a.ensures in
     let r = z.requires.1.0 in
     let s = residuals_told_next z.args.n l.i z.args.x z.args.khz m r.0 i (omega (arith, l.invariant.size, r.2)) u in
@@ -89,7 +89,7 @@ loop_again c =
       told = midway_next l.invariant.told t s (omega arith);
       to = omega arith;
       size = l.invariant.size;
-      kept = a.auto.0 ∙ l.invariant.kept;
+      kept = a.auto.buf ∙ l.invariant.kept;
     }
 
 same_length : tie.Need-shape_of-buf invariant_loop decreases_loop

@@ -54,7 +54,7 @@ loop_again c =
     record {
       told = place_told _ _ _ _ _ (map nat_abs s) l.k l.invariant.told (omega (arith, counted z)) e a.ensures;
       to = omega arith;
-      kept = a.auto.0 ∙ l.invariant.kept;
+      kept = a.auto.buf ∙ l.invariant.kept;
     }
 
 same_length : tie.Need-shape_of-buf invariant_loop decreases_loop

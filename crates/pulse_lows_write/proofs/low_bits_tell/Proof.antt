@@ -55,7 +55,7 @@ loop_again c =
     record {
       midway = bit_told l.k (l.k - 1) z.args.m (omega arith) l.invariant.midway z.requires.1.1.0 a.ensures (omega arith);
       to = omega arith;
-      kept = a.auto.0 ∙ l.invariant.kept;
+      kept = a.auto.buf ∙ l.invariant.kept;
     }
 
 same_length : tie.Need-shape_of-buf invariant_loop decreases_loop

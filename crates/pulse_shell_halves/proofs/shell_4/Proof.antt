@@ -29,7 +29,7 @@ loop_again : tie.Need-loop-h-preserved invariant_loop decreases_loop
 loop_again c =
     let i = c.before.before.before.before in
     let r = c.shell_2-q in
-    halving_next i.loop-h.invariant i.loop-h-test.true c.half_count_run-c.ensures r.auto.1.1.1.0 r.ensures
+    halving_next i.loop-h.invariant i.loop-h-test.true c.half_count_run-c.ensures r.auto.places r.ensures
 
 pub shell_4_spec : {M : Type 1} → statement M
 shell_4_spec =

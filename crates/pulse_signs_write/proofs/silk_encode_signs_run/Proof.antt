@@ -35,13 +35,13 @@ bit_writable (suc (suc v)) l h = absurd (omega arith)
 counted : (c : tie.After-signs_said-count invariant_loop decreases_loop) → length (signs_said c.args.pulses.now) ≡ c.signs_said-count.result
 counted c =
     let s = c.signs_said-count in
-    ap length (sym s.ensures.1) ∙ length-take-le s.result s.new.symbols (omega (arith, s.ensures.0, s.auto.0))
+    ap length (sym s.ensures.1) ∙ length-take-le s.result s.new.symbols (omega (arith, s.ensures.0, s.auto.symbols))
 
 symbol : (c : tie.After-signs_said-count invariant_loop decreases_loop) (k : ℕ) → k < c.signs_said-count.result
     → get_or c.signs_said-count.new.symbols k 0 ≡ get_or (signs_said c.args.pulses.now) k 0
 symbol c k h =
     let s = c.signs_said-count in
-    sym (get_or-take s.result s.new.0 k 0 h) ∙ ap (λ (l : List ℕ). get_or l k 0) s.ensures.1
+    sym (get_or-take s.result s.new.symbols k 0 h) ∙ ap (λ (l : List ℕ). get_or l k 0) s.ensures.1
 
 loop_holds : tie.Need-loop-k-init invariant_loop decreases_loop
 loop_holds c =
@@ -82,7 +82,7 @@ loop_again c =
     record {
       told = sign_more _ _ _ l.k l.invariant.told (omega (arith, counted s)) (symbol s l.k (omega arith)) a.ensures;
       to = omega arith;
-      kept = a.auto.0 ∙ l.invariant.kept;
+      kept = a.auto.buf ∙ l.invariant.kept;
     }
 
 same_length : tie.Need-shape_of-buf invariant_loop decreases_loop
