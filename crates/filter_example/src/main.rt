@@ -7,8 +7,8 @@
 ghost use Rattle.std.specs.Prelude.{pos, ◌+ℤ◌, ◌≤ℤ◌};
 ghost use Rattle.spectrum.specs.Statement.Always.{Apart};
 
-use libc::STDOUT_FILENO;
 use spectrum::{Moves, Spectrum};
+use std::io;
 
 // How sharp the resonance of two lines is: the half band over their distance.
 fn sharpness(low: i16, high: i16) -> u32
@@ -53,12 +53,11 @@ fn moved_apart(lines: &mut [i16]) -> u32 {
     0
 }
 
-fn show(number: u32) {
-    io::print_decimal(STDOUT_FILENO, number as u64);
-    io::write_all(STDOUT_FILENO, b"\n");
+fn show(rt: &impl Print, number: u32) -> io::Result<()> {
+    println!(rt; "{number}")
 }
 
-fn main() {
-    show(decoded(Spectrum { index: [10; 17] }));
-    show(moved_apart(&mut [9000i16; 16]));
+fn main(rt: HostRuntime) -> io::Result<()> {
+    show(&rt, decoded(Spectrum { index: [10; 17] }))?;
+    show(&rt, moved_apart(&mut [9000i16; 16]))
 }

@@ -3,13 +3,13 @@
 // frame's fields and pulses, or the refusal.
 #![tactic(auto)]
 
-use libc::{STDIN_FILENO, STDOUT_FILENO};
+use std::io;
 
-fn main() {
+fn main(rt: HostRuntime) -> io::Result<()> {
     // both sections with a packet of 65,535 bytes, and one byte more of an input that goes on
     let mut input = [0u8; 65546];
-    let n = io::read_full(STDIN_FILENO, &mut input);
+    let n = read_full::read_full(&mut rt.stdin(), &mut input)?;
     let mut out = [0u8; 4096];
     let k = lister_text::lister_text(&input[..n], &mut out);
-    io::write_all(STDOUT_FILENO, &out[..k]);
+    rt.write_all(&out[..k])
 }

@@ -5,10 +5,10 @@
 
 ghost use Rattle.records.specs.Inner.{Placed, Parted};
 
-use libc::STDIN_FILENO;
 use reading::{read_agrees, reading_run};
 use records::calls::{READ_PULSES, WRITE_PULSES};
 use records::{FRAME_NUMBERS, Parts, Place, STATE_BYTES};
+use std::io;
 use writing::{write_agrees, writing_run};
 
 mod reading; // reading.rt: the calls that read
@@ -39,25 +39,26 @@ fn agrees(buf: &[u8], p: Place, s: Parts) -> bool
     write_agrees(c, &buf[rest..end], &buf[from..to], &buf[left..right])
 }
 
-fn report(p: Place) {
+fn report(rt: &impl Print, p: Place) -> io::Result<()> {
     records::report(
+        rt,
         b"read indices\nread pulses\nwrite indices\nwrite pulses\n",
         p,
-    );
+    )
 }
 
-fn replay(buf: &[u8]) {
+fn replay(rt: &impl Print, buf: &[u8]) -> io::Result<()> {
     let mut p = records::start();
     while p.at < buf.len() {
         let s = records::coded_run(buf, p, WRITE_PULSES, FRAME_NUMBERS);
         let ok = agrees(buf, p, s);
         p = records::after_run(buf, p, s, ok);
     }
-    report(p);
+    report(rt, p)
 }
 
-fn main() {
+fn main(rt: HostRuntime) -> io::Result<()> {
     let mut buf = [0u8; 524288];
-    let n = io::read_full(STDIN_FILENO, &mut buf);
-    replay(&buf[..n]);
+    let n = read_full::read_full(&mut rt.stdin(), &mut buf)?;
+    replay(&rt, &buf[..n])
 }

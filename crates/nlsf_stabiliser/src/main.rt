@@ -2,13 +2,13 @@
 // bytes, high first. Prints the number of moves and the vector, or the refusal.
 #![tactic(auto)]
 
-use libc::{STDIN_FILENO, STDOUT_FILENO};
+use std::io;
 
-fn main() {
+fn main(rt: HostRuntime) -> io::Result<()> {
     // two sections of 255 values, and one byte more of an input that goes on
     let mut input = [0u8; 1023];
-    let n = io::read_full(STDIN_FILENO, &mut input);
+    let n = read_full::read_full(&mut rt.stdin(), &mut input)?;
     let mut out = [0u8; 256];
     let k = stabiliser_text::stabiliser_text(&input[..n], &mut out);
-    io::write_all(STDOUT_FILENO, &out[..k]);
+    rt.write_all(&out[..k])
 }

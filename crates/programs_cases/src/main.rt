@@ -5,10 +5,10 @@
 
 ghost use Rattle.records.specs.Inner.{Placed, Parted};
 
-use libc::STDIN_FILENO;
 use record_bytes::slices::fill_up;
 use records::calls::{FRAME_LISTER, NLSF_STABILISER};
 use records::{PROGRAM_NUMBERS, Parts, Place};
+use std::io;
 
 // ---- one input
 
@@ -67,22 +67,22 @@ fn agrees(buf: &[u8], p: Place, s: Parts) -> bool
     prints_of(size, s.call, &buf[from..to], s.how, &buf[rest..end])
 }
 
-fn report(p: Place) {
-    records::report(b"frame_lister\nnlsf_stabiliser\n", p);
+fn report(rt: &impl Print, p: Place) -> io::Result<()> {
+    records::report(rt, b"frame_lister\nnlsf_stabiliser\n", p)
 }
 
-fn replay(buf: &[u8]) {
+fn replay(rt: &impl Print, buf: &[u8]) -> io::Result<()> {
     let mut p = records::start();
     while p.at < buf.len() {
         let s = records::parts_run(buf, p, NLSF_STABILISER, PROGRAM_NUMBERS);
         let ok = agrees(buf, p, s);
         p = records::after_run(buf, p, s, ok);
     }
-    report(p);
+    report(rt, p)
 }
 
-fn main() {
+fn main(rt: HostRuntime) -> io::Result<()> {
     let mut buf = [0u8; 524288];
-    let n = io::read_full(STDIN_FILENO, &mut buf);
-    replay(&buf[..n]);
+    let n = read_full::read_full(&mut rt.stdin(), &mut buf)?;
+    replay(&rt, &buf[..n])
 }

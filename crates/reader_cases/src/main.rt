@@ -6,11 +6,11 @@
 ghost use Rattle.records.specs.Inner.{Placed, Parted};
 
 use entcode::{Dec, Decoded};
-use libc::STDIN_FILENO;
 use record_bytes::numbers::word_run;
 use record_states::{decoded_run, reader_run};
 use records::calls::{ACCOUNT, BIT, BITS, NUMBER, OPEN, TABLE};
 use records::{ANSWER_BYTES, Parts, Place, READER_NUMBERS, STATE_BYTES};
+use std::io;
 
 fn ask(call: u8, packet: &[u8], d: Dec, number: u32, table: &[u8]) -> Decoded {
     if call == OPEN {
@@ -53,22 +53,22 @@ fn agrees(buf: &[u8], p: Place, s: Parts) -> bool
     record_states::same_decoded(a, should)
 }
 
-fn report(p: Place) {
-    records::report(b"open\naccount\nbit\ntable\nnumber\nbits\n", p);
+fn report(rt: &impl Print, p: Place) -> io::Result<()> {
+    records::report(rt, b"open\naccount\nbit\ntable\nnumber\nbits\n", p)
 }
 
-fn replay(buf: &[u8]) {
+fn replay(rt: &impl Print, buf: &[u8]) -> io::Result<()> {
     let mut p = records::start();
     while p.at < buf.len() {
         let s = records::coded_run(buf, p, BITS, READER_NUMBERS);
         let ok = agrees(buf, p, s);
         p = records::after_run(buf, p, s, ok);
     }
-    report(p);
+    report(rt, p)
 }
 
-fn main() {
+fn main(rt: HostRuntime) -> io::Result<()> {
     let mut buf = [0u8; 262144];
-    let n = io::read_full(STDIN_FILENO, &mut buf);
-    replay(&buf[..n]);
+    let n = read_full::read_full(&mut rt.stdin(), &mut buf)?;
+    replay(&rt, &buf[..n])
 }

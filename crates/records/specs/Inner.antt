@@ -1,5 +1,5 @@
 -- Where a replay may stand in its file, and where the parts of a record may. Assumes nothing.
-use Rattle.std.specs.Prelude.{◌≡◌, ℕ, ◌<◌, ◌≤◌, List, length}
+use Rattle.std.specs.Prelude.{◌≡◌, ℕ, ◌≤◌, List, length}
 use Rattle.records.specs.declared.Place.{Place}
 use Rattle.records.specs.declared.Parts.{Parts}
 

@@ -5,8 +5,8 @@
 ghost use Rattle.std.specs.Prelude.{◌≡◌, ◌+◌, ◌<◌, ◌≤◌, length};
 ghost use Rattle.records.specs.Inner.{Started, Placed, Parted};
 
-use libc::STDOUT_FILENO;
 use record_head::{BROKEN, head_run};
+use std::io;
 
 pub mod calls; // calls.rt: the numbers of calls
 
@@ -215,44 +215,51 @@ pub fn after_run(buf: &[u8], p: Place, s: Parts, agrees: bool) -> Place
 
 // ---- what is printed
 
-fn line(word: &[u8], number: u32, behind: &[u8]) {
-    io::write_all(STDOUT_FILENO, word);
-    io::write_all(STDOUT_FILENO, b" ");
-    io::print_decimal(STDOUT_FILENO, number as u64);
-    io::write_all(STDOUT_FILENO, behind);
+fn line(rt: &impl Print, word: &[u8], number: u32, behind: &[u8]) -> io::Result<()> {
+    rt.write_all(word)?;
+    print!(rt; " {number}")?;
+    rt.write_all(behind)
 }
 
 // The line of a name with so many names before it; calls are numbered from 1.
-fn agreed_line_run(names: &[u8], from: usize, to: usize, agreed: &[u32; 8], passed: usize)
+fn agreed_line_run(
+    rt: &impl Print,
+    names: &[u8],
+    from: usize,
+    to: usize,
+    agreed: &[u32; 8],
+    passed: usize,
+) -> io::Result<()>
     requires { (from ≤ to) × (to ≤ length names.now) }
 {
     if passed < 7 {
-        line(&names[from..to], agreed[passed + 1], b"\n");
+        return line(rt, &names[from..to], agreed[passed + 1], b"\n");
     }
+    Ok(())
 }
 
 // That all calls agreed, or the number of the first that did not.
-fn verdict(p: Place) {
+fn verdict(rt: &impl Print, p: Place) -> io::Result<()> {
     if p.agrees {
-        line(b"all", p.calls, b" agree\n");
+        line(rt, b"all", p.calls, b" agree\n")
     } else {
-        line(b"call", p.calls, b" differs\n");
+        line(rt, b"call", p.calls, b" differs\n")
     }
 }
 
 // How many calls of each number agreed, by their names in order, each with a newline behind it; then the verdict.
-pub fn report(names: &[u8], p: Place) {
+pub fn report(rt: &impl Print, names: &[u8], p: Place) -> io::Result<()> {
     let agreed = p.agreed;
     let mut from = 0;
     let mut passed = 0;
     let mut i = 0;
     while i < names.len() {
         if names[i] == 10 {
-            agreed_line_run(names, from, i, &agreed, passed);
+            agreed_line_run(rt, names, from, i, &agreed, passed)?;
             from = i + 1;
             passed += 1;
         }
         i += 1;
     }
-    verdict(p);
+    verdict(rt, p)
 }

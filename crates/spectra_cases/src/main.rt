@@ -6,12 +6,12 @@
 ghost use Rattle.std.specs.Prelude.{◌+◌, ◌*◌, ◌≤◌, ◌≡◌, length};
 ghost use Rattle.records.specs.Inner.{Parted};
 
-use libc::STDIN_FILENO;
 use record_bytes::numbers::word_run;
 use record_bytes::slices::fill_run;
 use records::calls::DECODE;
 use records::{ANSWER_BYTES, Parts, Place, READER_NUMBERS, STATE_BYTES};
 use spectrum::{Moves, Spectrum};
+use std::io;
 
 // ---- one call
 
@@ -131,22 +131,22 @@ fn agrees(buf: &[u8], s: Parts) -> bool
     leaves_at(buf, s, 2 * (count as usize))
 }
 
-fn report(p: Place) {
-    records::report(b"decode\nstabilise\n", p);
+fn report(rt: &impl Print, p: Place) -> io::Result<()> {
+    records::report(rt, b"decode\nstabilise\n", p)
 }
 
-fn replay(buf: &[u8]) {
+fn replay(rt: &impl Print, buf: &[u8]) -> io::Result<()> {
     let mut p = records::start();
     while p.at < buf.len() {
         let s = records::coded_run(buf, p, records::calls::STABILISE, READER_NUMBERS);
         let ok = agrees(buf, s);
         p = records::after_run(buf, p, s, ok);
     }
-    report(p);
+    report(rt, p)
 }
 
-fn main() {
+fn main(rt: HostRuntime) -> io::Result<()> {
     let mut buf = [0u8; 262144];
-    let n = io::read_full(STDIN_FILENO, &mut buf);
-    replay(&buf[..n]);
+    let n = read_full::read_full(&mut rt.stdin(), &mut buf)?;
+    replay(&rt, &buf[..n])
 }

@@ -8,12 +8,12 @@ ghost use Rattle.record_states.specs.Inner.{state_bytes};
 ghost use Rattle.records.specs.Inner.{Placed, Parted};
 
 use entcode::{Enc, Encoded};
-use libc::STDIN_FILENO;
 use record_bytes::numbers::word_run;
 use record_bytes::slices::fill_up;
 use record_states::{encoded_run, writer_run};
 use records::calls::{ACCOUNT, BIT, BITS, FINISH, NUMBER, OPEN, TABLE};
 use records::{ANSWER_BYTES, Parts, Place, STATE_BYTES, WRITER_NUMBERS};
+use std::io;
 
 // What is asked, and what it should answer.
 #[derive(Clone, Copy)]
@@ -101,22 +101,22 @@ fn agrees(buf: &[u8], p: Place, s: Parts) -> bool
     leaves_in(c, &buf[rest..end], &buf[from..to], &buf[left..right])
 }
 
-fn report(p: Place) {
-    records::report(b"open\naccount\nbit\ntable\nnumber\nbits\nfinish\n", p);
+fn report(rt: &impl Print, p: Place) -> io::Result<()> {
+    records::report(rt, b"open\naccount\nbit\ntable\nnumber\nbits\nfinish\n", p)
 }
 
-fn replay(buf: &[u8]) {
+fn replay(rt: &impl Print, buf: &[u8]) -> io::Result<()> {
     let mut p = records::start();
     while p.at < buf.len() {
         let s = records::coded_run(buf, p, FINISH, WRITER_NUMBERS);
         let ok = agrees(buf, p, s);
         p = records::after_run(buf, p, s, ok);
     }
-    report(p);
+    report(rt, p)
 }
 
-fn main() {
+fn main(rt: HostRuntime) -> io::Result<()> {
     let mut buf = [0u8; 524288];
-    let n = io::read_full(STDIN_FILENO, &mut buf);
-    replay(&buf[..n]);
+    let n = read_full::read_full(&mut rt.stdin(), &mut buf)?;
+    replay(&rt, &buf[..n])
 }

@@ -1,0 +1,10 @@
+-- Every place stands in the file. The measure: what is left of the file.
+use Rattle.std.proofs.Common.{◌-◌, length}
+use Rattle.records.specs.Inner.{Placed}
+use Rattle.reader_cases.proofs.replay.Given as goal
+
+abbrev pub invariant-loop : goal.invariant-loop
+invariant-loop g l = Placed l.buf l.p
+
+abbrev pub decreases-loop : goal.decreases-loop
+decreases-loop g l = length l.buf - l.p.at
