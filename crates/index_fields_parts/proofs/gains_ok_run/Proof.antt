@@ -29,7 +29,7 @@ part_all_in_range_end c = omega (arith, size c.before.before.before.before, subf
 
 returns : tie.Need-returns
 returns c =
-    let z = c.before.before.before.before.before.before in
+    let z = c.before.before.before.before.before in
     let l = z.args.x.gains in
     let m = c.first_most-most in
     let f : SFits w8 (get_or l 0 (pos 0)) = sfits_of c.first-1.given in

@@ -97,7 +97,7 @@ loop_again c =
       told = midway_ask l.invariant.told t.is (ap nat_abs (filter_is z.args.p h u)) a.ensures s (omega arith);
       to = omega arith;
       size = l.invariant.size;
-      kept = a.auto.0 ∙ l.invariant.kept;
+      kept = a.auto.buf ∙ l.invariant.kept;
     }
 
 same_length : tie.Need-shape_of-buf invariant_loop decreases_loop

@@ -49,7 +49,7 @@ returns c =
     let p = nat_abs (to_z w8 (of_z w8 x.period)) in
     let e = z.requires.1.0.1.least ∙ ap (λ (v : ℤ). pos (nat_abs v)) (sym (period_is z)) in
     told_ask (period_row z.requires.0.rows).is (ap nat_abs (period_is z)) a.ensures
-    (subst (λ (y : Indices). Told (out a.new.0 a.result) x (filters p z.args.subframes 0 y) 64 (out f.new.0 f.result))
+    (subst (λ (y : Indices). Told (out a.new.buf a.result) x (filters p z.args.subframes 0 y) 64 (out f.new.buf f.result))
     (sym (period_same x p e)) f.ensures)
 
 pub period_tell_run_spec : {M : Type 1} → statement M

@@ -1,9 +1,11 @@
 -- `index_lag_read::lag_index_run` meets its contract: a delta symbol in front, where one is due. Assumes nothing.
 use mathlib.Core.Path.{◌≡◌}
 use native.Mathlib.Omega.{arith}
-use borrow.Author.Rules.{rules}
+use borrow.Author.Rules.{rules, sfits_of}
 use borrow.Author.Tests.{eq-eqb, ne_eqb}
 use mir.Facts.{to_z-of_z}
+use mir.Syntax.{w16}
+use mir.Val.{SFits}
 use Rattle.tree.proofs.Ran.{ran_done, ran_ask, ran_within}
 use Rattle.silk.proofs.IndexRows.{delta_lag_row}
 use Rattle.silk.specs.IndexSyntax.{lag_after, lag}
@@ -41,7 +43,8 @@ returns_2 c =
     let a = c.ec_dec_icdf8_run-a in
     let l = c.lag_after in
     let e : l.result ≡ lag_after z.args.before a.result.value = rw (to_z-of_z z.ranges.before) at l.ensures in
-    rw (c.if-relative.true, e)
+    let f : SFits w16 l.result = sfits_of l.type_inv in
+    rw (to_z-of_z f, c.if-relative.true, e)
     (ran_within {n = 16} {m = 48} (omega arith)
     (ran_ask {n = 0} (delta_lag_row z.requires.0.rows).is a.ensures (rw (ne_eqb _ _ c.if-a-eq0.false) (ran_done a.ensures.core))))
 

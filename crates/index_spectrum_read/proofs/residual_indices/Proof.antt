@@ -47,7 +47,7 @@ loop_holds c =
       core = z.requires.0.core;
       to = omega arith;
       few = z.requires.1.2;
-      size = search (rules, z.well-formed.1.1.1.0);
+      size = search (rules, z.well_formed.1.1.1.0);
       least = omega arith;
       most = omega arith;
     }

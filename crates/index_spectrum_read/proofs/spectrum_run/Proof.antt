@@ -44,7 +44,7 @@ residual_indices_requires c κs =
 returns : tie.Need-returns
 unfolding spectrum
 returns c =
-    let z = c.before.before.before.before.before.before.before.before.before in
+    let z = c.before.before.before.before.before.before.before.before.before.before in
     let a = c.ec_dec_icdf8_run-a in
     let s = c.selectors_run-s in
     let t = first_index_row z.requires.0.rows _ (below_four z) in
