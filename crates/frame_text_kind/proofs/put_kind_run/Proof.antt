@@ -13,10 +13,10 @@ use Rattle.frame_text_kind.proofs.put_kind_run.Statement.{statement}
 use Rattle.frame_text_kind.proofs.put_kind_run.Tie as tie
 
 signal_fits : (z : tie.Start) → SFits w8 z.args.x.signal
-signal_fits z = search (rules, z.well-formed.1.1.0)
+signal_fits z = search (rules, z.well_formed.1.1.0)
 
 offset_fits : (z : tie.Start) → SFits w8 z.args.x.offset
-offset_fits z = search (rules, z.well-formed.1.1.0)
+offset_fits z = search (rules, z.well_formed.1.1.0)
 
 returns : tie.Need-returns
 unfolding ascii kind_text
@@ -24,7 +24,7 @@ returns c =
     let b = c.before.before.before.before.before.before.before.before in
     let v = b.before.before.before.before in
     let u = v.before.before in
-    let z = u.before.before.before in
+    let z = u.before.before.before.before.before in
     let a = z.args in
     let s : u.wide.result ≡ to_z w8 (of_z w8 a.x.signal) = u.wide.ensures in
     let o : v.wide-2.result ≡ to_z w8 (of_z w8 a.x.offset) = v.wide-2.ensures in

@@ -16,7 +16,7 @@ use Rattle.index_fields_parts.proofs.gains_ok_run.Statement.{statement}
 use Rattle.index_fields_parts.proofs.gains_ok_run.Tie as tie
 
 size : (z : tie.Start) → length z.args.x.gains ≡ 4
-size z = search (rules, z.good.0)
+size z = search (rules, z.well_formed.0)
 
 sub_all_in_range : tie.Need-slice_bounds-all_in_range-count
 sub_all_in_range c = omega (arith, subframes_least c.requires)
@@ -25,7 +25,7 @@ part_all_in_range_start : tie.Need-slice_bounds-all_in_range-start
 part_all_in_range_start c = omega (arith, subframes_least c.requires)
 
 part_all_in_range_end : tie.Need-slice_bounds-all_in_range-end
-part_all_in_range_end c = omega (arith, size c.before.before.before.before, subframes_most c.requires)
+part_all_in_range_end c = omega (arith, size c.before.before.before, subframes_most c.requires)
 
 returns : tie.Need-returns
 returns c =

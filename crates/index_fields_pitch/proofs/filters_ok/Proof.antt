@@ -16,14 +16,14 @@ use Rattle.index_fields_pitch.proofs.filters_ok.Statement.{statement}
 use Rattle.index_fields_pitch.proofs.filters_ok.Tie as tie
 
 size : (z : tie.Start) → length z.args.ltp ≡ 4
-size z = search (rules, z.good.0)
+size z = search (rules, z.well_formed.0)
 
 part_all_in_range_end : tie.Need-slice_bounds-all_in_range-end
 part_all_in_range_end c = omega (arith, size c.before.before, subframes_most c.requires)
 
 returns : tie.Need-returns
 returns c =
-    let z = c.before.before.before.before in
+    let z = c.before.before.before in
     let m = c.filter_most-most in
     let g : SFits w8 m.result = search rules in
     let e : c.all_in_range.result ≡ every (in_range (pos 0) m.result) (take (z.args.subframes - 0) (drop 0 z.args.ltp)) =

@@ -18,7 +18,7 @@ use Rattle.nlsf_stabilize.proofs.silk_NLSF_stabilize.Tie as tie
 
 -- the call's start, from behind the first test
 abbrev start : tie.Then-lengths_ok → tie.Start
-start q = q.before.before.before
+start q = q.before.before
 
 -- the lengths are right past that test, and the sum's sign is the gap set's rule
 lengths_right : (c : tie.Then-lengths_ok) → let a = (start c).args in lengths_ok a.vector.now a.gaps.now ≡ true

@@ -50,14 +50,14 @@ sub_w c = rw (room_is c) (room_fits c)
 
 slacks_run_requires : tie.Need-slacks_run-requires invariant_loop decreases_loop
 slacks_run_requires c κs =
-    let s = c.before.before.before in
+    let s = c.before.before in
     let r = s.requires.0.0 in
     let e = ap (λ (z : ℤ). to_z w32 (of_z w32 z)) (room_is s) ∙ to_z-of_z (room_fits s) in
     ((ap (replicate 18) e, refl), ((r.rule, r.long), (r.some, r.few)))
 
 loop_holds : tie.Need-loop-m-init invariant_loop decreases_loop
 loop_holds c =
-    let s = c.before.before.before.before in
+    let s = c.before.before.before in
     let g = s.args.g.now in
     let v = s.args.v.now in (
       omega arith,
@@ -81,7 +81,7 @@ abbrev given : tie.At-loop-m invariant_loop decreases_loop → List ℤ
 given b = b.args.v.now
 
 abbrev sums : tie.At-loop-m invariant_loop decreases_loop → List ℤ
-sums b = b.slacks_run.new.1.0
+sums b = b.slacks_run.new.s
 
 turn : (b : tie.At-loop-m invariant_loop decreases_loop) → Turn (gaps b) (given b) b.loop-m.v b.loop-m.w (sums b) b.loop-m.m
 turn b = b.loop-m.invariant.1.1
@@ -122,7 +122,7 @@ abbrev new : tie.After-move_at_run invariant_loop decreases_loop → List ℤ
 new c = let b = searched (found c) in move (gaps b) (turn b).values (found c).place_run-i.result
 
 moved : (c : tie.After-move_at_run invariant_loop decreases_loop) → let b = searched (found c) in
-    Held (gaps b) (new c) c.move_at_run.new.0 c.move_at_run.new.1.0 (sums b)
+    Held (gaps b) (new c) c.move_at_run.new.v c.move_at_run.new.1.0 (sums b)
 moved c = let t = turn (searched (found c)) in c.move_at_run.ensures t.values t.held
 
 -- with one more move, the rest of the run is the whole answer
@@ -134,7 +134,7 @@ on c =
     run_on (gaps b) t.values (found c).place_run-i.result b.loop-m.m (stabilise (gaps b) (given b))
     (found c).loop-m-test.true t.broken (place_is (found c)) t.rest
 
-as_given : (c : tie.After-move_at_run invariant_loop decreases_loop) → length c.move_at_run.new.0 ≡ length (given (searched (found c)))
+as_given : (c : tie.After-move_at_run invariant_loop decreases_loop) → length c.move_at_run.new.v ≡ length (given (searched (found c)))
 as_given c =
     let b = searched (found c) in
     let t = turn b in
@@ -182,13 +182,13 @@ abbrev left : tie.After-fall_back_run invariant_loop decreases_loop → tie.At-l
 left c = c.before.before.before
 
 same_length_2 : tie.Need-shape_of-v invariant_loop decreases_loop
-same_length_2 c = c.fall_back_run.auto.0 ∙ (left c.before).loop-m.invariant.1.0
+same_length_2 c = c.fall_back_run.auto.v ∙ (left c.before).loop-m.invariant.1.0
 
 returns_2 : tie.Need-returns invariant_loop decreases_loop
 returns_2 c =
     let b = left c.before in
     let t = turn b in
-    run_out (gaps b) t.values c.fall_back_run.new.0 b.loop-m.m (stabilise (gaps b) (given b)) (omega arith)
+    run_out (gaps b) t.values c.fall_back_run.new.v b.loop-m.m (stabilise (gaps b) (given b)) (omega arith)
     (c.fall_back_run.ensures ∙ stored_fallback _ _ _ _ _ t.held) t.rest
 
 pub stabilise_run_spec : {M : Type 1} → statement M

@@ -37,7 +37,7 @@ loop_again : tie.Need-loop-h-preserved invariant_loop decreases_loop
 loop_again c =
     let i = c.before.before.before.before in
     let r = c.shell_8_run-q in
-    halving_next i.loop-h.invariant i.loop-h-test.true c.half_count_run-c.ensures r.auto.1.1.1.0 r.ensures
+    halving_next i.loop-h.invariant i.loop-h-test.true c.half_count_run-c.ensures r.auto.places r.ensures
 
 pub silk_shell_decoder_run_spec : {M : Type 1} → statement M
 silk_shell_decoder_run_spec =

@@ -49,7 +49,7 @@ loop_holds c = record { told = midway_start (start c.before.before.before).requi
 
 -- the part at hand
 part : (c : tie.In-loop-k invariant_loop decreases_loop)
-    → let s = (spoke c.before).spoken-of-run.last in
+    → let s = (spoke c.before).spoken_of_run-count.last in
     let k = c.loop-k.k in
     Stored (get_or s.0 k 0) (get_or s.1.0 k 0) (get_or s.1.1.0 k 0) (get_or (parts c.before) k no_part)
 part c = (spoke c.before).spoken_of_run-count.ensures.at c.loop-k.k c.loop-k-test.true
@@ -62,7 +62,7 @@ place : (c : tie.In-loop-k invariant_loop decreases_loop)
     → let s = spoke c.before in
     let k = c.loop-k.k in
     let q = get_or (parts c.before) k no_part in
-    Stands (58 + q.table * 16 + all_of q) (start s).args.rows.now (get_or s.spoken-of-run.last.0 k 0) (get_or s.spoken-of-run.last.1.0 k 0 + 1)
+    Stands (58 + q.table * 16 + all_of q) (start s).args.rows.now (get_or s.spoken_of_run-count.last.0 k 0) (get_or s.spoken-of-run.last.1.0 k 0 + 1)
 place c = let a = part c in rw a.all_is (stands_in (start (spoke c.before)).requires.1.1.0.is a.stands)
 
 mul_start : tie.Need-offset_bounds-starts-k invariant_loop decreases_loop
