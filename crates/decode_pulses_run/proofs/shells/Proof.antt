@@ -38,7 +38,7 @@ loop_again c =
     let l = t.loop-i in
     let r = c.silk_shell_decoder_run-d in
     let few = (start t.before).requires.1.1.1.2 l.i in
-    splitting_next _ _ _ _ _ l.pulses l.d l.i l.invariant t.loop-i-test.true few r.new.1.1.1.0 r.result r.ensures
+    splitting_next _ _ _ _ _ l.pulses l.d l.i l.invariant t.loop-i-test.true few r.new.places r.result r.ensures
 
 pub shells_spec : {M : Type 1} → statement M
 shells_spec =

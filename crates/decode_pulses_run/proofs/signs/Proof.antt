@@ -72,9 +72,9 @@ loop_again c =
     let s = c.before.before.before.before.before.before in
     let l = s.before.before.before in
     let r = c.silk_decode_signs_run-d in
-    let y = r.new.1.1.1.0 in
+    let y = r.new.places in
     let m = mags (block_of l.loop-i.pulses l.loop-i.i) in
-    round_next l.loop-i.invariant s.loop-i-test.true (sym (map-id y)) r.auto.1.1.1.0
+    round_next l.loop-i.invariant s.loop-i-test.true (sym (map-id y)) r.auto.places
     (subst (λ (q : List ℕ). Ran (start l).args.packet.now l.loop-i.d (each (pos 0) (sign q) m) 256 y r.result) (row_is s) r.ensures)
 
 pub signs_spec : {M : Type 1} → statement M

@@ -19,7 +19,7 @@ abbrev start : tie.After-ec_dec_icdf8_run-a → tie.Start
 start c = c.before.before.before.before
 
 abbrev rated : tie.After-counts_run-x → tie.After-ec_dec_icdf8_run-a
-rated c = c.before.before
+rated c = c.before.before.before
 
 abbrev counted : tie.After-shells-s → tie.After-counts_run-x
 counted c = c.before.before
@@ -44,7 +44,7 @@ ec_dec_icdf8_run_requires c κs =
 
 counts_run_requires : tie.Need-counts_run-x-requires
 counts_run_requires c κs =
-    let b = start c.before in
+    let b = start c.before.before in
     let a = c.ec_dec_icdf8_run-a.ensures in
     let p = b.requires.1.1 in
     let rate = rate_stands (b.args.signal / 2) (two_rows b) in
@@ -64,7 +64,7 @@ lows_requires c κs =
     let r = rated (counted s) in
     let b = start r in
     let f = (counted s).counts_run-x.ensures in
-    let t = s.shells in
+    let t = s.shells-s in
     let p = b.requires.1.1 in (
       t.ensures.ran.core,
       (
@@ -74,7 +74,7 @@ lows_requires c κs =
           (
             p.1.0,
             f.1.1,
-            turned_held Small (λ w k. k.size) _ _ _ _ t.new.1.1.1.0 _ b.args.n t.ensures (t.auto.1.1.1.0 ∙ p.1.1),
+            turned_held Small (λ w k. k.size) _ _ _ _ t.new.pulses _ b.args.n t.ensures (t.auto.pulses ∙ p.1.1),
           ),
         ),
       ),
@@ -87,8 +87,8 @@ signs_requires c κs =
     let r = rated (counted s) in
     let b = start r in
     let f = (counted s).counts_run-x.ensures in
-    let t = s.shells in
-    let u = l.lows in
+    let t = s.shells-s in
+    let u = l.lows-l in
     let p = b.requires.1.1 in (
       u.ensures.ran.core,
       (
@@ -99,7 +99,7 @@ signs_requires c κs =
             p.1.0,
             p.1.2,
             p.1.3,
-            turned_held Sixteen (λ w k. k) _ _ _ _ u.new.1.1.1.1.0 _ b.args.n u.ensures
+            turned_held Sixteen (λ w k. k) _ _ _ _ u.new.pulses _ b.args.n u.ensures
                 (u.auto.1.1.1.1.0 ∙ t.kept.1.1.1.0 ∙ p.1.1),
           ),
         ),
@@ -112,9 +112,9 @@ returns c =
     let s = split l in
     let r = rated (counted s) in
     let b = start r in
-    let f = (counted s).counts-run in
+    let f = (counted s).counts_run-x in
     chain _ _ _ r.ec_dec_icdf8_run-a.result b.args.signal b.args.offset b.args.n f.result.counts f.result.lows
-    s.shells.last.1.1.1.0 l.lows.last.1.1.1.1.0 _ _ _ _ _
+    s.shells-s.last.1.1.1.0 l.lows.last.1.1.1.1.0 _ _ _ _ _
     b.requires.1.1.1.0 (rate_is b) r.ec_dec_icdf8_run-a.ensures f.ensures.0 s.shells-s.ensures l.lows-l.ensures c.signs.ensures
 
 pub silk_decode_pulses_run_spec : {M : Type 1} → statement M

@@ -13,7 +13,7 @@ use Rattle.frame_text_indices.proofs.put_gains.Tie as tie
 
 enough : (z : tie.Start) → z.args.subframes ≤ length z.args.x.gains
 enough z =
-    let l : length z.args.x.gains ≡ 4 = search (rules, z.well-formed.1.1.0) in
+    let l : length z.args.x.gains ≡ 4 = search (rules, z.well_formed.1.1.0) in
     omega arith
 
 -- the part that is lent
@@ -23,7 +23,7 @@ long z = length-take-le z.args.subframes z.args.x.gains (enough z)
 array_share_prefix_gains : tie.Need-slice_bounds-gains-end
 array_share_prefix_gains c = enough c.before.before.before.before
 
-slice_aggregate_put_small_run_2 : tie.Need-slice-aggregate-put-small-run-2
+slice_aggregate_put_small_run_2 : tie.Need-slice_bounds-put_small_run-end-2
 slice_aggregate_put_small_run_2 c = sym (long c.before.before.before.before.before)
 
 put_small_run_requires : tie.Need-put_small_run-requires
@@ -40,5 +40,5 @@ returns c =
 pub put_gains_spec : {M : Type 1} → statement M
 put_gains_spec =
     tie.close
-    (tie.spec (λ c. search rules) array_share_prefix_gains slice_aggregate_put_small_run_2 put_small_run_requires
+    (tie.spec array_share_prefix_gains slice_aggregate_put_small_run_2 put_small_run_requires
     (λ c. search rules) returns)

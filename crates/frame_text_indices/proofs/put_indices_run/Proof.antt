@@ -13,10 +13,10 @@ use Rattle.frame_text_indices.proofs.put_indices_run.Statement.{statement}
 use Rattle.frame_text_indices.proofs.put_indices_run.Tie as tie
 
 interp_fits : (z : tie.Start) → SFits w8 z.args.x.interp
-interp_fits z = search (rules, z.well-formed.1.1.0)
+interp_fits z = search (rules, z.well_formed.1.1.0)
 
 seed_fits : (z : tie.Start) → SFits w8 z.args.x.seed
-seed_fits z = search (rules, z.well-formed.1.1.0)
+seed_fits z = search (rules, z.well_formed.1.1.0)
 
 put_kind_run_requires : tie.Need-put_kind_run-place-requires
 put_kind_run_requires c κs = (search rules, search rules, subframes_most c.requires.1.1)
@@ -61,7 +61,7 @@ same_length c =
     let s = i.before.before.before.before.before.before in
     let g = s.before.before.before.before in
     let k = g.before.before.before.before in
-    o.put_one_run-place.auto.0
+    o.put_one_run.auto.0
     ∙ p.put_pitch_run-place.auto.0
     ∙ i.put_one_run-place.auto.0
     ∙ s.put_spectrum-place.auto.0
@@ -80,7 +80,7 @@ returns c =
     let z = k.before.before.before in
     let t = put_then (put_then k.put_kind_run-place.ensures g.put_gains-place.ensures) s.put_spectrum-place.ensures in
     let u = put_then (put_then t (rw (to_z-of_z (interp_fits z)) at i.put_one_run-place.ensures)) p.put_pitch_run-place.ensures in
-    put_then u (rw (to_z-of_z (seed_fits z)) at o.put_one_run-place.ensures)
+    put_then u (rw (to_z-of_z (seed_fits z)) at o.put_one_run.ensures)
 
 pub put_indices_run_spec : {M : Type 1} → statement M
 put_indices_run_spec =

@@ -14,7 +14,7 @@ use Rattle.frame_text_indices.proofs.put_spectrum.Tie as tie
 
 enough : (z : tie.Start) (n : ℕ) → n ≤ 17 → n ≤ length z.args.x.nlsf
 enough z n h =
-    let l : length z.args.x.nlsf ≡ 17 = search (rules, z.well-formed.1.1.0) in
+    let l : length z.args.x.nlsf ≡ 17 = search (rules, z.well_formed.1.1.0) in
     omega arith
 
 -- the part that is lent
@@ -26,7 +26,7 @@ array_share_prefix_nlsf c =
     let n = c.indices_of-n in
     enough c.before.before.before.before.before n.result n.ensures.1
 
-slice_aggregate_put_small_run_2 : tie.Need-slice-aggregate-put-small-run-2
+slice_aggregate_put_small_run_2 : tie.Need-slice_bounds-put_small_run-end-2
 slice_aggregate_put_small_run_2 c =
     let n = c.indices_of-n in
     sym (long c.before.before.before.before.before.before n.result n.ensures.1)
@@ -48,5 +48,5 @@ returns c =
 pub put_spectrum_spec : {M : Type 1} → statement M
 put_spectrum_spec =
     tie.close
-    (tie.spec (λ c κs. search rules) (λ c. search rules) array_share_prefix_nlsf slice_aggregate_put_small_run_2
+    (tie.spec (λ c κs. search rules) array_share_prefix_nlsf slice_aggregate_put_small_run_2
     put_small_run_requires (λ c. search rules) returns)

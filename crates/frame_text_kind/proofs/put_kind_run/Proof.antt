@@ -30,7 +30,7 @@ returns c =
     let o : v.wide-2.result ≡ to_z w8 (of_z w8 a.x.offset) = v.wide-2.ensures in
     let e = widened u.wide.type_inv s (signal_fits z) in
     let h = widened v.wide-2.type_inv o (offset_fits z) in
-    put_as (put_then b.put_line_run-place.ensures c.put_line_run-place.ensures)
+    put_as (put_then b.put_line_run-place.ensures c.put_line_run.ensures)
     (rw (e, h, to_z_pos w16 {n = a.khz} (omega arith), to_z_pos w16 {n = a.subframes} (omega arith)))
     (omega arith)
 

@@ -19,7 +19,7 @@ size : (z : tie.Start) → length z.args.ltp ≡ 4
 size z = search (rules, z.well_formed.0)
 
 part_all_in_range_end : tie.Need-slice_bounds-all_in_range-end
-part_all_in_range_end c = omega (arith, size c.before.before, subframes_most c.requires)
+part_all_in_range_end c = omega (arith, size c.before, subframes_most c.requires)
 
 returns : tie.Need-returns
 returns c =

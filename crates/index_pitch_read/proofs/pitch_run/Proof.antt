@@ -34,17 +34,17 @@ start c = c.before.before.before.before.before.before
 lag_read : (c : tie.After-lag_index_run-l) (n : ℕ) → 2 ^ 27 + 48 ≤ n → Ready (start c) c.lag_index_run-l.result.state n
 lag_read c n h = reading_next n (start c).requires.0 c.lag_index_run-l.ensures h
 
-contour_read : (c : tie.After-contour_index_run-c) (n : ℕ) → 2 ^ 27 + 64 ≤ n → Ready (start c.before) c.contour_index_run-c.result.state n
-contour_read c n h = reading_next n (lag_read c.before (2 ^ 27 + 48) (omega arith)) c.contour_index_run-c.ensures h
+contour_read : (c : tie.After-contour_index_run-c) (n : ℕ) → 2 ^ 27 + 64 ≤ n → Ready (start c.before.before.before) c.contour_index_run-c.result.state n
+contour_read c n h = reading_next n (lag_read c.before.before.before (2 ^ 27 + 48) (omega arith)) c.contour_index_run-c.ensures h
 
-period_read : (c : tie.After-period_index_run-p) (n : ℕ) → 2 ^ 27 + 144 ≤ n → Ready (start c.before.before) c.period_index_run-p.result.state n
-period_read c n h = reading_next n (contour_read c.before (2 ^ 27 + 64) (omega arith)) c.period_index_run-p.ensures h
+period_read : (c : tie.After-period_index_run-p) (n : ℕ) → 2 ^ 27 + 144 ≤ n → Ready (start c.before.before.before.before.before.before) c.period_index_run-p.result.state n
+period_read c n h = reading_next n (contour_read c.before.before.before (2 ^ 27 + 64) (omega arith)) c.period_index_run-p.ensures h
 
 contour_index_run_requires : tie.Need-contour_index_run-c-requires
-contour_index_run_requires c κs = (lag_read c (2 ^ 29) (omega arith), (start c).requires.1)
+contour_index_run_requires c κs = (lag_read c.before.before (2 ^ 29) (omega arith), (start c.before.before).requires.1)
 
 period_index_run_requires : tie.Need-period_index_run-p-requires
-period_index_run_requires c κs = (contour_read c (2 ^ 28) (omega arith), (start c.before).requires.1.1)
+period_index_run_requires c κs = (contour_read c.before.before (2 ^ 28) (omega arith), (start c.before).requires.1.1)
 
 scale_index_run_requires : tie.Need-scale_index_run-requires
 scale_index_run_requires c κs = period_read c (2 ^ 29) (omega arith)
@@ -59,7 +59,7 @@ unfolding pitch
 returns c =
     let p = c.before in
     let k = p.before in
-    let l = k.before in
+    let l = k.before.before.before.before.before.before.before in
     let a = (start l).args in
     ran_bind _ (as_set a.s a.s.khz a.s.prevlag a.x (rw (prevlag_is (start l)) at l.lag_index_run-l.ensures) refl)
     (ran_bind _ k.contour_index_run-c.ensures (ran_bind _ p.period_index_run-p.ensures c.scale_index_run.ensures))

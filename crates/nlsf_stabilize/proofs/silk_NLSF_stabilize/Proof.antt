@@ -26,7 +26,7 @@ lengths_right c = sym c.lengths_ok.ensures ∙ c.if-lengths_ok.true
 
 -- that test, from behind the sum
 abbrev measured : tie.After-ruled_sum_run-sum → tie.Then-lengths_ok
-measured r = r.before.before.before.before
+measured r = r.before.before.before
 
 rule_is : (r : tie.After-ruled_sum_run-sum) (t : Bool) → le_z (pos 0) (to_z w32 (of_z w32 r.ruled_sum_run-sum.result)) ≡ t
     → let a = (start (measured r)).args in
@@ -39,19 +39,19 @@ rule_is r t e =
 
 stays_run_requires : tie.Need-stays_run-requires
 stays_run_requires c κs =
-    let q = c.before in
+    let q = c in
     let a = (start q).args in
     let l = lengths_are a.vector.now a.gaps.now (lengths_right q) in omega (arith, l.one_more)
 
 returns : tie.Need-returns-then-stays_run
 returns c =
-    let q = c.before.before.before in
+    let q = c.before.before in
     let a = (start q).args in
     stays_answers a.vector.now a.gaps.now (lengths_right q) (sym c.stays_run.ensures ∙ c.if-stays_run.true)
 
 ruled_sum_run_requires : tie.Need-ruled_sum_run-sum-requires
 ruled_sum_run_requires c κs =
-    let q = c.before.before.before in
+    let q = c.before.before in
     let a = (start q).args in
     let l = lengths_are a.vector.now a.gaps.now (lengths_right q) in (l.one_more, l.most)
 
@@ -72,7 +72,7 @@ returns_2 : tie.Need-returns-then-sum-ge0
 returns_2 c =
     let r = c.before.before.before.before in
     let a = (start (measured r)).args in
-    stabilise_answers a.vector.now a.gaps.now c.stabilise_run-m.new.0 c.stabilise_run-m.result
+    stabilise_answers a.vector.now a.gaps.now c.stabilise_run-m.new.v c.stabilise_run-m.result
     (accepted a.vector.now a.gaps.now (lengths_right (measured r)) (rule_is r true c.if-sum-ge0.true))
     c.stabilise_run-m.ensures
 

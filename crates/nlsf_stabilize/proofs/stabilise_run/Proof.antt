@@ -122,7 +122,7 @@ abbrev new : tie.After-move_at_run invariant_loop decreases_loop → List ℤ
 new c = let b = searched (found c) in move (gaps b) (turn b).values (found c).place_run-i.result
 
 moved : (c : tie.After-move_at_run invariant_loop decreases_loop) → let b = searched (found c) in
-    Held (gaps b) (new c) c.move_at_run.new.v c.move_at_run.new.1.0 (sums b)
+    Held (gaps b) (new c) c.move_at_run.new.v c.move_at_run.new.w (sums b)
 moved c = let t = turn (searched (found c)) in c.move_at_run.ensures t.values t.held
 
 -- with one more move, the rest of the run is the whole answer
@@ -158,7 +158,7 @@ returns c =
     let b = searched (found d) in
     let h = moved d in
     let n = as_long _ _ _ _ _ h in
-    let up = subst (λ (j : ℕ). UpTo (suc j) d.move-at-run.last.1.0) n (c.rises_run.ensures.0 c.if-rises_run.true) in
+    let up = subst (λ (j : ℕ). UpTo (suc j) d.move_at_run.new.w) n (c.rises_run.ensures.0 c.if-rises_run.true) in
     let k = rises_keeps _ _ _ _ _ h up in
     ap (λ (l : List ℤ). record { vector = l; moves = b.loop-m.m + 1 }) (kept_stored _ _ _ _ _ h k)
     ∙ run_stop (gaps b) (new d) (b.loop-m.m + 1) (stabilise (gaps b) (given b)) h.long h.rule.good k (on d)
@@ -168,7 +168,7 @@ loop_again c =
     let d = mended c.before in
     let h = moved d in
     let n = as_long _ _ _ _ _ h in
-    let down = subst (λ (j : ℕ). Falls (suc j) d.move-at-run.last.1.0) n (c.rises_run.ensures.1 c.if-rises_run.false) in
+    let down = subst (λ (j : ℕ). Falls (suc j) d.move_at_run.new.w) n (c.rises_run.ensures.1 c.if-rises_run.false) in
     (omega arith, (as_given d, record { values = new d; held = h; rest = on d; broken = falls_not _ _ _ _ _ h down }))
 
 -- ---- behind the loop

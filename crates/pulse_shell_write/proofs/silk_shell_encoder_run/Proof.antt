@@ -49,30 +49,30 @@ loop_holds c = record { told = midway_start (start c.before.before.before).requi
 
 -- the part at hand
 part : (c : tie.In-loop-k invariant_loop decreases_loop)
-    → let s = (spoke c.before).spoken_of_run-count.last in
+    → let s = (spoke c.before).spoken_of_run-count.new in
     let k = c.loop-k.k in
-    Stored (get_or s.0 k 0) (get_or s.1.0 k 0) (get_or s.1.1.0 k 0) (get_or (parts c.before) k no_part)
+    Stored (get_or s.starts k 0) (get_or s.alls k 0) (get_or s.lefts k 0) (get_or (parts c.before) k no_part)
 part c = (spoke c.before).spoken_of_run-count.ensures.at c.loop-k.k c.loop-k-test.true
 
-inside : (c : tie.In-loop-k invariant_loop decreases_loop) → c.loop-k.k < 15
-inside c = omega (arith, (spoke c.before).spoken_of_run-count.ensures.most, c.loop-k-test.true)
+inside : (l : tie.At-loop-k invariant_loop decreases_loop) → l.loop-k.k < (spoke l).spoken_of_run-count.result → l.loop-k.k < 15
+inside l h = omega (arith, (spoke l).spoken_of_run-count.ensures.most, h)
 
 -- where its row stands in what is lent
 place : (c : tie.In-loop-k invariant_loop decreases_loop)
     → let s = spoke c.before in
     let k = c.loop-k.k in
     let q = get_or (parts c.before) k no_part in
-    Stands (58 + q.table * 16 + all_of q) (start s).args.rows.now (get_or s.spoken_of_run-count.last.0 k 0) (get_or s.spoken-of-run.last.1.0 k 0 + 1)
+    Stands (58 + q.table * 16 + all_of q) (start s).args.rows.now (get_or s.spoken_of_run-count.new.starts k 0) (get_or s.spoken_of_run-count.new.alls k 0 + 1)
 place c = let a = part c in rw a.all_is (stands_in (start (spoke c.before)).requires.1.1.0.is a.stands)
 
 mul_start : tie.Need-offset_bounds-starts-k invariant_loop decreases_loop
-mul_start c = omega (arith, inside c)
+mul_start c = omega (arith, inside c.before c.loop-k-test.true)
 
 array_read_start : tie.Need-bounds-starts-k invariant_loop decreases_loop
-array_read_start c = inside c
+array_read_start c = inside c.before c.loop-k-test.true
 
 array_read_n : tie.Need-bounds-alls-k invariant_loop decreases_loop
-array_read_n c = inside c
+array_read_n c = inside c.before c.loop-k-test.true
 
 cast_n : tie.Need-overflow_cast-n invariant_loop decreases_loop
 cast_n c = let a = part c in omega (arith, a.all_is, a.within.most)
@@ -84,7 +84,7 @@ add_end_2 : tie.Need-overflow_add-end-in-loop-k invariant_loop decreases_loop
 add_end_2 c = omega (arith, (place c).within, (start (spoke c.before)).requires.1.1.0.size)
 
 array_read_left : tie.Need-bounds-lefts-k invariant_loop decreases_loop
-array_read_left c = inside c
+array_read_left c = inside c.before c.loop-k-test.true
 
 cast_left : tie.Need-overflow_cast-left invariant_loop decreases_loop
 cast_left c = let a = part c in omega (arith, a.left_is, a.left_most, a.within.most)
@@ -122,8 +122,8 @@ loop_again c =
     record {
       told = place_told _ _ _ _ _ qs l.k l.invariant.told (omega (arith, (spoke d.before).spoken_of_run-count.ensures.count, d.loop-k-test.true)) refl
           (told_of (λ r. r.places) t);
-      to = omega (arith, inside d);
-      kept = w.auto.0 ∙ l.invariant.kept;
+      to = omega (arith, inside d.before d.loop-k-test.true);
+      kept = w.auto.buf ∙ l.invariant.kept;
     }
 
 same_length : tie.Need-shape_of-buf invariant_loop decreases_loop

@@ -43,15 +43,15 @@ add_sum c =
     let x = at b.args.g.now b.loop-i.i in
     let f : SFits w16 x = sfits_of c.sum-1.given in
     let l : b.loop-i.i < 17 = omega arith in
-    rw (read b.loop-i.i (to_z w32 b.loop-i.sum) x b.loop-i.invariant.2 l f)
-    (fits b.loop-i.i (to_z w32 b.loop-i.sum) x b.loop-i.invariant.2 l f)
+    rw (read b.loop-i.i (to_z w32 b.loop-i.sum-bits) x b.loop-i.invariant.2 l f)
+    (fits b.loop-i.i (to_z w32 b.loop-i.sum-bits) x b.loop-i.invariant.2 l f)
 
 loop_again : tie.Need-loop-i-preserved invariant_loop decreases_loop
 loop_again c =
     let b = c.before.before.before in
     let g = b.args.g.now in
     let i = b.loop-i.i in
-    let a = to_z w32 b.loop-i.sum in
+    let a = to_z w32 b.loop-i.sum-bits in
     let x = at g i in
     let f0 : SFits w16 x = sfits_of c.none-1.given in
     let f : SFits w16 x = sfits_of c.sum-1.given in
@@ -87,8 +87,8 @@ returns c =
     let f : SFits w16 (at g n) = sfits_of c.t14-1.given in
     let e : l.i ≡ length g = omega arith in
     let t : good_gaps n g ≡ true =
-    sym (whole_test g n l.i l.none (to_z w32 l.sum) e l.invariant.1 l.invariant.3) ∙ (rw (to_z-of_z f) at c.if-none-g.true) in
-    whole_sum g l.i (to_z w32 l.sum) e l.invariant.3 ∙ sym (ap (λ (x : Bool). cond x (total g) (negsuc 0)) t)
+    sym (whole_test g n l.i l.none (to_z w32 l.sum-bits) e l.invariant.1 l.invariant.3) ∙ (rw (to_z-of_z f) at c.if-none-g.true) in
+    whole_sum g l.i (to_z w32 l.sum-bits) e l.invariant.3 ∙ sym (ap (λ (x : Bool). cond x (total g) (negsuc 0)) t)
 
 returns_2 : tie.Need-returns invariant_loop decreases_loop
 unfolding ruled_sum
@@ -100,7 +100,7 @@ returns_2 c =
     let f : SFits w16 (at g n) = sfits_of c.t14-1.given in
     let e : l.i ≡ length g = omega arith in
     let t : good_gaps n g ≡ false =
-    sym (whole_test g n l.i l.none (to_z w32 l.sum) e l.invariant.1 l.invariant.3) ∙ (rw (to_z-of_z f) at c.if-none-g.false) in
+    sym (whole_test g n l.i l.none (to_z w32 l.sum-bits) e l.invariant.1 l.invariant.3) ∙ (rw (to_z-of_z f) at c.if-none-g.false) in
     sym (ap (λ (x : Bool). cond x (total g) (negsuc 0)) t)
 
 pub ruled_sum_run_spec : {M : Type 1} → statement M
