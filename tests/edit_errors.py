@@ -9,7 +9,7 @@ edit, the kind of the error and what differs.
   search    a search that ends without a proof of what the function ensures, or of what a call in it requires
 
 Fails on any other kind (a name, a type, another relation, a place that a rewriting no longer finds), on an edit without a log, on an
-edit that docs/PROMISES.md does not name, on a name there that is no edit, room or function, and where docs/EDITS.md is stale in its
+edit that docs/PROMISES.md does not name, on a name there that is no edit, room, function or law, and where docs/EDITS.md is stale in its
 edits and kinds (--write writes it).
 Usage: tests/edit_errors.py [--write] [CHECKOUT]
 """
@@ -146,12 +146,14 @@ class Edits:
         rooms = {path.name for path in self.top.glob('crates/*')}
         sources = [path.read_text('utf-8') for path in self.top.glob('crates/*/src/**/*.rt')]
         functions = {name for text in sources for name in re.findall(r'\bfn (\w+)', text)}
+        texts = [path.read_text('utf-8') for part in ('specs', 'proofs') for path in self.top.glob(f'crates/*/{part}/**/*.antt')]
+        laws = {name for text in texts for name in re.findall(r'^\s*(?:(?:abbrev|unfoldable|pub) )*(\w+)(?: \{[^}]*\})? :(?=\s)', text, re.M)}
         for room, edit, *_ in self.found:
             if edit not in named:
                 yield f'docs/PROMISES.md does not name {room}/{edit}'
-        for name in sorted(named - edits - rooms - functions):
+        for name in sorted(named - edits - rooms - functions - laws):
             if '_' in name:
-                yield f'docs/PROMISES.md names {name}, which is no edit, room or function'
+                yield f'docs/PROMISES.md names {name}, which is no edit, room, function or law'
 
     def document(self):
         yield '# Must-fail edits'
