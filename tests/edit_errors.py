@@ -20,8 +20,9 @@ import sys
 
 GOOD = 'value', 'bound', 'equation', 'search'
 # What another relation, test or type in a term's place is called.
-SHAPES = {'◌≡◌', '◌≤◌', '◌<◌', '◌==◌', 'Path', 'compare_is_eq', 'is_eq', 'is_le', 'is_lt', 'eqb', 'leb', 'ltb', 'nat_eq', 'nat_le', 'nat_lt',
-          'eq_z', 'le_z', 'lt_z', 'int_le', 'int_lt', 'ℕ', 'ℤ', 'Bool', 'List'}
+SHAPES = {'◌≡◌', '◌≤◌', '◌<◌', '◌==◌', 'Path', 'compare_is_eq', 'is_eq', 'is_le', 'is_lt', 'eqb', 'leb', 'ltb', 'nat_eq', 'nat_le',
+          'nat_lt', 'eq_z', 'le_z', 'lt_z', 'int_le', 'int_lt', 'ℕ', 'ℤ', 'Bool', 'List'}
+DECLARED = re.compile(r'^\s*(?:(?:abbrev|unfoldable|pub) )*(\w+)(?: \{[^}]*\})? :(?=\s)', re.M)
 BROKEN = re.compile(r'no occurrence of|has no field|that can be named from here|not in scope|is applied to an argument|a dimension')
 GONE = re.compile(r'has no field `|has no `[^`]*` that can be named')
 FOLLOWS = re.compile(r'\d+ declarations? that depends? on')
@@ -147,7 +148,7 @@ class Edits:
         sources = [path.read_text('utf-8') for path in self.top.glob('crates/*/src/**/*.rt')]
         functions = {name for text in sources for name in re.findall(r'\bfn (\w+)', text)}
         texts = [path.read_text('utf-8') for part in ('specs', 'proofs') for path in self.top.glob(f'crates/*/{part}/**/*.antt')]
-        laws = {name for text in texts for name in re.findall(r'^\s*(?:(?:abbrev|unfoldable|pub) )*(\w+)(?: \{[^}]*\})? :(?=\s)', text, re.M)}
+        laws = {name for text in texts for name in DECLARED.findall(text)}
         for room, edit, *_ in self.found:
             if edit not in named:
                 yield f'docs/PROMISES.md does not name {room}/{edit}'
@@ -160,8 +161,8 @@ class Edits:
         yield ''
         yield 'Every wrong line of code or of a definition that the gate tries, and the first error that refuses it: its kind and what'
         yield 'differs (`tests/edit_errors.py` says what each kind is; the terms are cut). docs/PROMISES.md has them by the call that they'
-        yield 'speak of. The gate fails where an edit is refused for another kind of reason, or where this page is stale in edits or kinds;'
-        yield '`tests/edit_errors.py --write` writes it after `tests/edit_logs.py`.'
+        yield 'speak of. The gate fails where an edit is refused for another kind of reason, or where this page is stale in edits or'
+        yield 'kinds; `tests/edit_errors.py --write` writes it after `tests/edit_logs.py`.'
         last = ''
         for room, edit, files, what, differs in self.found:
             if room != last:

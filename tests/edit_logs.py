@@ -2,8 +2,8 @@
 """Keeps what the prover says of each must-fail edit (crates/ROOM/must-fail/EDIT.edit) as target/edits/ROOM/EDIT.log, for edit_errors.py.
 
 `rt ci` tries every edit and shows one line of why it is refused. Here an edit is tried in a copy of its room once more, the same way:
-over the libraries that rt has built and what its check of the room has kept (`rt all check`), so that only what the edit reaches is checked.
-A room that is not proved as it stands over these is not tried.
+over the libraries that rt has built and what its check of the room has kept (`rt all check`), so that only what the edit reaches is
+checked. A room that is not proved as it stands over these is not tried.
 
 Prints a line for each edit that is not refused, and last how many were. Fails where one is not refused or not tried.
 Usage: tests/edit_logs.py [ROOM...]
@@ -123,13 +123,14 @@ def proved(room, seeds):
         return check(room, copy, seeds / room)[0] == 0
 
 
-NAMELESS = re.compile(r'has no field `([^`]+)` \(nearest: \.([^,)]+)|has no `([^`]+)` that can be named from here \(did you mean `([^`]+)`|'
+NAMELESS = re.compile(r'has no field `([^`]+)` \(nearest: \.([^,)]+)|'
+                      r'has no `([^`]+)` that can be named from here \(did you mean `([^`]+)`|'
                       r'^help: `\w+` has no `([^`]+)`; rattle asks for `([^`]+)`', re.M)
 
 
 def respelled(said, where):
-    """Whether names in a copy's proofs were brought to what the edit made of them. A goal and a step are named by the test before them, as
-    `if-n-lt10` by `n < 10`: where an edit changes a test, a proof that cites its name says nothing of any fact."""
+    """Whether names in a copy's proofs were brought to what the edit made of them. A goal and a step are named by the test before
+    them, as `if-n-lt10` by `n < 10`: where an edit changes a test, a proof that cites its name says nothing of any fact."""
     pairs = {}
     for found in NAMELESS.findall(said):
         old, new = (word.split('-') for word in filter(None, found))
@@ -178,9 +179,10 @@ def main():
         edits = [edit for room in rooms if room not in lost for edit in sorted((TOP / 'crates' / room).glob('must-fail/*.edit'))]
         results = list(pool.map(lambda edit: tried(edit, seeds), edits))
     failed = [line for good, line in results if not good]
-    print(*(f'{room}: NOT TRIED: it is not proved over what rt check kept' for room in lost), *failed, sep='\n', end='\n' if lost or failed else '')
-    print(f'{len(results) - len(failed)} edits refused, {len(failed)} not' + (f'; rooms not tried: {len(lost)}' if lost else ''))
-    return 1 if failed or lost else 0
+    failed += [f'{room}: NOT TRIED: it is not proved over what rt check kept' for room in lost]
+    print(*failed, sep='\n', end='\n' if failed else '')
+    print(f'{sum(good for good, _ in results)} edits refused; what is not: {len(failed)}')
+    return 1 if failed else 0
 
 
 if __name__ == '__main__':

@@ -64,6 +64,12 @@ def check(tree, crate):
     return run.returncode == 0, unbuilt[1] if unbuilt else crate, list(dict.fromkeys(REFUSED.findall(run.stdout))), run.stdout
 
 
+def listed():
+    """What each crate names in crates.txt."""
+    with open(os.path.join(ROOT, "crates.txt"), encoding="utf-8") as f:
+        return {name: rest.split() for name, rest in re.findall(r"^(\w+)(?: staticlib)?:(.*)", f.read(), re.M)}
+
+
 def below(crate, lists):
     """A crate and those that it rests on."""
     return {crate}.union(*(below(name, lists) for name in lists[crate] if name in lists))
@@ -71,14 +77,14 @@ def below(crate, lists):
 
 def copy_of(tmp, crate):
     """A tree of a crate and those below it. Its checks begin with what rt kept of these elsewhere."""
-    tree = os.path.join(tmp, crate)
-    with open(os.path.join(ROOT, "crates.txt"), encoding="utf-8") as f:
-        lists = {name: rest.split() for name, rest in re.findall(r"^(\w+)(?: staticlib)?:(.*)", f.read(), re.M)}
-    for name in below(crate, lists):
+    tree, lists = os.path.join(tmp, crate), listed()
+    names = sorted(below(crate, lists))
+    for name in names:
         for part in "src", "specs", "proofs":
             if os.path.isdir(os.path.join(ROOT, "crates", name, part)):
                 shutil.copytree(os.path.join(ROOT, "crates", name, part), os.path.join(tree, "crates", name, part))
-    shutil.copy(os.path.join(ROOT, "crates.txt"), tree)
+    with open(os.path.join(tree, "crates.txt"), "w", encoding="utf-8") as f:
+        f.writelines("%s: %s\n" % (name, " ".join(lists[name])) for name in names)
     return tree
 
 
