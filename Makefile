@@ -5,7 +5,9 @@
 # make install   header, library and pkg-config file under PREFIX
 PREFIX ?= /usr/local
 library = target/staticlib/libtignarops.a
-sources := crates.txt $(shell find crates -type f -name '*.rt' -o -type f -name '*.antt')
+sources := crates.txt $(shell find crates -name out -prune -o -type f -name '*.rt' -print -o -type f -name '*.antt' -print)
+# The room that rt builds an archive of: what tignarops exports to C stands in one of its own.
+room = $(patsubst tignarops,tignarops_c,$*)
 
 .PHONY: all archives check bench install
 
@@ -14,7 +16,8 @@ all: $(library)
 archives: $(library) target/staticlib/libtable_entries.a
 
 target/staticlib/lib%.a: $(sources)
-	rt staticlib $*
+	cd crates/$(room) && rt lib
+	install -D -m 644 crates/$(room)/out/lib$(room).a $@
 
 check:
 	bash .ci/run

@@ -15,9 +15,8 @@ import sys
 WORD = re.compile(r'[^\s(){}\[\];,"`@λ]+')
 USE = re.compile(r'use\s+([^\s{;]+?)(?:\.\{([^}]*)\})?(?:\s+as\s+(\S+))?;?\s*$')
 HEAD = re.compile(r'\s*((?:(?:abbrev|unfoldable|pub) )*)(?:(record|data)\s+(\S+)|(\S+)(?: \{[^}]*\})? :(?=\s))')
-FUNCTION = re.compile(  # attributes; signature and contract; name: up to a brace at a line's end that is no contract's
-    r'^((?:#\[[^\n]*\]\s*)*)((?:pub(?:\(crate\))? )?(?:extern "C" )?fn (\w+).*?)(?<!requires )(?<!ensures )\{(?:\n.*?^)?\}$',
-    re.M | re.S)
+FUNCTION = re.compile(r'^((?:#\[[^\n]*\]\s*)*)((?:pub(?:\(crate\))? )?(?:extern "C" )?fn (\w+))', re.M)  # attributes; head; name
+CLAUSE = re.compile(r'\s*(?:requires|ensures)\b')
 NUMBER = r'\d+(?:\.\d+)*'
 CITED = re.compile(rf'RFC \d+|sections? {NUMBER}(?:(?:, | and | to ){NUMBER})*|document 0\d(?:, "[^"]+"|, item \d+)?')
 HANDS_OUT = 'packet_view', 'packet_frame'  # rooms whose public calls hand out references, which C cannot hold
@@ -39,6 +38,19 @@ class Scope:
             self.files[alias or path.split('.')[-1]] = path
         for there, _, here in (name.strip().partition(' as ') for name in (names or '').split(',')):
             self.names[here or there] = (path, there)
+
+
+def contract(text, start):
+    """A function's signature and clauses: up to its body's brace, which stands alone behind a clause, else at a line's end."""
+    lines, clause = [], False
+    for line in text[start:].split('\n'):
+        clause = clause or bool(CLAUSE.match(line))
+        if line == '{':
+            break
+        lines.append(line)
+        if not clause and line.endswith(('{', '{}')):
+            break
+    return '\n'.join(lines)
 
 
 class Item:
@@ -69,13 +81,13 @@ def statements(lines, around=''):
 class Project:
     def __init__(self, top):
         self.top, self.scopes, self.functions, mains = top, {}, [], ''
+        self.archives = re.findall(r'^(\w+) staticlib:', (top / 'crates.txt').read_text(), re.M)
         for path in sorted(top.glob('crates/*/*/**/*')):
             file = str(path.relative_to(top))
             if path.suffix in ('.rt', '.antt') and file.split('/')[2] in ('src', 'specs', 'proofs'):
                 mark = '//' if path.suffix == '.rt' else '--'
                 text = re.sub(rf'(^|[ \t]){mark}.*$', '', path.read_text('utf-8'), flags=re.M)
-                # `Rattle·room·specs.specs.File` and `Rattle·room.specs.File` are one file: room.specs.File
-                text = re.sub(r'Rattle·(\w+)(·\w+)?\.', r'\1.', text)
+                text = re.sub(r'\bRattle\.(?=\w+\.)', '', text)  # a file is room.specs.File
                 (self.read_source if mark == '//' else self.read_declarations)(file, text)
                 mains += text if path.name == 'main.rt' else ''
         self.declared = {item for scope in self.scopes.values() for item in scope.declared.values()}
@@ -86,8 +98,8 @@ class Project:
         for line in re.findall(r'^ghost use .*', text, re.M):
             scope.use(line)
         for found in FUNCTION.finditer(text):
-            item = Item(scope, file, 0, found[3], False, found[2])
-            item.exported = 'no_mangle' in found[1]
+            item = Item(scope, file, 0, found[3], False, contract(text, found.start(2)))
+            item.exported = 'no_mangle' in found[1] and file.split('/')[1] in self.archives
             self.functions.append(item)
 
     def read_declarations(self, file, text):
@@ -117,8 +129,14 @@ class Project:
             'the stated theorems': [item for item in self.declared if '/specs/Statement' in item.file],
         }
 
+    def named(self, word, scope):
+        """The declaration that a word means, or one that it projects from: `book.weights` is of `book`."""
+        parts = word.split('.')
+        longest = (self.meaning('.'.join(parts[:end]), scope) for end in range(len(parts), 0, -1))
+        return next(filter(None, longest), None)
+
     def meaning(self, word, scope):
-        """The declaration that a word means; None for a variable and for a library's name."""
+        """The declaration that a name means; None for a variable and for a library's name."""
         head, _, tail = word.rpartition('.')
         path, name = scope.names.get(word) or (scope.files.get(head, head), tail)
         return scope.declared.get(word) or (self.meaning(name, self.scopes[path]) if path in self.scopes else None)
@@ -131,7 +149,7 @@ class Project:
                 seen.add(item)
                 text = getattr(item, 'around', '') + '\n' + item.type + item.body * item.meant
                 words = {word.rstrip('.') for word in WORD.findall(text) if word[0] != '.'}  # no projections
-                left += [self.meaning(word, item.scope) for word in words | {f'_{word}_' for word in words}]
+                left += [self.named(word, item.scope) for word in words | {f'◌{word}◌' for word in words}]
         return seen & self.declared
 
     # ---- the document
@@ -157,7 +175,7 @@ class Project:
                 inner = folder / f'{name}.antt'
                 yield str(inner.relative_to(self.top))
                 yield from listed(inner, folder / name)
-        for room in re.findall(r'^(\w+):', (self.top / 'crates.txt').read_text(), re.M):
+        for room in re.findall(r'^(\w+)(?: staticlib)?:', (self.top / 'crates.txt').read_text(), re.M):
             specs = self.top / f'crates/{room}/specs'
             yield from ((room, file) for file in listed(specs / 'Lib.antt', specs))
 
@@ -169,8 +187,8 @@ class Project:
         yield ''
         yield 'Every definition on which the contracts of the exported calls, of the public calls on references (' + ', '.join(
             f'`{room}`' for room in HANDS_OUT) + '), the'
-        yield "programs' texts and the stated theorems rest, in reading order: from the ground up, in a file from its top. Lines are counted"
-        yield 'without blank ones and comments. What is cited is the section of RFC 6716 or of the document named, by the definition\'s'
+        yield "programs' texts and the stated theorems rest, in reading order: from the ground up, in a file from its top. Lines are"
+        yield 'counted without blank ones and comments. What is cited is the section of RFC 6716 or of the document named, by the definition\'s'
         yield 'own comment, or else by the heading that it stands under, or else by its file\'s first comment.'
         yield '`tests/believed.py --write` writes this page, and the gate fails where it is stale.'
         yield ''

@@ -1,7 +1,7 @@
 #!/usr/bin/env python3
-"""Each must-fail edit is refused because a fact is false, and not because the proof's text no longer fits. Reads what `must_fail.py`
-wrote of every edit (target/must-fail/ROOM/EDIT/.log), takes its first error that is no other's consequence, and prints a line for each:
-the edit, the kind of the error and what differs.
+"""Each must-fail edit is refused because a fact is false, and not because the proof's text no longer fits. Reads what `edit_logs.py`
+kept of every edit (target/edits/ROOM/EDIT.log), takes its first error that is no other's consequence, and prints a line for each: the
+edit, the kind of the error and what differs.
 
   value     two terms differ in a number, a field or an argument
   bound     an inequality or a sum of numbers does not follow
@@ -9,7 +9,7 @@ the edit, the kind of the error and what differs.
   search    a search that ends without a proof of what the function ensures, or of what a call in it requires
 
 Fails on any other kind (a name, a type, another relation, a place that a rewriting no longer finds), on an edit without a log, on an
-edit that docs/PROMISES.md does not name, on a name there that is no edit, room or function, and where docs/EDITS.md is stale in its
+edit that docs/PROMISES.md does not name, on a name there that is no edit, room, function or law, and where docs/EDITS.md is stale in its
 edits and kinds (--write writes it).
 Usage: tests/edit_errors.py [--write] [CHECKOUT]
 """
@@ -20,8 +20,12 @@ import sys
 
 GOOD = 'value', 'bound', 'equation', 'search'
 # What another relation, test or type in a term's place is called.
-SHAPES = {'_≡_', '_≤_', '_<_', 'Path', 'isEq', 'isLe', 'isLt', 'eqb', 'leb', 'ltb', 'eqZ', 'leZ', 'ltZ', 'ℕ', 'ℤ', 'Bool', 'List'}
+SHAPES = {'◌≡◌', '◌≤◌', '◌<◌', '◌==◌', 'Path', 'compare_is_eq', 'is_eq', 'is_le', 'is_lt', 'eqb', 'leb', 'ltb', 'nat_eq', 'nat_le',
+          'nat_lt', 'eq_z', 'le_z', 'lt_z', 'int_le', 'int_lt', 'ℕ', 'ℤ', 'Bool', 'List'}
+DECLARED = re.compile(r'^\s*(?:(?:abbrev|unfoldable|pub) )*(\w+)(?: \{[^}]*\})? :(?=\s)', re.M)
 BROKEN = re.compile(r'no occurrence of|has no field|that can be named from here|not in scope|is applied to an argument|a dimension')
+GONE = re.compile(r'has no field `|has no `[^`]*` that can be named')
+FOLLOWS = re.compile(r'\d+ declarations? that depends? on')
 ASKED = re.compile(r'`search`: no proof of `\S+\.Reads\.Asked ')
 OPEN = re.compile(r'it is not proved that (.*?)(?: \(|$)', re.M)
 SIDES = r'where one has `(?P<{0}>[^`]*)`\s*\((?:expected|left)\).*?the other has `(?P<{1}>[^`]*)`\s*\((?:found|right)\)'
@@ -32,12 +36,14 @@ PRINTED = re.compile(r'as printed, the two (?:types|sides) (?:differ only|first 
 
 
 def first_error(log):
-    """The first error that is no other's consequence with the lines that belong to it, or else the first part that was left open."""
+    """The first error that is no other's consequence with the lines that belong to it, or else the first part that was left open. A goal
+    bears the name of what the code does there: a name that the edit took away comes last, where nothing else was refused."""
     blocks = re.split(r'\n(?!  )', log)
     first = lambda block: block.split('\n')[0]
-    errors = (block for block in blocks if ': error: ' in first(block) and 'was not admitted' not in first(block))
-    notes = (block for block in blocks if first(block).startswith('note: ') and OPEN.search(first(block)))
-    return next(itertools.chain(errors, notes), '')
+    errors = [block for block in blocks if ': error: ' in first(block) and not FOLLOWS.search(first(block))]
+    named = [block for block in errors if GONE.search(first(block))]
+    notes = [block for block in blocks if first(block).startswith('note: ') and OPEN.search(first(block))]
+    return next(itertools.chain((block for block in errors if block not in named), named, notes), '')
 
 
 def words(term):
@@ -45,13 +51,16 @@ def words(term):
 
 
 def bare(word):
-    """A word without the path of its module."""
-    return word if re.fullmatch(r'\.?[^.]*', word) else word.rsplit('.', 1)[1] or word
+    """A word without the path of its module, and a projection without where its variable stands."""
+    parts = [part for part in word.split('.') if part]
+    start = max((i + 1 for i, part in enumerate(parts) if part[0].isupper()), default=0)
+    named = [part for part in parts[start:] if part not in ('c', 'before', 'args')]
+    return '.'.join(named) or (parts or [word])[-1]
 
 
 def short(term):
     """A term without where its variables stand and without modules, cut."""
-    text = ' '.join(bare(word) for word in words(re.sub(r'\bc(?: \.before)+|\bc(?= \.)', '', term)))
+    text = ' '.join(map(bare, words(term)))
     text = re.sub(r'\( ', '(', re.sub(r' \)', ')', text))
     return text if len(text) <= 40 else text[:38].rsplit(' ', 1)[0] + ' …'
 
@@ -64,7 +73,7 @@ def head(term):
         if depth == 0 and word in ('≡', '≤', '<'):
             return word
     first = bare((words(term) or [''])[0])
-    return {'Path': '≡', '_≡_': '≡', '_≤_': '≤', '_<_': '<', 'Post': '≡'}.get(first, first)
+    return {'Path': '≡', '◌≡◌': '≡', '◌≤◌': '≤', '◌<◌': '<', 'Post': '≡'}.get(first, first)
 
 
 def differing(one, other):
@@ -92,7 +101,7 @@ def sides(error):
 def numbers(error):
     """Where `omega` says that the fact fails: the numbers of its variables, by their last words."""
     places = re.findall(r'`([^`]*)`\s*= (\d+)', error.partition('fails, at')[2])
-    named = [f'{words(term)[-1]} = {n}' for term, n in places if re.fullmatch(r'\.?[a-z][a-z-]*', words(term)[-1])]
+    named = [f'{bare(term)} = {n}' for term, n in places if re.fullmatch(r"[a-z][\w.'-]*", term)]
     return 'fails at ' + ', '.join(dict.fromkeys(named[:2])) if named else 'does not follow'
 
 
@@ -123,7 +132,7 @@ class Edits:
         self.top, self.found = top, []
         for path in sorted(top.glob('crates/*/must-fail/*.edit')):
             room, edit = path.parts[-3], path.stem
-            log = top / 'target/must-fail' / room / edit / '.log'
+            log = top / 'target/edits' / room / f'{edit}.log'
             files = dict.fromkeys(re.findall(r'^file: (.*)', path.read_text('utf-8'), re.M))
             said = kind(first_error(log.read_text('utf-8', 'replace'))) if log.exists() else ('no log', '')
             self.found.append((room, edit, ', '.join(files), *said))
@@ -138,20 +147,22 @@ class Edits:
         rooms = {path.name for path in self.top.glob('crates/*')}
         sources = [path.read_text('utf-8') for path in self.top.glob('crates/*/src/**/*.rt')]
         functions = {name for text in sources for name in re.findall(r'\bfn (\w+)', text)}
+        texts = [path.read_text('utf-8') for part in ('specs', 'proofs') for path in self.top.glob(f'crates/*/{part}/**/*.antt')]
+        laws = {name for text in texts for name in DECLARED.findall(text)}
         for room, edit, *_ in self.found:
             if edit not in named:
                 yield f'docs/PROMISES.md does not name {room}/{edit}'
-        for name in sorted(named - edits - rooms - functions):
+        for name in sorted(named - edits - rooms - functions - laws):
             if '_' in name:
-                yield f'docs/PROMISES.md names {name}, which is no edit, room or function'
+                yield f'docs/PROMISES.md names {name}, which is no edit, room, function or law'
 
     def document(self):
         yield '# Must-fail edits'
         yield ''
         yield 'Every wrong line of code or of a definition that the gate tries, and the first error that refuses it: its kind and what'
         yield 'differs (`tests/edit_errors.py` says what each kind is; the terms are cut). docs/PROMISES.md has them by the call that they'
-        yield 'speak of. The gate fails where an edit is refused for another kind of reason, or where this page is stale in edits or kinds;'
-        yield '`tests/edit_errors.py --write` writes it after `tests/must_fail.py`.'
+        yield 'speak of. The gate fails where an edit is refused for another kind of reason, or where this page is stale in edits or'
+        yield 'kinds; `tests/edit_errors.py --write` writes it after `tests/edit_logs.py`.'
         last = ''
         for room, edit, files, what, differs in self.found:
             if room != last:

@@ -1,13 +1,13 @@
 #!/usr/bin/env python3
 """crates.txt lists for each room the rooms and libraries that its files name, and no other. Fails where an entry is named by no file
-of its room, or where a room is named and not listed.
+of its room, or where a room is named and not listed. What the toolchain gives every room (std, its logic) is no room.
 Usage: tests/rooms.py [CHECKOUT]
 """
 import pathlib
 import re
 import sys
 
-NAMED = re.compile(r'Rattle·(\w+?)(?:·\w+)?\.|\b(\w+)::')
+NAMED = re.compile(r'\bRattle\.(\w+)\.|\b(\w+)::')
 
 
 def named(room):
@@ -22,7 +22,7 @@ def named(room):
 
 def main():
     top = pathlib.Path(sys.argv[1] if len(sys.argv) > 1 else pathlib.Path(__file__).parent.parent)
-    lists = {room: rest.split() for room, rest in re.findall(r'^(\w+):(.*)', (top / 'crates.txt').read_text(), re.M)}
+    lists = {room: rest.split() for room, rest in re.findall(r'^(\w+)(?: staticlib)?:(.*)', (top / 'crates.txt').read_text(), re.M)}
     wrong = []
     for room, listed in lists.items():
         names = named(top / 'crates' / room)

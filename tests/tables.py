@@ -3,8 +3,8 @@
 least gaps of the two spectrum books in hertz, for who builds a filter.
 
 Written from crates/sheet/specs: names, starts and lengths by the directory, entries by the flat list (Sheet.antt), probabilities and
-sections by Probabilities.antt, gaps by Books.antt. That entries and probabilities agree is proved (`rows-printed`), and so is that gaps
-are kept (`decode-always`); neither is looked at here. Fails where a page is stale (--write writes them).
+sections by Probabilities.antt, gaps by Books.antt. That entries and probabilities agree is proved (`rows_printed`), and so is that gaps
+are kept (`decode_always`); neither is looked at here. Fails where a page is stale (--write writes them).
 Usage: tests/tables.py [--write] [CHECKOUT]
 """
 import pathlib
@@ -24,7 +24,7 @@ interpolation, lag, deltaLag, contour 1 to 3, period, scale, even 4, 6 and 8, ra
 were worked out from the entries, which are those of the crate and of libopus.
 
 That every row is the inverse of its probabilities, that these are 256 in all, that the rows fill the list and that a
-name finds its row is proved (`rows-printed`, `chances-whole`, `sheet-whole`, `names-found`). `tests/tables.py` writes this
+name finds its row is proved (`rows_printed`, `chances_whole`, `sheet_whole`, `names_found`). `tests/tables.py` writes this
 page from crates/sheet/specs; the gate fails where it is stale.
 
 {rows} rows, {entries} entries.
@@ -92,21 +92,21 @@ HERTZ = """\
 
 The values of a line spectrum are the lines of a filter, between 0 and the end of the band: 32,768 is half the sampling
 rate, so at so many kHz the value v stands at v x kHz x 1,000 / 65,536 Hz. Lines that touch make the filter unstable. What
-`tg_nlsf_decode` leaves, if it is accepted, keeps these distances, whatever the indices are (`decode-apart`:
+`tg_nlsf_decode` leaves, if it is accepted, keeps these distances, whatever the indices are (`decode_apart`:
 crates/spectrum/specs/Statement/Always.antt); that a filter of such lines is stable is filter theory and not proved here.
 Hertz are rounded down, and behind them stands the distance as values have it.
 
 {summary}
 
-None of them can be larger: `cases-hold` (crates/spectrum/proofs/Cases.antt) has, for either book, indices whose lines are
+None of them can be larger: `cases_hold` (crates/spectrum/proofs/Cases.antt) has, for either book, indices whose lines are
 at all three distances (8 and 12 kHz share a book); the comparison meets all three too, and fails where it does not.
 
 ## Gaps of your own
 
 `tg_nlsf_stabilise` keeps any gaps that it accepts: 0 or more each, the last 1 or more, 32,768 together at most
-(`stabilise-takes`, `stabilise-always`). For lines at least h Hz apart at a rate of so many kHz ask for gaps of
+(`stabilise_takes`, `stabilise_always`). For lines at least h Hz apart at a rate of so many kHz ask for gaps of
 h x 65,536 / (1,000 x kHz), rounded up: 50 Hz at 16 kHz is a gap of 205. A gap of 0 between two lines lets them touch;
-gaps of 1 do not (`gaps-apart`). crates/filter_example is a builder that asks for lines that do not touch, with both calls
+gaps of 1 do not (`gaps_apart`). crates/filter_example is a builder that asks for lines that do not touch, with both calls
 in front of it and no test between.
 
 ## Every gap of the books

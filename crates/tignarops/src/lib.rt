@@ -1,5 +1,5 @@
 // The C interface (include/tignarops.h): each call hands its slices and states to the room that does the work, and
-// has its contract.
+// has its contract. Other rooms use this one, and so C links the archive of tignarops_c, which calls it.
 #![tactic(auto)]
 
 ghost use Rattle.std.specs.Prelude.{◌≡◌};
@@ -174,7 +174,7 @@ pub extern "C" fn tg_encode_indices(
     prevtype: u32,
     prevlag: i16,
 ) -> IndicesWritten
-    ensures { record { buf = buf.exit.now; answer = result } ≡ encode_indices (out buf.entry.now w) «record»
+    ensures { record { buf = buf.new; answer = result } ≡ encode_indices (out buf.old w) «record»
         (record { khz = khz; subframes = subframes; active = active; mode = mode; prevtype = prevtype; prevlag = prevlag }) }
 {
     let setting = Setting {
@@ -233,15 +233,15 @@ pub extern "C" fn tg_encode_pulses(
 
 #[unsafe(no_mangle)]
 pub extern "C" fn tg_nlsf_decode(vector: &mut [i16], indices: Spectrum, khz: u32) -> Moves
-    ensures { record { vector = vector.exit.now; answer = result } ≡ decode_call vector.entry.now indices khz }
+    ensures { record { vector = vector.new; answer = result } ≡ decode_call vector.old indices khz }
 {
     nlsf_decode::silk_NLSF_decode(vector, indices, khz)
 }
 
 #[unsafe(no_mangle)]
 pub extern "C" fn tg_nlsf_stabilise(vector: &mut [i16], gaps: &[i16]) -> Moves
-    ensures { record { vector = vector.exit.now; answer = result } ≡
-        stabilise_call vector.entry.now gaps.now }
+    ensures { record { vector = vector.new; answer = result } ≡
+        stabilise_call vector.old gaps.now }
 {
     nlsf_stabilize::silk_NLSF_stabilize(vector, gaps)
 }
@@ -263,8 +263,8 @@ pub extern "C" fn tg_packet_write(
     sizes: &[u16],
     length: u32,
 ) -> PacketWritten
-    ensures { record { buf = buf.exit.now; answer = result } ≡
-        packet_write buf.entry.now config frames.now sizes.now length }
+    ensures { record { buf = buf.new; answer = result } ≡
+        packet_write buf.old config frames.now sizes.now length }
 {
     packet_write::packet_write(buf, config, frames, sizes, length)
 }
