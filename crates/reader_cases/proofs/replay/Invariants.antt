@@ -3,8 +3,8 @@ use Rattle.std.proofs.Common.{◌-◌, length}
 use Rattle.records.specs.Inner.{Placed}
 use Rattle.reader_cases.proofs.replay.Given as goal
 
-abbrev pub invariant-loop : goal.invariant-loop
-invariant-loop g l = Placed l.buf l.p
+abbrev pub invariant-loop-p : goal.invariant-loop-p
+invariant-loop-p g l = Placed l.buf l.p
 
-abbrev pub decreases-loop : goal.decreases-loop
-decreases-loop g l = length l.buf - l.p.at
+abbrev pub decreases-loop-p : goal.decreases-loop-p
+decreases-loop-p g l = length l.buf - l.p.at

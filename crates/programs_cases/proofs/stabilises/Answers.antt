@@ -1,0 +1,9 @@
+-- What is printed lies in the buffer.
+use Rattle.listing.proofs.PrintedLaws.{printed_within, printed_part}
+use Rattle.programs_cases.proofs.stabilises.Goals as goal
+
+pub slice_bounds-out-end : goal.slice_bounds-out-end
+slice_bounds-out-end c = printed_within _ _ _ _ c.stabiliser_text-n.ensures
+
+pub slice_bounds-same-end : goal.slice_bounds-same-end
+slice_bounds-same-end c = printed_part _ _ _ _ c.stabiliser_text-n.ensures
