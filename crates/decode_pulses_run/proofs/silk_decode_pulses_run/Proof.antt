@@ -100,7 +100,7 @@ signs_requires c κs =
             p.1.2,
             p.1.3,
             turned_held Sixteen (λ w k. k) _ _ _ _ u.new.pulses _ b.args.n u.ensures
-                (u.auto.1.1.1.1.0 ∙ t.kept.1.1.1.0 ∙ p.1.1),
+                (u.auto.pulses ∙ t.auto.pulses ∙ p.1.1),
           ),
         ),
       ),
@@ -114,7 +114,7 @@ returns c =
     let b = start r in
     let f = (counted s).counts_run-x in
     chain _ _ _ r.ec_dec_icdf8_run-a.result b.args.signal b.args.offset b.args.n f.result.counts f.result.lows
-    s.shells-s.last.1.1.1.0 l.lows.last.1.1.1.1.0 _ _ _ _ _
+    s.shells-s.new.pulses l.lows-l.new.pulses _ _ _ _ _
     b.requires.1.1.1.0 (rate_is b) r.ec_dec_icdf8_run-a.ensures f.ensures.0 s.shells-s.ensures l.lows-l.ensures c.signs.ensures
 
 pub silk_decode_pulses_run_spec : {M : Type 1} → statement M

@@ -102,7 +102,7 @@ same_length c =
     let l = lowered z in
     let s = split l in
     let f = counted s in
-    z.signs.auto.0 ∙ l.lows.kept.0 ∙ s.splits.kept.0 ∙ f.counts-tell-run.kept.0 ∙ (rated f).ec-enc-icdf-run.kept.0
+    z.signs.auto.buf ∙ l.lows-l.auto.buf ∙ s.splits-s.auto.buf ∙ f.counts_tell_run-c.auto.buf ∙ (rated f).ec_enc_icdf_run-a.auto.buf
 
 returns : tie.Need-returns
 returns c =

@@ -21,20 +21,20 @@ long : (z : tie.Start) → length (take z.args.subframes z.args.x.gains) ≡ z.a
 long z = length-take-le z.args.subframes z.args.x.gains (enough z)
 
 array_share_prefix_gains : tie.Need-slice_bounds-gains-end
-array_share_prefix_gains c = enough c.before.before.before.before
+array_share_prefix_gains c = enough c.before.before.before.before.before
 
 slice_aggregate_put_small_run_2 : tie.Need-slice_bounds-put_small_run-end-2
-slice_aggregate_put_small_run_2 c = sym (long c.before.before.before.before.before)
+slice_aggregate_put_small_run_2 c = sym (long c.before.before.before.before.before.before)
 
 put_small_run_requires : tie.Need-put_small_run-requires
 put_small_run_requires c κs =
-    let e = long c.before.before.before.before.before in
+    let e = long c.before.before.before.before.before.before in
     (omega (arith, e), omega (arith, e))
 
 returns : tie.Need-returns
 unfolding ascii gains_text
 returns c =
-    let z = c.before.before.before.before.before.before.before.before in
+    let z = c.before.before.before.before.before.before.before.before.before in
     put_as c.put_small_run.ensures refl (omega (arith, long z))
 
 pub put_gains_spec : {M : Type 1} → statement M

@@ -38,7 +38,7 @@ put_one_run_requires_2 c κs =
       r,
       k.put_kind_run-place.ensures.behind,
       k.put_kind_run-place.ensures.most,
-      k.put_kind_run-place.auto.0,
+      k.put_kind_run-place.auto.out,
       g.put_gains-place.ensures.behind,
       g.put_gains-place.ensures.most,
       g.put_gains-place.auto.0,
@@ -61,7 +61,7 @@ same_length c =
     let s = i.before.before.before.before.before.before in
     let g = s.before.before.before.before in
     let k = g.before.before.before.before in
-    o.put_one_run.auto.0
+    o.put_one_run.auto.out
     ∙ p.put_pitch_run-place.auto.0
     ∙ i.put_one_run-place.auto.0
     ∙ s.put_spectrum-place.auto.0
@@ -77,7 +77,7 @@ returns c =
     let s = i.before.before.before.before.before.before in
     let g = s.before.before.before.before in
     let k = g.before.before.before.before in
-    let z = k.before.before.before in
+    let z = k.before.before.before.before.before in
     let t = put_then (put_then k.put_kind_run-place.ensures g.put_gains-place.ensures) s.put_spectrum-place.ensures in
     let u = put_then (put_then t (rw (to_z-of_z (interp_fits z)) at i.put_one_run-place.ensures)) p.put_pitch_run-place.ensures in
     put_then u (rw (to_z-of_z (seed_fits z)) at o.put_one_run.ensures)

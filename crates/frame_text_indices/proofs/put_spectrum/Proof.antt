@@ -24,24 +24,24 @@ long z n h = length-take-le n z.args.x.nlsf (enough z n h)
 array_share_prefix_nlsf : tie.Need-slice_bounds-nlsf-end
 array_share_prefix_nlsf c =
     let n = c.indices_of-n in
-    enough c.before.before.before.before.before n.result n.ensures.1
+    enough c.before.before.before.before.before.before n.result n.ensures.1
 
 slice_aggregate_put_small_run_2 : tie.Need-slice_bounds-put_small_run-end-2
 slice_aggregate_put_small_run_2 c =
     let n = c.indices_of-n in
-    sym (long c.before.before.before.before.before.before n.result n.ensures.1)
+    sym (long c.before.before.before.before.before.before.before n.result n.ensures.1)
 
 put_small_run_requires : tie.Need-put_small_run-requires
 put_small_run_requires c κs =
     let n = c.indices_of-n in
-    let e = long c.before.before.before.before.before.before n.result n.ensures.1 in
+    let e = long c.before.before.before.before.before.before.before n.result n.ensures.1 in
     (omega (arith, e), omega (arith, e))
 
 returns : tie.Need-returns
 unfolding ascii spectrum_text
 returns c =
     let n = c.indices_of-n in
-    let z = c.before.before.before.before.before.before.before.before.before in
+    let z = c.before.before.before.before.before.before.before.before.before.before in
     let l = long z n.result n.ensures.1 in
     put_as c.put_small_run.ensures (ap (λ (k : ℕ). counted (ascii "nlsf") (take k z.args.x.nlsf)) n.ensures.0) (omega (arith, l))
 

@@ -44,10 +44,10 @@ contour_index_run_requires : tie.Need-contour_index_run-c-requires
 contour_index_run_requires c κs = (lag_read c.before.before (2 ^ 29) (omega arith), (start c.before.before).requires.1)
 
 period_index_run_requires : tie.Need-period_index_run-p-requires
-period_index_run_requires c κs = (contour_read c.before.before (2 ^ 28) (omega arith), (start c.before).requires.1.1)
+period_index_run_requires c κs = (contour_read c.before.before (2 ^ 28) (omega arith), (start c.before.before.before.before.before).requires.1.1)
 
 scale_index_run_requires : tie.Need-scale_index_run-requires
-scale_index_run_requires c κs = period_read c (2 ^ 29) (omega arith)
+scale_index_run_requires c κs = period_read c.before.before (2 ^ 29) (omega arith)
 
 -- the lag is relative where the setting says so
 as_set : (s : Setting) (khz : ℕ) (before : ℤ) (x : Indices) {b : List ℕ} {d q : Dec} {y : Indices} {relative : Bool} {n : ℕ}

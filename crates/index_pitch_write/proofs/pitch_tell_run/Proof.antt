@@ -32,21 +32,21 @@ Ready z b w n = Writing (out b w) z.args.rows.now n
 abbrev lag_start : tie.After-lag_tell_run-l → tie.Start
 lag_start c = c.before.before.before.before.before.before
 
-lag_told : (c : tie.After-lag_tell_run-l) (n : ℕ) → 2 ^ 27 + 48 ≤ n → Ready (lag_start c) c.lag_tell_run-l.new.0 c.lag_tell_run-l.result n
+lag_told : (c : tie.After-lag_tell_run-l) (n : ℕ) → 2 ^ 27 + 48 ≤ n → Ready (lag_start c) c.lag_tell_run-l.new.buf c.lag_tell_run-l.result n
 lag_told c n h = let z = lag_start c in writing_next n z.requires.0 (c.lag_tell_run-l.ensures z.args.s.prevlag) h
 
 abbrev contour_lag : tie.After-contour_tell_run-c → tie.After-lag_tell_run-l
 contour_lag c = c.before.before.before.before
 
 contour_told : (c : tie.After-contour_tell_run-c) (n : ℕ) → 2 ^ 27 + 64 ≤ n
-    → Ready (lag_start (contour_lag c)) c.contour_tell_run-c.new.0 c.contour_tell_run-c.result n
+    → Ready (lag_start (contour_lag c)) c.contour_tell_run-c.new.buf c.contour_tell_run-c.result n
 contour_told c n h = writing_next n (lag_told (contour_lag c) (2 ^ 27 + 48) (omega arith)) c.contour_tell_run-c.ensures h
 
 abbrev period_contour : tie.After-period_tell_run-p → tie.After-contour_tell_run-c
 period_contour c = c.before.before.before.before
 
 period_told : (c : tie.After-period_tell_run-p) (n : ℕ) → 2 ^ 27 + 144 ≤ n
-    → Ready (lag_start (contour_lag (period_contour c))) c.period_tell_run-p.new.0 c.period_tell_run-p.result n
+    → Ready (lag_start (contour_lag (period_contour c))) c.period_tell_run-p.new.buf c.period_tell_run-p.result n
 period_told c n h = writing_next n (contour_told (period_contour c) (2 ^ 27 + 64) (omega arith)) c.period_tell_run-p.ensures h
 
 -- ---- the calls

@@ -14,7 +14,7 @@ returns : tie.Need-returns-then-n-eq0
 returns c =
     let b = c.before.before.before.before in
     let a = b.args in
-    decode_answers a.vector.now a.indices a.khz c.decode-m.new.0 c.decode-m.result
+    decode_answers a.vector.now a.indices a.khz c.decode-m.new.vector c.decode-m.result
     (sym b.refusal-n.ensures ∙ c.if-n-eq0.true)
     c.decode-m.ensures
 

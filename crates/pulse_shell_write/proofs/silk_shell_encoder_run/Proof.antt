@@ -51,7 +51,7 @@ loop_holds c = record { told = midway_start (start c.before.before.before).requi
 part : (c : tie.In-loop-k invariant_loop decreases_loop)
     → let s = (spoke c.before).spoken_of_run-count.new in
     let k = c.loop-k.k in
-    Stored (get_or s.starts k 0) (get_or s.alls k 0) (get_or s.lefts k 0) (get_or (parts c.before) k no_part)
+    Stored (get_or s.start k 0) (get_or s.all k 0) (get_or s.left k 0) (get_or (parts c.before) k no_part)
 part c = (spoke c.before).spoken_of_run-count.ensures.at c.loop-k.k c.loop-k-test.true
 
 inside : (l : tie.At-loop-k invariant_loop decreases_loop) → l.loop-k.k < (spoke l).spoken_of_run-count.result → l.loop-k.k < 15
@@ -62,7 +62,7 @@ place : (c : tie.In-loop-k invariant_loop decreases_loop)
     → let s = spoke c.before in
     let k = c.loop-k.k in
     let q = get_or (parts c.before) k no_part in
-    Stands (58 + q.table * 16 + all_of q) (start s).args.rows.now (get_or s.spoken_of_run-count.new.starts k 0) (get_or s.spoken_of_run-count.new.alls k 0 + 1)
+    Stands (58 + q.table * 16 + all_of q) (start s).args.rows.now (get_or s.spoken_of_run-count.new.start k 0) (get_or s.spoken_of_run-count.new.all k 0 + 1)
 place c = let a = part c in rw a.all_is (stands_in (start (spoke c.before)).requires.1.1.0.is a.stands)
 
 mul_start : tie.Need-offset_bounds-starts-k invariant_loop decreases_loop

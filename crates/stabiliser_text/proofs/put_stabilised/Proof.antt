@@ -13,21 +13,16 @@ use Rattle.nlsf_stabilize.proofs.silk_NLSF_stabilize.Reads as silk-NLSF-stabiliz
 
 put_answer_run_requires : tie.Need-put_answer_run-requires
 put_answer_run_requires c κs =
-    let s = c.before.before.before in
-    let f = s.before.before.before.before.before.before.before in
-    let r = s.silk-NLSF-stabilize in
-    let v = f.fill_run.new.0 in
-    let k : length r.new.0 ≡ length v = r.auto.0 in
-    let a : r.result ≡ (stabilise_call v s.fill_run-2.new.0).answer = ap (λ (x : Called). x.answer) r.ensures in
+    let r = c.silk_NLSF_stabilize-a in
+    let v = c.fill_run.new.values in
+    let k : length r.new.vector ≡ length v = r.auto.vector in
+    let a : r.result ≡ (stabilise_call v c.fill_run-2.new.values).answer = ap (λ (x : Called). x.answer) r.ensures in
     (search rules, rw (k, a) (small v _))
 
 returns : tie.Need-returns
 returns c =
-    let s = c.before.before.before.before.before.before in
-    let g = s.before.before.before.before in
-    let f = g.before.before.before in
     put_as c.put_answer_run.ensures
-    (ap answer_text (s.silk_NLSF_stabilize-a.ensures ∙ ap₂ stabilise_call f.fill_run.ensures g.fill_run-2.ensures))
+    (ap answer_text (c.silk_NLSF_stabilize-a.ensures ∙ ap₂ stabilise_call c.fill_run.ensures c.fill_run-2.ensures))
     (omega arith)
 
 pub put_stabilised_spec : {M : Type 1} → statement M

@@ -44,22 +44,22 @@ abbrev rowed : tie.After-narrow_gaps-gaps → tie.After-narrow_predictors-lists
 rowed q = q.before.before.before.before.before.before.before
 
 to_stabilise : (q : tie.After-narrow_gaps-gaps) → let a = (start (rowed q)).args in
-    Handed narrow_book a.v a.xs.now q.narrow_gaps-gaps.result q.places_run.new.0
+    Handed narrow_book a.v a.xs.now q.narrow_gaps-gaps.result q.places_run.new.vector
 to_stabilise q =
     let d = rowed q in
     let p = q.places_run in
-    handed narrow_usable narrow_shaped.order (lent_are d) (start d).requires q.narrow_gaps-gaps.ensures p.ensures p.auto.0
+    handed narrow_usable narrow_shaped.order (lent_are d) (start d).requires q.narrow_gaps-gaps.ensures p.ensures p.auto.vector
 
 stays : tie.Need-returns-then-stays_run
 stays c =
-    let q = c.before.before.before.before in
+    let q = c.before.before.before in
     let h = to_stabilise q in
-    h.answer (stays_still q.places_run.new.0 q.narrow_gaps-gaps.result h.asked.long (sym c.stays_run.ensures ∙ c.if-stays_run.true))
+    h.answer (stays_still q.places_run.new.vector q.narrow_gaps-gaps.result h.asked.long (sym c.stays_run.ensures ∙ c.if-stays_run.true))
 
 moves : tie.Need-stabilise_run-requires
 moves c κs =
     let t = c.before.before in
-    let h = to_stabilise t.before.before.before.before in
+    let h = to_stabilise t.before.before.before in
     ((h.asked, sym (h.sum ∙ gap_total)), sym t.stays_run.ensures ∙ t.if-stays_run.false)
 
 pub narrow_run_spec : {M : Type 1} → statement M
