@@ -41,7 +41,7 @@ put_one_run_requires_2 c κs =
       k.put_kind_run-place.auto.out,
       g.put_gains-place.ensures.behind,
       g.put_gains-place.ensures.most,
-      g.put_gains-place.auto.0,
+      g.put_gains-place.auto.out,
       s.put_spectrum-place.ensures.behind,
       s.put_spectrum-place.ensures.most,
       s.put_spectrum-place.auto.0,
@@ -62,7 +62,7 @@ same_length c =
     let g = s.before.before.before.before in
     let k = g.before.before.before.before in
     o.put_one_run.auto.out
-    ∙ p.put_pitch_run-place.auto.0
+    ∙ p.put_pitch_run-place.auto.out
     ∙ i.put_one_run-place.auto.0
     ∙ s.put_spectrum-place.auto.0
     ∙ g.put_gains-place.auto.0

@@ -39,7 +39,7 @@ mul_base : tie.Need-overflow_mul-base
 mul_base c = search (rules, (accepts c).1)
 
 part_first_symbol_end : tie.Need-slice_bounds-first_symbol-end
-part_first_symbol_end c = omega (arith, (accepts c.before.before).1)
+part_first_symbol_end c = omega (arith, (accepts c.before).1)
 
 add_kind : tie.Need-overflow_add-kind
 add_kind c =
@@ -48,7 +48,7 @@ add_kind c =
 
 returns : tie.Need-returns-then-n-eq0
 returns c =
-    let i = c.before.before.before.before in
+    let i = c.before.before.before in
     ap (λ (a : Decoded). types_of (a.value + (start i).args.active * 2)) c.first_symbol-a.ensures ∙ (types i).is
 
 returns_2 : tie.Need-returns-else-n-eq0

@@ -48,22 +48,22 @@ loop_holds : tie.Need-loop-k-init invariant_loop decreases_loop
 loop_holds c = record { told = midway_start (start c.before.before.before).requires.0; to = omega arith; kept = refl }
 
 -- the part at hand
-part : (c : tie.In-loop-k invariant_loop decreases_loop)
-    → let s = (spoke c.before).spoken_of_run-count.new in
-    let k = c.loop-k.k in
-    Stored (get_or s.start k 0) (get_or s.all k 0) (get_or s.left k 0) (get_or (parts c.before) k no_part)
-part c = (spoke c.before).spoken_of_run-count.ensures.at c.loop-k.k c.loop-k-test.true
+part : (l : tie.At-loop-k invariant_loop decreases_loop) → l.loop-k.k < (spoke l).spoken_of_run-count.result
+    → let s = (spoke l).spoken_of_run-count.new in
+    let k = l.loop-k.k in
+    Stored (get_or s.start k 0) (get_or s.all k 0) (get_or s.left k 0) (get_or (parts l) k no_part)
+part l h = (spoke l).spoken_of_run-count.ensures.at l.loop-k.k h
 
 inside : (l : tie.At-loop-k invariant_loop decreases_loop) → l.loop-k.k < (spoke l).spoken_of_run-count.result → l.loop-k.k < 15
 inside l h = omega (arith, (spoke l).spoken_of_run-count.ensures.most, h)
 
 -- where its row stands in what is lent
-place : (c : tie.In-loop-k invariant_loop decreases_loop)
-    → let s = spoke c.before in
-    let k = c.loop-k.k in
-    let q = get_or (parts c.before) k no_part in
+place : (l : tie.At-loop-k invariant_loop decreases_loop) → l.loop-k.k < (spoke l).spoken_of_run-count.result
+    → let s = spoke l in
+    let k = l.loop-k.k in
+    let q = get_or (parts l) k no_part in
     Stands (58 + q.table * 16 + all_of q) (start s).args.rows.now (get_or s.spoken_of_run-count.new.start k 0) (get_or s.spoken_of_run-count.new.all k 0 + 1)
-place c = let a = part c in rw a.all_is (stands_in (start (spoke c.before)).requires.1.1.0.is a.stands)
+place l h = let a = part l h in rw a.all_is (stands_in (start (spoke l)).requires.1.1.0.is a.stands)
 
 mul_start : tie.Need-offset_bounds-starts-k invariant_loop decreases_loop
 mul_start c = omega (arith, inside c.before c.loop-k-test.true)
@@ -75,30 +75,30 @@ array_read_n : tie.Need-bounds-alls-k invariant_loop decreases_loop
 array_read_n c = inside c.before c.loop-k-test.true
 
 cast_n : tie.Need-overflow_cast-n invariant_loop decreases_loop
-cast_n c = let a = part c in omega (arith, a.all_is, a.within.most)
+cast_n c = let a = part c.before c.loop-k-test.true in omega (arith, a.all_is, a.within.most)
 
 add_end : tie.Need-overflow_add-end invariant_loop decreases_loop
-add_end c = let a = part c in omega (arith, a.all_is, a.within.most)
+add_end c = let a = part c.before c.loop-k-test.true in omega (arith, a.all_is, a.within.most)
 
 add_end_2 : tie.Need-overflow_add-end-in-loop-k invariant_loop decreases_loop
-add_end_2 c = omega (arith, (place c).within, (start (spoke c.before)).requires.1.1.0.size)
+add_end_2 c = omega (arith, (place c.before c.loop-k-test.true).within, (start (spoke c.before)).requires.1.1.0.size)
 
 array_read_left : tie.Need-bounds-lefts-k invariant_loop decreases_loop
 array_read_left c = inside c.before c.loop-k-test.true
 
 cast_left : tie.Need-overflow_cast-left invariant_loop decreases_loop
-cast_left c = let a = part c in omega (arith, a.left_is, a.left_most, a.within.most)
+cast_left c = let a = part c.before c.loop-k-test.true in omega (arith, a.left_is, a.left_most, a.within.most)
 
 part_ec_enc_icdf_run_end : tie.Need-slice_bounds-ec_enc_icdf_run-end invariant_loop decreases_loop
-part_ec_enc_icdf_run_end c = (place c.before).within
+part_ec_enc_icdf_run_end c = (place c.before.before c.loop-k-test.true).within
 
 ec_enc_icdf_run_requires : tie.Need-ec_enc_icdf_run-q-requires invariant_loop decreases_loop
 ec_enc_icdf_run_requires c κs =
     let d = c.before.before in
     let b = start (spoke d.before) in
     let l = d.loop-k in
-    let a = part d in
-    let s = place d in
+    let a = part d.before d.loop-k-test.true in
+    let s = place d.before d.loop-k-test.true in
     let t = l.invariant.told in
     let q = get_or (parts d.before) l.k no_part in
     let i = 58 + q.table * 16 + all_of q in
@@ -114,11 +114,11 @@ loop_again : tie.Need-loop-k-preserved invariant_loop decreases_loop
 loop_again c =
     let d = c.before.before.before.before.before in
     let l = d.loop-k in
-    let a = part d in
+    let a = part d.before d.loop-k-test.true in
     let w = c.ec_enc_icdf_run-q in
     let qs = parts d.before in
     let q = get_or qs l.k no_part in
-    let t = split_told {y = q.places} q.table (all_of q) a.some (lent _ (place d) refl) a.left_is w.ensures in
+    let t = split_told {y = q.places} q.table (all_of q) a.some (lent _ (place d.before d.loop-k-test.true) refl) a.left_is w.ensures in
     record {
       told = place_told _ _ _ _ _ qs l.k l.invariant.told (omega (arith, (spoke d.before).spoken_of_run-count.ensures.count, d.loop-k-test.true)) refl
           (told_of (λ r. r.places) t);

@@ -83,4 +83,4 @@ narrow_run_spec =
     (λ c. search rules)
     moves
     (λ c. search rules)
-    (λ c. (to_stabilise c.before.before.before.before.before.before.before.before).answer c.stabilise_run.ensures))
+    (λ c. (to_stabilise c.before.before.before.before.before.before.before).answer c.stabilise_run.ensures))
