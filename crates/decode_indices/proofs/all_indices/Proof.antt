@@ -19,7 +19,7 @@ abbrev start : tie.After-kind_run-k → tie.Start
 start c = c.before.before.before
 
 abbrev kind_of : tie.After-gains_run-g → tie.After-kind_run-k
-kind_of c = c.before.before.before
+kind_of c = c.before.before.before.before
 
 -- the signal type
 signal_small : (c : tie.After-kind_run-k) → c.kind_run-k.result.value / 2 < 3
@@ -51,7 +51,7 @@ voicing_read c n h = reading_next n (interpolation_read c.before (2 ^ 26 + 640) 
 
 gains_run_requires : tie.Need-gains_run-g-requires
 gains_run_requires c κs =
-    let k = c.before.before in
+    let k = c.before.before.before in
     (kind_read k (2 ^ 28) (omega arith), ((start k).requires.1.1, signal_small k))
 
 spectrum_run_requires : tie.Need-spectrum_run-q-requires

@@ -18,7 +18,7 @@ use Rattle.decode_indices.proofs.silk_decode_indices.Statement.{statement}
 use Rattle.decode_indices.proofs.silk_decode_indices.Tie as tie
 
 shape : (z : tie.Start) → Shape z.args.«record»
-shape z = record { gains = search (rules, z.well-formed.1.1.0); ltp = search (rules, z.well-formed.1.1.0); nlsf = search (rules, z.well-formed.1.1.0) }
+shape z = record { gains = search (rules, z.well_formed.1.1.0); ltp = search (rules, z.well_formed.1.1.0); nlsf = search (rules, z.well_formed.1.1.0) }
 
 prevlag_fits : (z : tie.Start) → SFits w16 z.args.s.prevlag
 prevlag_fits z = search rules
@@ -52,7 +52,7 @@ all_indices_requires c κs =
 accepted_requires : tie.Need-accepted-requires
 accepted_requires c κs =
     let r = c.before in
-    let b = r.before.before.before in
+    let b = r.before.before.before.before.before in
     let z = opened b in
     let y : Bytes z.args.packet.now = λ i. omega (arith, b.shared_slice_known-1.given i) in
     subst (λ (q : Got Indices). Upto 2 q.value.signal) r.all_indices-a.ensures.is
@@ -61,7 +61,7 @@ accepted_requires c κs =
 returns : tie.Need-returns-then-n-eq0
 returns c =
     let r = c.before.before in
-    let b = r.before.before.before in
+    let b = r.before.before.before.before.before in
     let z = opened b in
     (rw (to_z-of_z (prevlag_fits z)) at c.accepted.ensures)
     ∙ ap (λ (q : Got Indices). indices_got z.args.s.prevlag q) (sym r.all_indices-a.ensures.is)

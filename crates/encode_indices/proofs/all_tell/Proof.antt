@@ -25,34 +25,34 @@ Ready z b w n = Writing (out b w) z.args.rows.now n
 abbrev kind_start : tie.After-kind_tell_run-k → tie.Start
 kind_start c = c.before.before.before.before.before
 
-kind_told : (c : tie.After-kind_tell_run-k) (n : ℕ) → 2 ^ 26 + 16 ≤ n → Ready (kind_start c) c.kind_tell_run-k.new.0 c.kind_tell_run-k.result n
+kind_told : (c : tie.After-kind_tell_run-k) (n : ℕ) → 2 ^ 26 + 16 ≤ n → Ready (kind_start c) c.kind_tell_run-k.new.buf c.kind_tell_run-k.result n
 kind_told c n h = writing_next n (kind_start c).requires.0 c.kind_tell_run-k.ensures (omega arith)
 
 abbrev gains_start : tie.After-gains_tell_run-g → tie.Start
 gains_start c = kind_start c.before.before.before.before
 
-gains_told : (c : tie.After-gains_tell_run-g) (n : ℕ) → 2 ^ 26 + 96 ≤ n → Ready (gains_start c) c.gains_tell_run-g.new.0 c.gains_tell_run-g.result n
+gains_told : (c : tie.After-gains_tell_run-g) (n : ℕ) → 2 ^ 26 + 96 ≤ n → Ready (gains_start c) c.gains_tell_run-g.new.buf c.gains_tell_run-g.result n
 gains_told c n h =
     writing_next n (kind_told c.before.before.before.before (2 ^ 26 + 16) (omega arith)) c.gains_tell_run-g.ensures (omega arith)
 
 abbrev spectrum_start : tie.After-spectrum_tell_run-q → tie.Start
 spectrum_start c = gains_start c.before.before.before.before
 
-spectrum_told : (c : tie.After-spectrum_tell_run-q) (n : ℕ) → 2 ^ 26 + 624 ≤ n → Ready (spectrum_start c) c.spectrum_tell_run-q.new.0 c.spectrum_tell_run-q.result n
+spectrum_told : (c : tie.After-spectrum_tell_run-q) (n : ℕ) → 2 ^ 26 + 624 ≤ n → Ready (spectrum_start c) c.spectrum_tell_run-q.new.buf c.spectrum_tell_run-q.result n
 spectrum_told c n h =
     writing_next n (gains_told c.before.before.before.before (2 ^ 26 + 96) (omega arith)) c.spectrum_tell_run-q.ensures (omega arith)
 
 abbrev interpolation_start : tie.After-interpolation_tell_run-i → tie.Start
 interpolation_start c = spectrum_start c.before.before.before.before
 
-interpolation_told : (c : tie.After-interpolation_tell_run-i) (n : ℕ) → 2 ^ 26 + 640 ≤ n → Ready (interpolation_start c) c.interpolation_tell_run-i.new.0 c.interpolation_tell_run-i.result n
+interpolation_told : (c : tie.After-interpolation_tell_run-i) (n : ℕ) → 2 ^ 26 + 640 ≤ n → Ready (interpolation_start c) c.interpolation_tell_run-i.new.buf c.interpolation_tell_run-i.result n
 interpolation_told c n h =
     writing_next n (spectrum_told c.before.before.before.before (2 ^ 26 + 624) (omega arith)) c.interpolation_tell_run-i.ensures (omega arith)
 
 abbrev pitch_start : tie.After-voicing_tell-v → tie.Start
 pitch_start c = interpolation_start c.before.before.before.before
 
-pitch_told : (c : tie.After-voicing_tell-v) (n : ℕ) → 2 ^ 26 + 800 ≤ n → Ready (pitch_start c) c.voicing_tell-v.new.0 c.voicing_tell-v.result n
+pitch_told : (c : tie.After-voicing_tell-v) (n : ℕ) → 2 ^ 26 + 800 ≤ n → Ready (pitch_start c) c.voicing_tell-v.new.buf c.voicing_tell-v.result n
 pitch_told c n h =
     writing_next n (interpolation_told c.before.before.before.before (2 ^ 26 + 640) (omega arith)) c.voicing_tell-v.ensures (omega arith)
 
@@ -100,7 +100,7 @@ same_length c =
     let i = v.before.before.before.before in
     let q = i.before.before.before.before in
     let g = q.before.before.before.before in
-    c.seed_tell_run.auto.0
+    c.seed_tell_run.auto.buf
     ∙ v.voicing_tell-v.auto.0
     ∙ i.interpolation_tell_run-i.auto.0
     ∙ q.spectrum_tell_run-q.auto.0

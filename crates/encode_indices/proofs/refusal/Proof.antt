@@ -16,7 +16,7 @@ abbrev entry : tie.Start → Out
 entry z = out z.args.buf.now z.args.w
 
 shape : (z : tie.Start) → Shape z.args.x
-shape z = record { gains = search (rules, z.well-formed.1.1.0); ltp = search (rules, z.well-formed.1.1.0); nlsf = search (rules, z.well-formed.1.1.0) }
+shape z = record { gains = search (rules, z.well_formed.1.1.0); ltp = search (rules, z.well_formed.1.1.0); nlsf = search (rules, z.well_formed.1.1.0) }
 
 -- the first refusal of gate and numbers
 abbrev begun : tie.After-first_refusal-n → tie.Start

@@ -19,14 +19,14 @@ abbrev entry : tie.Start → Out
 entry z = out z.args.buf.now z.args.w
 
 shape : (z : tie.Start) → Shape z.args.«record»
-shape z = record { gains = search (rules, z.well-formed.1.1.0); ltp = search (rules, z.well-formed.1.1.0); nlsf = search (rules, z.well-formed.1.1.0) }
+shape z = record { gains = search (rules, z.well_formed.1.1.0); ltp = search (rules, z.well_formed.1.1.0); nlsf = search (rules, z.well_formed.1.1.0) }
 
 prevlag_fits : (z : tie.Start) → SFits w16 z.args.s.prevlag
 prevlag_fits z = search rules
 
 -- a call that is not refused
 abbrev begun : tie.Then-n-eq0 → tie.Start
-begun c = c.before.before.before.before
+begun c = c.before.before.before
 
 open_rule : (c : tie.Then-n-eq0) → tell_rule (entry (begun c)) (begun c).args.s (begun c).args.«record» ≡ 0
 open_rule c = sym c.refusal-n.ensures ∙ c.if-n-eq0.true
@@ -59,7 +59,7 @@ returns c =
 returns_2 : tie.Need-returns-else-n-eq0
 returns_2 c =
     let e = c.before in
-    let z = e.before.before.before.before in
+    let z = e.before.before.before in
     let n = e.refusal-n in
     rw (to_z-of_z (prevlag_fits z)) (indices_untold_lem (entry z) z.args.«record» z.args.s n.result n.ensures e.if-n-eq0.false)
 

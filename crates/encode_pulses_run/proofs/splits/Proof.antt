@@ -48,8 +48,8 @@ loop_again c =
     let t = c.before.before.before in
     let g = t.loop-i.invariant in
     elim c.if-c-ne0.branch [
-      then-c-ne0 a ↦ rw (a.buf-is, a.w-is) (round_next g t.loop-i-test.true a.block_splits_run-w.ensures a.block_splits_run-w.auto.buf)
-    | else-c-ne0 a ↦ rw (a.buf-is, a.w-is) (round_next g t.loop-i-test.true (splits_untold _ _ a.if-c-ne0.false g.0.midway.core) refl)
+      | then-c-ne0 a ↦ rw (a.buf-is, a.w-is) (round_next g t.loop-i-test.true a.block_splits_run-w.ensures a.block_splits_run-w.auto.buf)
+      | else-c-ne0 a ↦ rw (a.buf-is, a.w-is) (round_next g t.loop-i-test.true (splits_untold _ _ a.if-c-ne0.false g.0.midway.core) refl)
     ]
 
 pub splits_spec : {M : Type 1} → statement M

@@ -10,8 +10,8 @@ at : (c : tie.Joined-i-eq0) → (c.if-i-eq0.j < length c.args.table.now) × ((c.
 at c =
     let h = c.requires.0 in
     elim c.if-i-eq0.branch [
-      then-i-eq0 w ↦ (omega (arith, w.if-i-eq0.true, w.j-is), λ n. absurd (n w.if-i-eq0.true))
-    | else-i-eq0 w ↦ (omega (arith, w.j-is), λ n. w.j-is)
+      | then-i-eq0 w ↦ (omega (arith, w.if-i-eq0.true, w.j-is), λ n. absurd (n w.if-i-eq0.true))
+      | else-i-eq0 w ↦ (omega (arith, w.j-is), λ n. w.j-is)
     ]
 
 shared_slice_read_part : tie.Need-bounds-table-j

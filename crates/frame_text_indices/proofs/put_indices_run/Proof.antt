@@ -44,10 +44,10 @@ put_one_run_requires_2 c κs =
       g.put_gains-place.auto.out,
       s.put_spectrum-place.ensures.behind,
       s.put_spectrum-place.ensures.most,
-      s.put_spectrum-place.auto.0,
+      s.put_spectrum-place.auto.out,
       i.put_one_run-place.ensures.behind,
       i.put_one_run-place.ensures.most,
-      i.put_one_run-place.auto.0,
+      i.put_one_run-place.auto.out,
       p.put_pitch_run-place.ensures.behind,
       p.put_pitch_run-place.ensures.most,
       p.put_pitch_run-place.auto.0,
@@ -63,8 +63,8 @@ same_length c =
     let k = g.before.before.before.before in
     o.put_one_run.auto.out
     ∙ p.put_pitch_run-place.auto.out
-    ∙ i.put_one_run-place.auto.0
-    ∙ s.put_spectrum-place.auto.0
+    ∙ i.put_one_run-place.auto.out
+    ∙ s.put_spectrum-place.auto.out
     ∙ g.put_gains-place.auto.0
     ∙ k.put_kind_run-place.auto.0
 

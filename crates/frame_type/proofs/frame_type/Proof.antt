@@ -33,7 +33,7 @@ types : (c : tie.After-index_rows-rows)
     → Types (start c).args.packet.now (start c).args.active (lent c.index_rows-rows.result (start c).args.active)
 types c =
     let y : Bytes (start c).args.packet.now = λ i. omega (arith, c.shared_slice_known-1.given i) in
-    first_types _ _ _ y (row c).well-formed (row c).is (sym c.type_rule-n.ensures ∙ c.if-n-eq0.true)
+    first_types _ _ _ y (row c).good (row c).is (sym c.type_rule-n.ensures ∙ c.if-n-eq0.true)
 
 mul_base : tie.Need-overflow_mul-base
 mul_base c = search (rules, (accepts c).1)
