@@ -172,7 +172,8 @@ def tried(edit, seeds):
 
 def main():
     rooms = [room for room in sys.argv[1:] or listed() if any((TOP / 'crates' / room).glob('must-fail/*.edit'))]
-    shutil.rmtree(LOGS, ignore_errors=True)
+    for room in rooms:
+        shutil.rmtree(LOGS / room, ignore_errors=True)
     with tempfile.TemporaryDirectory() as kept, concurrent.futures.ThreadPoolExecutor(len(os.sched_getaffinity(0))) as pool:
         seeds = pathlib.Path(kept)
         lost = [room for room, well in zip(rooms, pool.map(lambda room: proved(room, seeds), rooms)) if not well]
