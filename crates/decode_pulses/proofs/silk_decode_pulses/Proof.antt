@@ -68,7 +68,7 @@ returns c =
     let t = b.before.before in
     let a = (start t.before).args in
     let r = c.silk_decode_pulses_run-state in
-    let s = r.new.1.1.1.0 in
+    let s = r.new.pulses in
     let x : Excited a.packet.now a.d a.signal a.offset _ s r.result =
     subst (λ (k : ℕ). Excited a.packet.now a.d a.signal a.offset k s r.result) b.blocks_of_run-blocks.ensures r.ensures in
     pulses_read a.packet.now a.d a.pulses.now a.khz a.subframes a.signal a.offset _ (number t.before) t.if-n-eq0.true

@@ -101,11 +101,11 @@ same_length c =
     let q = i.before.before.before.before in
     let g = q.before.before.before.before in
     c.seed_tell_run.auto.buf
-    ∙ v.voicing_tell-v.auto.0
-    ∙ i.interpolation_tell_run-i.auto.0
-    ∙ q.spectrum_tell_run-q.auto.0
-    ∙ g.gains_tell_run-g.auto.0
-    ∙ g.kind_tell_run-k.auto.0
+    ∙ v.voicing_tell-v.auto.buf
+    ∙ i.interpolation_tell_run-i.auto.buf
+    ∙ q.spectrum_tell_run-q.auto.buf
+    ∙ g.gains_tell_run-g.auto.buf
+    ∙ g.kind_tell_run-k.auto.buf
 
 returns : tie.Need-returns
 returns c =

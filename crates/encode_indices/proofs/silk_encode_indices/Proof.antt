@@ -51,9 +51,9 @@ returns c =
     let z = begun b in
     let x = z.args.«record» in
     let t = c.all_tell-q in
-    let q = out t.new.0 t.result in
+    let q = out t.new.buf t.result in
     let a : c.accepted.result ≡ (indices_told z.args.s x q).answer = rw (to_z-of_z (prevlag_fits z)) at c.accepted.ensures in
-    let s : IndicesWritten → IndicesSent = λ w. record { buf = t.new.0; answer = w } in
+    let s : IndicesWritten → IndicesSent = λ w. record { buf = t.new.buf; answer = w } in
     ap s a ∙ ap (indices_told z.args.s x) t.ensures.is ∙ indices_told_lem (entry z) x z.args.s (open_rule b)
 
 returns_2 : tie.Need-returns-else-n-eq0

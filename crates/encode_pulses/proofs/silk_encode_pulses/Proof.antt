@@ -89,7 +89,7 @@ written c =
     let r = c.silk_encode_pulses_run-state in
     let n = b.blocks_of_run-blocks.ensures in
     let t = c.if-x.true in
-    ap (sent r.new.0) c.answer-then-x.ensures
+    ap (sent r.new.buf) c.answer-then-x.ensures
     ∙ pulses_sent (out a.buf.now a.w) a.pulses.now f.khz f.subframes f.signal f.offset a.rate _ (number e.before) e.if-n-ne0.false _
     (plan_fits _ _ a.pulses.now x.result.counts x.result.lows x.result.fits true x.ensures n t)
     (plan_says _ a.pulses.now x.result.counts x.result.lows x.result.fits x.ensures t (omega (arith, sized p, few b)) _ _

@@ -38,7 +38,7 @@ loop_again : tie.Need-loop-i-preserved invariant_loop decreases_loop
 loop_again c =
     let t = c.before.before.before.before.before.before.before in
     let r = c.block_lows_tell_run-w in
-    round_next t.loop-i.invariant t.loop-i-test.true r.ensures r.auto.0
+    round_next t.loop-i.invariant t.loop-i-test.true r.ensures r.auto.buf
 
 pub lows_spec : {M : Type 1} → statement M
 lows_spec =

@@ -46,7 +46,7 @@ loop_again : tie.Need-loop-i-preserved invariant_loop decreases_loop
 loop_again c =
     let t = c.before.before.before.before.before.before.before in
     let r = c.block_signs_run-w in
-    round_next t.loop-i.invariant t.loop-i-test.true r.ensures r.auto.0
+    round_next t.loop-i.invariant t.loop-i-test.true r.ensures r.auto.buf
 
 pub signs_spec : {M : Type 1} → statement M
 signs_spec =

@@ -50,7 +50,7 @@ put_one_run_requires_2 c κs =
       i.put_one_run-place.auto.out,
       p.put_pitch_run-place.ensures.behind,
       p.put_pitch_run-place.ensures.most,
-      p.put_pitch_run-place.auto.0,
+      p.put_pitch_run-place.auto.out,
     )
 
 same_length : tie.Need-shape_of-out
@@ -65,8 +65,8 @@ same_length c =
     ∙ p.put_pitch_run-place.auto.out
     ∙ i.put_one_run-place.auto.out
     ∙ s.put_spectrum-place.auto.out
-    ∙ g.put_gains-place.auto.0
-    ∙ k.put_kind_run-place.auto.0
+    ∙ g.put_gains-place.auto.out
+    ∙ k.put_kind_run-place.auto.out
 
 returns : tie.Need-returns
 unfolding ascii indices_text

@@ -43,7 +43,7 @@ part_first_symbol_end c = omega (arith, (accepts c.before).1)
 
 add_kind : tie.Need-overflow_add-kind
 add_kind c =
-    let i = c.before.before.before.before in
+    let i = c.before.before.before in
     search (rules, ap (λ (a : Decoded). a.value) c.first_symbol-a.ensures, (types i).inside, (row i).size, (accepts i.before).1)
 
 returns : tie.Need-returns-then-n-eq0

@@ -107,7 +107,7 @@ put_pulses_requires c κs =
     let i = listed (counted o) in
     let p = (start i).requires in
     let e = i.put-indices-run in (
-      (omega (arith, e.ensures.behind, e.ensures.most, e.kept.0, p.0), rate_most p.1.0.0, subframes_most p.1.0.1),
+      (omega (arith, e.ensures.behind, e.ensures.most, e.auto.out, p.0), rate_most p.1.0.0, subframes_most p.1.0.1),
       lent o ∙ ap (λ (k : ℕ). 16 * k) (counted o).blocks_of_run-n.ensures,
     )
 

@@ -25,7 +25,7 @@ put_pulses_run_requires c κs =
     let n = c.before.before in
     let e = n.blocks_of_run-blocks.ensures in
     let m = few (start (read n)) in
-    (omega (arith, e), omega (arith, e), omega (arith, e, (read n).silk_decode_pulses.auto.1.1.0))
+    (omega (arith, e), omega (arith, e), omega (arith, e, (read n).silk_decode_pulses.auto.pulses))
 
 returns : tie.Need-returns
 returns c =

@@ -45,7 +45,7 @@ returns c =
     let b = start s in
     let a = c.silk_encode_signs_run in
     let v = b.args.part.now in
-    subst (λ (q : List ℕ). Told (out b.args.buf.now b.args.w) v (each (pos 0) (sign q) (map nat_abs v)) 256 (out a.new.0 a.result))
+    subst (λ (q : List ℕ). Told (out b.args.buf.now b.args.w) v (each (pos 0) (sign q) (map nat_abs v)) 256 (out a.new.buf a.result))
     (row_is s) a.ensures
 
 returns_2 : tie.Need-returns

@@ -14,14 +14,14 @@ silk_shell_encoder_run_requires : tie.Need-silk_shell_encoder_run-requires
 silk_shell_encoder_run_requires c κs =
     let b = c.before.before.before.before.before.before.before in
     let s = c.shrink_run in
-    (b.requires.0, (b.requires.1.0, (b.requires.1.1.0, (b.requires.1.1.1.1, s.auto.0, ap total s.ensures ∙ b.requires.1.1.1.3))))
+    (b.requires.0, (b.requires.1.0, (b.requires.1.1.0, (b.requires.1.1.1.1, s.auto.places, ap total s.ensures ∙ b.requires.1.1.1.3))))
 
 returns : tie.Need-returns
 returns c =
     let b = c.before.before.before.before.before.before.before.before.before.before in
     let s = c.shrink_run in
     let r = c.silk_shell_encoder_run in
-    subst (λ (y : List ℕ). Told (out b.args.buf.now b.args.w) y (shell 4 b.args.c) 240 (out r.new.0 r.result)) s.ensures r.ensures
+    subst (λ (y : List ℕ). Told (out b.args.buf.now b.args.w) y (shell 4 b.args.c) 240 (out r.new.buf r.result)) s.ensures r.ensures
 
 pub block_splits_run_spec : {M : Type 1} → statement M
 block_splits_run_spec =
