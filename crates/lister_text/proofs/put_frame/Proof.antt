@@ -71,7 +71,7 @@ blanks : (o : tie.After-zeros-pulses)
     → let a = (start (listed (counted o))).args in
     take (16 * (counted o).blocks_of_run-n.result) o.zeros-pulses.result ≡ replicate (16 * blocks_of a.khz a.subframes) (pos 0)
 blanks o =
-    let n = (counted o).blocks-of-run in
+    let n = (counted o).blocks_of_run-n in
     ap (λ (k : List ℤ). take (16 * n.result) k) o.zeros-pulses.ensures
     ∙ take_same (16 * n.result) 320 (pos 0) (omega (arith, n.ensures, few (start (listed (counted o)))))
     ∙ ap (λ (k : ℕ). replicate (16 * k) (pos 0)) n.ensures
@@ -96,17 +96,17 @@ mul_n : tie.Need-overflow_mul-n
 mul_n c = omega (arith, c.blocks_of_run-n.ensures, few (start (listed c)))
 
 array_borrow_prefix_pulses : tie.Need-slice_bounds-pulses-end
-array_borrow_prefix_pulses c = room c.before
+array_borrow_prefix_pulses c = room c.before.before
 
 slice_aggregate_put_pulses : tie.Need-slice_bounds-put_pulses-end
-slice_aggregate_put_pulses c = sym (lent c.before.before)
+slice_aggregate_put_pulses c = sym (lent c.before.before.before)
 
 put_pulses_requires : tie.Need-put_pulses-requires
 put_pulses_requires c κs =
-    let o = c.before.before in
+    let o = c.before.before.before in
     let i = listed (counted o) in
     let p = (start i).requires in
-    let e = i.put-indices-run in (
+    let e = i.put_indices_run-place in (
       (omega (arith, e.ensures.behind, e.ensures.most, e.auto.out, p.0), rate_most p.1.0.0, subframes_most p.1.0.1),
       lent o ∙ ap (λ (k : ℕ). 16 * k) (counted o).blocks_of_run-n.ensures,
     )
@@ -118,7 +118,7 @@ same_text l b d khz subframes e f g = cc
 
 returns : tie.Need-returns
 returns c =
-    let o = c.before.before.before.before.before.before in
+    let o = c.before.before.before.before.before.before.before in
     let i = listed (counted o) in
     let z = start i in
     let a = z.args in

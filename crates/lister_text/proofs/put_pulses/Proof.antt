@@ -22,14 +22,14 @@ few z = blocks_most z.args.f.khz z.args.f.subframes z.requires.0.1 z.requires.0.
 
 put_pulses_run_requires : tie.Need-put_pulses_run-requires
 put_pulses_run_requires c κs =
-    let n = c.before.before in
+    let n = c.before in
     let e = n.blocks_of_run-blocks.ensures in
     let m = few (start (read n)) in
     (omega (arith, e), omega (arith, e), omega (arith, e, (read n).silk_decode_pulses.auto.pulses))
 
 returns : tie.Need-returns
 returns c =
-    let n = c.before.before.before.before.before in
+    let n = c.before.before.before.before in
     let r = read n in
     let a = (start r).args in
     let q = decode_pulses a.packet.now a.d a.pulses.now a.f.khz a.f.subframes a.f.signal a.f.offset in
