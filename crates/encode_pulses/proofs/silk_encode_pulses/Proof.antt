@@ -19,7 +19,7 @@ use Rattle.encode_pulses.proofs.silk_encode_pulses.Statement.{statement}
 use Rattle.encode_pulses.proofs.silk_encode_pulses.Tie as tie
 
 abbrev start : tie.After-first_refusal-n → tie.Start
-start c = c.before.before.before.before.before
+start c = c.before.before.before.before
 
 -- the first refusal of state and numbers
 number : (c : tie.After-first_refusal-n)
@@ -63,7 +63,7 @@ silk_encode_pulses_run_requires c κs =
     let b = p.before in
     let k = on b.before in
     let f = k.own.frame in
-    let x = p.plan_run in (
+    let x = p.plan_run-x in (
       k.gate.core,
       (
         omega (arith, k.gate.low),
@@ -85,7 +85,7 @@ written c =
     let e = b.before in
     let a = (start e.before).args in
     let f = a.f in
-    let x = p.plan_run in
+    let x = p.plan_run-x in
     let r = c.silk_encode_pulses_run-state in
     let n = b.blocks_of_run-blocks.ensures in
     let t = c.if-x.true in
@@ -101,7 +101,7 @@ unfit c =
     let e = p.before.before in
     let a = (start e.before).args in
     let f = a.f in
-    let x = p.plan_run in
+    let x = p.plan_run-x in
     ap (sent a.buf.now) c.answer-2.ensures
     ∙ pulses_unfit (out a.buf.now a.w) a.pulses.now f.khz f.subframes f.signal f.offset a.rate _ (number e.before) e.if-n-ne0.false
     (plan_fits _ _ a.pulses.now x.result.counts x.result.lows x.result.fits false x.ensures
