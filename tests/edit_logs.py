@@ -123,20 +123,27 @@ def proved(room, seeds):
         return check(room, copy, seeds / room)[0] == 0
 
 
-NAMELESS = re.compile(r'has no field `([^`]+)` \(nearest: \.([^,)]+)|'
-                      r'has no `([^`]+)` that can be named from here \(did you mean `([^`]+)`|'
-                      r'^help: `\w+` has no `([^`]+)`; rattle asks for `([^`]+)`', re.M)
+NAMELESS = re.compile(r"has no (?:field )?`([\w'-]+|tie\.[\w'-]+)`(.*)")
+NAME = re.compile(r"[\w']+(?:-[\w']+)+")
+
+
+def renamed(old, offered):
+    """A name's part that an edit changed and what it made of it, each behind the part before: where one of the names offered differs in
+    one part alone."""
+    old = old.split('-')
+    for new in (name.split('-') for name in offered):
+        differ = [i for i, pair in enumerate(zip(old, new)) if len(set(pair)) > 1]
+        if len(old) == len(new) and len(differ) == 1 and differ[0] > 0:
+            at = slice(differ[0] - 1, differ[0] + 1)
+            return '-'.join(old[at]), '-'.join(new[at])
+    return None
 
 
 def respelled(said, where):
     """Whether names in a copy's proofs were brought to what the edit made of them. A goal and a step are named by the test before
     them, as `if-n-lt10` by `n < 10`: where an edit changes a test, a proof that cites its name says nothing of any fact."""
-    pairs = {}
-    for found in NAMELESS.findall(said):
-        old, new = (word.split('-') for word in filter(None, found))
-        if len(old) == len(new) and len(differ := [i for i, (a, b) in enumerate(zip(old, new)) if a != b]) == 1:
-            at = slice(max(differ[0] - 1, 0), differ[0] + 1)
-            pairs['-'.join(old[at])] = '-'.join(new[at])
+    found = (renamed(old.removeprefix('tie.'), NAME.findall(rest)) for old, rest in NAMELESS.findall(said))
+    pairs = dict(filter(None, found))
     changed = False
     for path in where.glob('proofs/**/*.antt') if pairs else ():
         text = path.read_text('utf-8')
