@@ -127,15 +127,18 @@ NAMELESS = re.compile(r"has no (?:field )?`([\w'-]+|tie\.[\w'-]+)`(.*)")
 NAME = re.compile(r"[\w']+(?:-[\w']+)+")
 
 
+PART = re.compile(r'-?(?:(?:lt|le|gt|ge|eq|ne)(?=\d|minus)|[^-]+)')
+
+
 def renamed(old, offered):
-    """A name's part that an edit changed and what it made of it, each behind the part before: where one of the names offered differs in
-    one part alone."""
-    old = old.split('-')
-    for new in (name.split('-') for name in offered):
+    """A name's part that an edit changed and what it made of it, each behind the two parts before: where one of the names offered
+    differs in one part alone."""
+    old = PART.findall(old)
+    for new in map(PART.findall, offered):
         differ = [i for i, pair in enumerate(zip(old, new)) if len(set(pair)) > 1]
         if len(old) == len(new) and len(differ) == 1 and differ[0] > 0:
-            at = slice(differ[0] - 1, differ[0] + 1)
-            return '-'.join(old[at]), '-'.join(new[at])
+            at = slice(max(differ[0] - 2, 0), differ[0] + 1)
+            return ''.join(old[at]).strip('-'), ''.join(new[at]).strip('-')
     return None
 
 
