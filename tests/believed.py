@@ -188,8 +188,8 @@ class Project:
         yield 'Every definition on which the contracts of the exported calls, of the public calls on references (' + ', '.join(
             f'`{room}`' for room in HANDS_OUT) + '), the'
         yield "programs' texts and the stated theorems rest, in reading order: from the ground up, in a file from its top. Lines are"
-        yield 'counted without blank ones and comments. What is cited is the section of RFC 6716 or of the document named, by the definition\'s'
-        yield 'own comment, or else by the heading that it stands under, or else by its file\'s first comment.'
+        yield 'counted without blank ones and comments. What is cited is the section of RFC 6716 or of the document named, by the'
+        yield "definition's own comment, or else by the heading that it stands under, or else by its file's first comment."
         yield '`tests/believed.py --write` writes this page, and the gate fails where it is stale.'
         yield ''
         yield '| Reached from | How many | Definitions | Lines |'

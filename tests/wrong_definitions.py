@@ -59,7 +59,8 @@ UNBUILT = re.compile(r"^rt: the library (\w+) did not build", re.M)
 
 def check(tree, crate):
     """Whether the crate is proved; the crate that is refused, it or one below it, and its laws that are; all that was said."""
-    run = subprocess.run(["rt", "check"], cwd=os.path.join(tree, "crates", crate), stdout=subprocess.PIPE, stderr=subprocess.STDOUT, text=True)
+    folder = os.path.join(tree, "crates", crate)
+    run = subprocess.run(["rt", "check"], cwd=folder, stdout=subprocess.PIPE, stderr=subprocess.STDOUT, text=True)
     unbuilt = UNBUILT.search(run.stdout)
     return run.returncode == 0, unbuilt[1] if unbuilt else crate, list(dict.fromkeys(REFUSED.findall(run.stdout))), run.stdout
 
