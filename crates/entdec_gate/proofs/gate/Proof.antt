@@ -1,22 +1,11 @@
 -- `gate` meets its contract: each return has the tests that led to it. Assumes nothing.
 use borrow.Author.Rules.{rules}
+use native.Mathlib.Omega.{arith}
 use mathlib.Core.Path.{sym, ◌∙◌}
 use borrow.Author.Tests.{le-leb, lt-leb}
 use Rattle.entcode.specs.Sound.{gate_r}
 use Rattle.entdec_gate.proofs.gate.Statement.{statement}
 use Rattle.entdec_gate.proofs.gate.Tie as tie
-
-returns : tie.Need-returns-then-d-le1000000
-unfolding gate_r
-returns c =
-    let b = c.before.before in
-    rw (le-leb _ _ b.if-packet-le-LONGEST.true, sym b.sound.ensures ∙ b.if-sound.true, le-leb _ 1000000 c.if-d-le1000000.true)
-
-returns_2 : tie.Need-returns-else-d-le1000000
-unfolding gate_r
-returns_2 c =
-    let b = c.before.before in
-    rw (le-leb _ _ b.if-packet-le-LONGEST.true, sym b.sound.ensures ∙ b.if-sound.true, lt-leb _ 1000000 c.if-d-le1000000.false)
 
 returns_3 : tie.Need-returns-else-sound
 unfolding gate_r
@@ -27,4 +16,12 @@ unfolding gate_r
 returns_4 c = rw (lt-leb _ _ c.if-packet-le-LONGEST.false)
 
 pub gate_spec : {M : Type 1} → statement M
-gate_spec = tie.close (tie.spec (λ c κs. search rules) returns returns_2 returns_3 returns_4)
+unfolding gate_r
+gate_spec =
+    tie.close
+    (tie.spec
+    (λ c κs. search rules)
+    (λ c. rw (le-leb _ _ c.if-packet-le-LONGEST.true, sym c.sound.ensures ∙ c.if-sound.true, le-leb c.args.d.total 1000000 (omega arith)))
+    (λ c. rw (le-leb _ _ c.if-packet-le-LONGEST.true, sym c.sound.ensures ∙ c.if-sound.true, lt-leb c.args.d.total 1000000 (omega arith)))
+    returns_3
+    returns_4)

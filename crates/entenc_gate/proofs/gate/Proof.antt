@@ -1,28 +1,11 @@
 -- `gate` meets its contract: each return has the tests that led to it. Assumes nothing.
 use borrow.Author.Rules.{rules}
+use native.Mathlib.Omega.{arith}
 use mathlib.Core.Path.{◌∙◌, sym}
 use borrow.Author.Tests.{le-leb, lt-leb}
 use Rattle.entcode.specs.Sound.{gate_w}
 use Rattle.entenc_gate.proofs.gate.Statement.{statement}
 use Rattle.entenc_gate.proofs.gate.Tie as tie
-
-returns : tie.Need-returns-then-w-le1000000
-unfolding gate_w
-returns c =
-    rw (
-      le-leb _ _ c.if-buf-le-LONGEST.true,
-      sym c.sound.ensures ∙ c.if-sound.true,
-      le-leb _ 1000000 c.if-w-le1000000.true,
-    )
-
-returns_2 : tie.Need-returns-else-w-le1000000
-unfolding gate_w
-returns_2 c =
-    rw (
-      le-leb _ _ c.if-buf-le-LONGEST.true,
-      sym c.sound.ensures ∙ c.if-sound.true,
-      lt-leb _ 1000000 c.if-w-le1000000.false,
-    )
 
 returns_3 : tie.Need-returns-else-sound
 unfolding gate_w
@@ -33,4 +16,12 @@ unfolding gate_w
 returns_4 c = rw (lt-leb _ _ c.if-buf-le-LONGEST.false)
 
 pub gate_spec : {M : Type 1} → statement M
-gate_spec = tie.close (tie.spec (λ c κs. search rules) returns returns_2 returns_3 returns_4)
+unfolding gate_w
+gate_spec =
+    tie.close
+    (tie.spec
+    (λ c κs. search rules)
+    (λ c. rw (le-leb _ _ c.if-buf-le-LONGEST.true, sym c.sound.ensures ∙ c.if-sound.true, le-leb c.args.w.total 1000000 (omega arith)))
+    (λ c. rw (le-leb _ _ c.if-buf-le-LONGEST.true, sym c.sound.ensures ∙ c.if-sound.true, lt-leb c.args.w.total 1000000 (omega arith)))
+    returns_3
+    returns_4)

@@ -19,16 +19,6 @@ ec_dec_icdf8_run_requires c κs =
     let z = c.before.before.before.before in
     (z.requires.0.core, (omega arith, (delta_gain_row z.requires.0.rows).good))
 
-returns : tie.Need-returns-then-mode-eq2
-unfolding first_gain
-returns c =
-    let z = c.before.before.before.before.before.before.before in
-    let a = c.ec_dec_icdf8_run-a in
-    let t = delta_gain_row z.requires.0.rows in
-    let e : to_z w8 a.result.value ≡ pos a.result.value = to_z_pos w8 {n = a.result.value} (omega (arith, a.ensures.inside, t.size)) in
-    rw (eq-eqb _ 2 c.if-mode-eq2.true, e)
-    (ran_within {n = 16} {m = 32} (omega arith) (ran_ask t.is a.ensures (ran_done a.ensures.core)))
-
 ec_dec_icdf8_run_requires_2 : tie.Need-ec_dec_icdf8_run-h-requires
 ec_dec_icdf8_run_requires_2 c κs =
     let z = c.before.before.before.before in
@@ -50,10 +40,11 @@ returns_2 c =
     let u = gain_low_row z.requires.0.rows in
     let v = h.result.value * 8 + l.result.value in
     let e : to_z w8 v ≡ pos v = to_z_pos w8 {n = v} (omega (arith, h.ensures.inside, t.size, l.ensures.inside, u.size)) in
-    rw (ne_eqb _ 2 c.if-mode-eq2.false, e)
+    rw (ne_eqb z.args.mode 2 (λ q. omega arith), e)
     (ran_ask t.is h.ensures (ran_ask u.is l.ensures (ran_done l.ensures.core)))
 
 pub first_gain_spec : {M : Type 1} → statement M
+unfolding first_gain
 first_gain_spec =
     tie.close
     (tie.spec
@@ -63,7 +54,13 @@ first_gain_spec =
     ec_dec_icdf8_run_requires
     (λ c. search rules)
     (λ c. search rules)
-    returns
+    (λ c.
+    let z = c.before.before.before.before.before.before.before in
+    let a = c.ec_dec_icdf8_run-a in
+    let t = delta_gain_row z.requires.0.rows in
+    let e : to_z w8 a.result.value ≡ pos a.result.value = to_z_pos w8 {n = a.result.value} (omega (arith, a.ensures.inside, t.size)) in
+    rw (eq-eqb z.args.mode 2 (omega arith), e)
+    (ran_within {n = 16} {m = 32} (omega arith) (ran_ask t.is a.ensures (ran_done a.ensures.core))))
     (λ c. search rules)
     (λ c. search rules)
     (λ c. search rules)

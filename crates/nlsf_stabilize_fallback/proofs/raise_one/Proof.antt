@@ -65,12 +65,6 @@ add_y : tie.Need-overflow_add-y
 add_y c =
     let f = c.ranges in rw (adds _ _ _ f.x f.prev f.gap c.requires) (y_fits _ _ _ f.x f.prev f.gap c.requires)
 
-returns : tie.Need-returns-then-y-gt32767
-returns c =
-    let s = c.before in
-    let f = s.ranges in
-    at_top _ _ _ f.x f.prev f.gap s.requires (rw (y_is _ _ _ f.x f.prev f.gap s.requires) at c.if-y-gt32767.true)
-
 cast_if2 : tie.Need-overflow_cast-x
 cast_if2 c = rw (to_z-of_z c.ranges.x) (wide c.ranges.x)
 
@@ -79,14 +73,15 @@ cast_result c =
     let s = c.before.before in
     let f = s.ranges in
     let y = y_is _ _ _ f.x f.prev f.gap s.requires in
-    rw y (narrow _ _ _ f.x f.prev f.gap s.requires (rw y at c.if-y-gt32767.false))
+    let e : lt_z (pos 32767) (s.args.prev +ℤ s.args.gap) ≡ false = rw (← y) (cc) in
+    rw y (narrow _ _ _ f.x f.prev f.gap s.requires e)
 
 returns_2 : tie.Need-returns-then-x-y
 returns_2 c =
     let s = c.before.before in
     let f = s.ranges in
     let y = y_is _ _ _ f.x f.prev f.gap s.requires in
-    let e : lt_z (pos 32767) (s.args.prev +ℤ s.args.gap) ≡ false = rw y at c.if-y-gt32767.false in
+    let e : lt_z (pos 32767) (s.args.prev +ℤ s.args.gap) ≡ false = rw (← y) (cc) in
     rw (y, to_z-of_z (narrow _ _ _ f.x f.prev f.gap s.requires e))
     (at_sum _ _ _ f.x f.prev f.gap s.requires e (rw (y, x_is _ _ _ f.x f.prev f.gap s.requires) at c.if-x-y.true))
 
@@ -95,8 +90,18 @@ returns_3 c =
     let s = c.before.before in
     let f = s.ranges in
     let y = y_is _ _ _ f.x f.prev f.gap s.requires in
+    let e : lt_z (pos 32767) (s.args.prev +ℤ s.args.gap) ≡ false = rw (← y) (cc) in
     rw (to_z-of_z f.x)
-    (at_own _ _ _ f.x f.prev f.gap s.requires (rw y at c.if-y-gt32767.false) (rw (y, x_is _ _ _ f.x f.prev f.gap s.requires) at c.if-x-y.false))
+    (at_own _ _ _ f.x f.prev f.gap s.requires e (rw (y, x_is _ _ _ f.x f.prev f.gap s.requires) at c.if-x-y.false))
 
 pub raise_one_spec : {M : Type 1} → statement M
-raise_one_spec = tie.close (tie.spec cast_y cast_y_2 add_y returns cast_if2 cast_result returns_2 returns_3)
+raise_one_spec =
+    tie.close
+    (tie.spec cast_y cast_y_2 add_y
+    (λ c.
+    let s = c.before in
+    let f = s.ranges in
+    let y = y_is _ _ _ f.x f.prev f.gap s.requires in
+    let e : lt_z (pos 32767) (s.args.prev +ℤ s.args.gap) ≡ true = rw (← y) (cc) in
+    at_top _ _ _ f.x f.prev f.gap s.requires e)
+    cast_if2 cast_result returns_2 returns_3)

@@ -28,13 +28,6 @@ sub_pulse c =
     let b = c.before.before.before.before.before.before in
     rw (to_z-of_z b.ranges.m) (minus_fits b.args.m b.requires.1.1.1.0 b.ranges.m)
 
-returns : tie.Need-returns-then-a-eq0
-returns c =
-    let b = c.before.before.before.before.before.before in
-    let m = b.args.m in
-    rw (to_z-of_z b.ranges.m, to_z-of_z {w = w16} (minus_fits m b.requires.1.1.1.0 b.ranges.m), minus m b.requires.1.1.1.0)
-    (sign_minus b.args.row.now (nat_abs m) b.requires.1.1.1.1 c.ec_dec_icdf8_run-a.ensures c.if-a-eq0.true)
-
 returns_2 : tie.Need-returns
 returns_2 c =
     let b = c.before.before.before.before.before.before in
@@ -42,7 +35,16 @@ returns_2 c =
     let r = c.ec_dec_icdf8_run-a in
     rw (to_z-of_z b.ranges.m)
     (subst (λ (z : ℤ). Ran b.args.packet.now b.args.d (sign b.args.row.now (nat_abs m)) 16 z r.result.state) (sym b.requires.1.1.1.0)
-    (sign_plus b.args.row.now (nat_abs m) b.requires.1.1.1.1 r.ensures c.if-a-eq0.false))
+    (sign_plus b.args.row.now (nat_abs m) b.requires.1.1.1.1 r.ensures (λ q. omega arith)))
 
 pub decode_sign_spec : {M : Type 1} → statement M
-decode_sign_spec = tie.close (tie.spec (λ c κs. search rules) sub_pulse returns returns_2)
+decode_sign_spec = tie.close (tie.spec
+    (λ c κs. search rules)
+    sub_pulse
+    (λ c.
+    let b = c.before.before.before.before.before.before in
+    let m = b.args.m in
+    let h : c.ec_dec_icdf8_run-a.result.value ≡ 0 = omega arith in
+    rw (to_z-of_z b.ranges.m, to_z-of_z {w = w16} (minus_fits m b.requires.1.1.1.0 b.ranges.m), minus m b.requires.1.1.1.0)
+    (sign_minus b.args.row.now (nat_abs m) b.requires.1.1.1.1 c.ec_dec_icdf8_run-a.ensures h))
+    returns_2)

@@ -7,7 +7,7 @@ use native.Mathlib.Omega.{arith}
 use lib.IntN.{ℤ, pos, negsuc, ◌+ℤ◌, ◌-ℤ◌}
 use lib.Signed.{lt_z}
 use mir.Syntax.{w16, w32}
-use mir.Val.{SFits}
+use mir.Val.{SFits, to_z, of_z}
 use mir.Facts.{to_z-of_z, sfits_widen}
 use Rattle.ints.proofs.Order.{parts_alone, lt_z_true, lt_z_false}
 use Rattle.ints.specs.Parts.{up, down}
@@ -39,12 +39,14 @@ module _ (s : ℤ) (b : (up s ≤ 65535) × (down s ≤ 65536)) where
 sub_result : tie.Need-overflow_sub-result
 sub_result c =
     let e = to_z-of_z c.ranges.s in
-    rw e (wide (over c.args.s c.requires (rw e at c.if-s-gt32767.true)))
+    let t : lt_z (pos 32767) (to_z w32 (of_z w32 c.args.s)) ≡ true = cc in
+    rw e (wide (over c.args.s c.requires (rw e at t)))
 
 cast_result : tie.Need-overflow_cast-result
 cast_result c =
     let e = to_z-of_z c.ranges.s in
-    let f = over c.args.s c.requires (rw e at c.if-s-gt32767.true) in
+    let t : lt_z (pos 32767) (to_z w32 (of_z w32 c.args.s)) ≡ true = cc in
+    let f = over c.args.s c.requires (rw e at t) in
     rw (e, to_z-of_z (wide f)) f
 
 add_result : tie.Need-overflow_add-result
@@ -64,15 +66,8 @@ cast_result_3 : tie.Need-overflow_cast-result-else-s-ltminus32768
 cast_result_3 c =
     let s = c.before.before in
     let e = to_z-of_z s.ranges.s in
-    rw e (within s.args.s s.requires (rw e at c.if-s-gt32767.false) (rw e at c.if-s-ltminus32768.false))
-
-returns : tie.Need-returns-then-s-gt32767
-returns c =
-    let s = c.before in
-    let e = to_z-of_z s.ranges.s in
-    let f = over s.args.s s.requires (rw e at c.if-s-gt32767.true) in
-    rw (e, to_z-of_z (wide f), to_z-of_z f)
-    (sym (wrap16_is s.args.s (s.args.s -ℤ pos 65536) 0 1 (omega (arith, diff_parts s.args.s (pos 65536))) (fits_up _ f) (fits_down _ f)))
+    let t : lt_z (pos 32767) (to_z w32 (of_z w32 s.args.s)) ≡ false = cc in
+    rw e (within s.args.s s.requires (rw e at t) (rw e at c.if-s-ltminus32768.false))
 
 returns_2 : tie.Need-returns-then-s-ltminus32768
 returns_2 c =
@@ -86,9 +81,19 @@ returns_3 : tie.Need-returns-else-s-ltminus32768
 returns_3 c =
     let s = c.before.before in
     let e = to_z-of_z s.ranges.s in
-    let f = within s.args.s s.requires (rw e at c.if-s-gt32767.false) (rw e at c.if-s-ltminus32768.false) in
+    let t : lt_z (pos 32767) (to_z w32 (of_z w32 s.args.s)) ≡ false = cc in
+    let f = within s.args.s s.requires (rw e at t) (rw e at c.if-s-ltminus32768.false) in
     rw (e, to_z-of_z f) (sym (wrap16_is s.args.s s.args.s 0 0 refl (fits_up _ f) (fits_down _ f)))
 
 pub fold16_run_spec : {M : Type 1} → statement M
 fold16_run_spec =
-    tie.close (tie.spec sub_result cast_result add_result cast_result_2 cast_result_3 returns returns_2 returns_3)
+    tie.close
+    (tie.spec sub_result cast_result add_result cast_result_2 cast_result_3
+    (λ c.
+    let s = c.before in
+    let e = to_z-of_z s.ranges.s in
+    let t : lt_z (pos 32767) (to_z w32 (of_z w32 s.args.s)) ≡ true = cc in
+    let f = over s.args.s s.requires (rw e at t) in
+    rw (e, to_z-of_z (wide f), to_z-of_z f)
+    (sym (wrap16_is s.args.s (s.args.s -ℤ pos 65536) 0 1 (omega (arith, diff_parts s.args.s (pos 65536))) (fits_up _ f) (fits_down _ f))))
+    returns_2 returns_3)

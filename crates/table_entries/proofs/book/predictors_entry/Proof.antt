@@ -1,5 +1,6 @@
 -- `predictors_entry` meets its contract: the lists are 9 or 15 long, and stand in one row place by place. Assumes nothing.
 use borrow.Author.Rules.{rules}
+use Prim.Native.Nat.{◌<◌, ◌≤◌}
 use native.Mathlib.Omega.{arith}
 use Rattle.sheet.proofs.BooksLaws.{narrow_shaped, wide_shaped}
 use Rattle.table_entries.proofs.GridLaws.{past, predictor_inside}
@@ -15,14 +16,12 @@ returns_2 c =
     rw b.if-wide.true
     (predictor_inside wide_shaped b.args.place (omega arith) b.if-place-ge30.false c.byte.ensures c.wide_predictors-t.ensures)
 
-returns_3 : tie.Need-returns-then-place-ge18
-returns_3 c = let b = c.before in rw b.if-wide.false (past narrow_shaped.predictors b.args.place c.if-place-ge18.true)
-
 returns_4 : tie.Need-returns
 returns_4 c =
     let b = c.before.before in
+    let h : b.args.place < 18 = omega arith in
     rw b.if-wide.false
-    (predictor_inside narrow_shaped b.args.place (omega arith) b.if-place-ge18.false c.byte-2.ensures c.narrow_predictors-t.ensures)
+    (predictor_inside narrow_shaped b.args.place (omega arith) h c.byte-2.ensures c.narrow_predictors-t.ensures)
 
 pub predictors_entry_spec : {M : Type 1} → statement M
 predictors_entry_spec =
@@ -35,7 +34,7 @@ predictors_entry_spec =
     (λ c. search rules)
     (λ c κs. search rules)
     returns_2
-    returns_3
+    (λ c. let h : 18 ≤ c.args.place = omega arith in rw c.if-wide.false (past narrow_shaped.predictors c.args.place h))
     (λ c κs. search rules)
     (λ c. search rules)
     (λ c. search rules)
