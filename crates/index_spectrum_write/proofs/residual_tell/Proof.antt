@@ -37,7 +37,8 @@ ec_enc_icdf8_run_requires c κs =
 extension_said_requires : tie.Need-extension_said-requires
 extension_said_requires c κs =
     let z = c.before.before.before.before.before.before.before.before.before in
-    rw (z_is z) (low_end z.args.z (rw (z_is z) at c.if-z-leminus4.true), z.requires.1.1)
+    let t : le_z (to_z w8 (of_z w8 z.args.z)) (negsuc 3) ≡ true = cc in
+    rw (z_is z) (low_end z.args.z (rw (z_is z) at t), z.requires.1.1)
 
 ec_enc_icdf8_run_requires_2 : tie.Need-ec_enc_icdf8_run-requires
 ec_enc_icdf8_run_requires_2 c κs =
@@ -46,20 +47,6 @@ ec_enc_icdf8_run_requires_2 c κs =
     let e : c.extension_said.result ≡ extension_said z.args.z = rw (z_is z) at c.extension_said.ensures in
     let t = extension_row z.requires.0.rows in
     (a.ensures.core, (omega (arith, a.ensures.most, z.requires.0.few), (t.good, t.writable _ (omega (arith, e, z.requires.1.1)))))
-
-returns : tie.Need-returns-then-z-leminus4
-unfolding residual
-returns c =
-    let z = c.before.before.before.before.before.before.before.before.before.before.before.before.before.before in
-    let a = c.ec_enc_icdf8_run-q in
-    let b = c.ec_enc_icdf8_run in
-    let x = c.extension_said in
-    let i = c.if-z-leminus4 in
-    let l : le_z z.args.z (negsuc 3) ≡ true = rw (z_is z) at i.true in
-    let f : 0 ≡ residual_said z.args.z = rw l in
-    let e : x.result ≡ extension_said z.args.z = rw (z_is z) at x.ensures in
-    told_ask {n = 16} (residual_row z.requires.0.rows z.args.k z.requires.1.0).is f a.ensures
-    (told_ask (extension_row z.requires.0.rows).is e b.ensures (told_done b.ensures.core))
 
 ec_enc_icdf8_run_requires_3 : tie.Need-ec_enc_icdf8_run-q-requires-then-z-ge4
 ec_enc_icdf8_run_requires_3 c κs =
@@ -87,9 +74,9 @@ returns_2 c =
     let a = c.ec_enc_icdf8_run-q-then-z-ge4 in
     let b = c.ec_enc_icdf8_run-then-z-ge4 in
     let x = c.extension_said-then-z-ge4 in
-    let i = c.if-z-leminus4 in
+    let t : le_z (to_z w8 (of_z w8 z.args.z)) (negsuc 3) ≡ false = cc in
     let j = c.if-z-ge4 in
-    let l : le_z z.args.z (negsuc 3) ≡ false = rw (z_is z) at i.false in
+    let l : le_z z.args.z (negsuc 3) ≡ false = rw (z_is z) at t in
     let h : le_z (pos 4) z.args.z ≡ true = rw (z_is z) at j.true in
     let f : 8 ≡ residual_said z.args.z = rw (l, h) in
     let e : x.result ≡ extension_said z.args.z = rw (z_is z) at x.ensures in
@@ -108,9 +95,9 @@ returns_3 c =
     let z = c.before.before.before.before.before.before.before.before.before.before in
     let a = c.ec_enc_icdf8_run-2 in
     let v = c.centred_said in
-    let i = c.if-z-leminus4 in
+    let t : le_z (to_z w8 (of_z w8 z.args.z)) (negsuc 3) ≡ false = cc in
     let j = c.if-z-ge4 in
-    let l : le_z z.args.z (negsuc 3) ≡ false = rw (z_is z) at i.false in
+    let l : le_z z.args.z (negsuc 3) ≡ false = rw (z_is z) at t in
     let h : le_z (pos 4) z.args.z ≡ false = rw (z_is z) at j.false in
     let c : v.result ≡ nat_abs (z.args.z +ℤ pos 4) = rw (z_is z) at v.ensures.0 in
     let f : v.result ≡ residual_said z.args.z = rw (l, h) c in
@@ -121,6 +108,7 @@ returns_3 c =
     (rw (ne_eqb _ 0 p, ne_eqb _ 8 q) (told_done a.ensures.core)))
 
 pub residual_tell_spec : {M : Type 1} → statement M
+unfolding residual
 residual_tell_spec =
     tie.close
     (tie.spec
@@ -137,7 +125,17 @@ residual_tell_spec =
     (λ c. search rules)
     ec_enc_icdf8_run_requires_2
     (λ c. search rules)
-    returns
+    (λ c.
+    let z = c.before.before.before.before.before.before.before.before.before.before.before.before.before.before in
+    let a = c.ec_enc_icdf8_run-q in
+    let b = c.ec_enc_icdf8_run in
+    let x = c.extension_said in
+    let t : le_z (to_z w8 (of_z w8 z.args.z)) (negsuc 3) ≡ true = cc in
+    let l : le_z z.args.z (negsuc 3) ≡ true = rw (z_is z) at t in
+    let f : 0 ≡ residual_said z.args.z = rw l in
+    let e : x.result ≡ extension_said z.args.z = rw (z_is z) at x.ensures in
+    told_ask {n = 16} (residual_row z.requires.0.rows z.args.k z.requires.1.0).is f a.ensures
+    (told_ask (extension_row z.requires.0.rows).is e b.ensures (told_done b.ensures.core)))
     (λ c. search rules)
     (λ c. search rules)
     (λ c. search rules)
