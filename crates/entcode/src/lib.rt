@@ -15,7 +15,7 @@ pub const LONGEST: usize = 1275;
 
 // A reader beside its packet.
 #[repr(C)]
-#[derive(Clone, Copy)]
+#[derive(Clone, Copy, PartialEq, Eq)]
 pub struct Dec {
     pub storage: u32,
     pub endoffs: u32,
@@ -32,7 +32,7 @@ pub struct Dec {
 
 // A writer beside its buffer: held byte -1 for none, error 0 or -1.
 #[repr(C)]
-#[derive(Clone, Copy)]
+#[derive(Clone, Copy, PartialEq, Eq)]
 pub struct Enc {
     pub storage: u32,
     pub endoffs: u32,
@@ -49,7 +49,7 @@ pub struct Enc {
 
 // What a call on a reader answers: the refusal's number or 0, the value, the state.
 #[repr(C)]
-#[derive(Clone, Copy)]
+#[derive(Clone, Copy, PartialEq, Eq)]
 pub struct Decoded {
     pub refusal: u32,
     pub value: u32,
@@ -58,7 +58,7 @@ pub struct Decoded {
 
 // What a call on a writer answers.
 #[repr(C)]
-#[derive(Clone, Copy)]
+#[derive(Clone, Copy, PartialEq, Eq)]
 pub struct Encoded {
     pub refusal: u32,
     pub value: u32,

@@ -6,7 +6,7 @@ use entcode::{Dec, Enc};
 
 // Side indices: the crate's SideInfoIndices, in the order of the C interface.
 #[repr(C)]
-#[derive(Clone, Copy)]
+#[derive(Clone, Copy, PartialEq, Eq)]
 pub struct Indices {
     pub gains: [i8; 4],
     pub ltp: [i8; 4],

@@ -11,7 +11,7 @@ pub struct Spectrum {
 
 // What a call on a vector answers: the refusal's number or 0, and the number of moves.
 #[repr(C)]
-#[derive(Clone, Copy)]
+#[derive(Clone, Copy, PartialEq, Eq)]
 pub struct Moves {
     pub refusal: u32,
     pub moves: u32,
