@@ -11,6 +11,7 @@ ghost use Rattle.silk.specs.IndexSyntax.{voicing, indices};
 ghost use Rattle.silk.specs.FrameCalls.{indices_got, decode_indices};
 
 use entcode::Dec;
+use entdec_gate::gate;
 use index_gains_read::gains_run;
 use index_numbers::{next_lag_run, next_type_run, numbers_rule};
 use index_pitch_read::pitch_run;
@@ -35,11 +36,12 @@ fn voicing_index(
     ensures { Ran packet.now d (voicing signal s x) (of_symbols 10) result.indices result.state }
 {
     if signal == 2 {
-        return pitch_run(packet, d, rows, x, s);
-    }
-    IndicesPart {
-        indices: x,
-        state: d,
+        pitch_run(packet, d, rows, x, s)
+    } else {
+        IndicesPart {
+            indices: x,
+            state: d,
+        }
     }
 }
 
@@ -68,33 +70,30 @@ fn accepted(state: Dec, x: Indices, before: i16) -> IndicesRead
     requires { Upto 2 x.signal }
     ensures { result ≡ indices_got before (got x state) }
 {
-    let prevtype = next_type_run(x);
-    let prevlag = next_lag_run(x, before);
     IndicesRead {
         refusal: 0,
         state,
         indices: x,
-        prevtype,
-        prevlag,
+        prevtype: next_type_run(x),
+        prevlag: next_lag_run(x, before),
     }
 }
 
 pub fn silk_decode_indices(packet: &[u8], d: Dec, record: Indices, s: Setting) -> IndicesRead
     ensures { result ≡ decode_indices packet.now d «record» s }
 {
-    let rule = numbers_rule(s);
-    let n = refusals::first_refusal(entdec_gate::gate(packet, d), rule);
-    if n == 0 {
-        let rows = index_rows();
-        let a = all_indices(packet, d, &rows, record, s);
-        accepted(a.state, a.indices, s.prevlag)
-    } else {
-        IndicesRead {
-            refusal: n,
+    match gate(packet, d).and(numbers_rule(s)) {
+        Ok(()) => {
+            let rows = index_rows();
+            let a = all_indices(packet, d, &rows, record, s);
+            accepted(a.state, a.indices, s.prevlag)
+        }
+        Err(refusal) => IndicesRead {
+            refusal: u32::from(refusal),
             state: d,
             indices: record,
             prevtype: s.prevtype,
             prevlag: s.prevlag,
-        }
+        },
     }
 }

@@ -19,22 +19,15 @@ pub fn silk_decode_pulses(
     ensures { pulsed pulses.new result ≡ decode_pulses packet.now d pulses.old khz subframes signal offset }
 {
     let rule = pulse_numbers::pulse_rule(pulses.len(), khz, subframes, signal, offset);
-    let n = refusals::first_refusal(entdec_gate::gate(packet, d), rule);
-    if n == 0 {
-        let rows = tables::rows::pulse_rows();
-        let blocks = pulse_numbers::blocks_of_run(khz, subframes);
-        let state = decode_pulses_run::silk_decode_pulses_run(
-            packet, d, &rows, pulses, blocks, signal, offset,
-        );
-        return Decoded {
-            refusal: 0,
-            value: 0,
-            state,
-        };
-    }
-    Decoded {
-        refusal: n,
-        value: 0,
-        state: d,
+    match entdec_gate::gate(packet, d).and(rule) {
+        Ok(()) => {
+            let rows = tables::rows::pulse_rows();
+            let blocks = pulse_numbers::blocks_of_run(khz, subframes);
+            let state = decode_pulses_run::silk_decode_pulses_run(
+                packet, d, &rows, pulses, blocks, signal, offset,
+            );
+            Decoded::of(0, state)
+        }
+        Err(refusal) => Decoded::refused(refusal, d),
     }
 }

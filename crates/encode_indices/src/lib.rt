@@ -6,6 +6,7 @@ ghost use Rattle.std.specs.Prelude.{◌≡◌, ◌^◌, ◌<◌, nat_abs};
 ghost use Rattle.entcode.specs.Flat.{out};
 ghost use Rattle.tree.specs.Inner.Growth.{of_symbols};
 ghost use Rattle.tree.specs.Inner.Told.{Told};
+ghost use Rattle.refusals.specs.Numbers.{refusal_of};
 ghost use Rattle.silk.specs.Inner.Indices.{Writing, Rate, Subframes, Upto, WritesPitch, Writes};
 ghost use Rattle.silk.specs.IndexSyntax.{voicing, indices};
 ghost use Rattle.silk.specs.FrameCalls.{next_lag};
@@ -19,21 +20,21 @@ use index_numbers::{next_lag_run, next_type_run, numbers_rule};
 use index_pitch_write::pitch_tell_run;
 use index_single_write::{interpolation_tell_run, kind_tell_run, seed_tell_run};
 use index_spectrum_write::spectrum_tell_run;
-use refusals::first_refusal;
+use refusals::Refusal;
 use silk::{Indices, IndicesWritten, Setting};
 use tables::rows::index_rows;
 
 // ---- refusals
 
-// The first refusal, or 0.
-fn refusal(buf: &[u8], w: Enc, x: Indices, s: Setting) -> u32
-    ensures { result ≡ tell_rule (out buf.now w) s x }
+// The first refusal.
+fn tell_rule(buf: &[u8], w: Enc, x: Indices, s: Setting) -> Result<(), Refusal>
+    ensures { refusal_of result ≡ tell_rule (out buf.now w) s x }
 {
-    let n = first_refusal(gate(buf, w), numbers_rule(s));
-    if n == 0 {
-        if fields_ok_run(x, s) { 0 } else { 8 }
+    gate(buf, w).and(numbers_rule(s))?;
+    if fields_ok_run(x, s) {
+        Ok(())
     } else {
-        n
+        Err(Refusal::Value)
     }
 }
 
@@ -46,9 +47,10 @@ fn voicing_tell(buf: &mut [u8], w: Enc, rows: &[u8], x: Indices, signal: u32, s:
     ensures { Told (out buf.old w) x (voicing signal s x) (of_symbols 10) (out buf.new result) }
 {
     if signal == 2 {
-        return pitch_tell_run(buf, w, rows, x, s);
+        pitch_tell_run(buf, w, rows, x, s)
+    } else {
+        w
     }
-    w
 }
 
 // All of them, in order.
@@ -73,30 +75,28 @@ fn accepted(state: Enc, x: Indices, before: i16) -> IndicesWritten
     requires { Upto 2 x.signal }
     ensures { result ≡ record { refusal = 0; state = state; prevtype = nat_abs x.signal; prevlag = next_lag before x } }
 {
-    let prevtype = next_type_run(x);
-    let prevlag = next_lag_run(x, before);
     IndicesWritten {
         refusal: 0,
         state,
-        prevtype,
-        prevlag,
+        prevtype: next_type_run(x),
+        prevlag: next_lag_run(x, before),
     }
 }
 
 pub fn silk_encode_indices(buf: &mut [u8], w: Enc, record: Indices, s: Setting) -> IndicesWritten
     ensures { record { buf = buf.exit.now; answer = result } ≡ encode_indices (out buf.entry.now w) «record» s }
 {
-    let n = refusal(buf, w, record, s);
-    if n == 0 {
-        let rows = index_rows();
-        let q = all_tell(buf, w, &rows, record, s);
-        accepted(q, record, s.prevlag)
-    } else {
-        IndicesWritten {
-            refusal: n,
+    match tell_rule(buf, w, record, s) {
+        Ok(()) => {
+            let rows = index_rows();
+            let q = all_tell(buf, w, &rows, record, s);
+            accepted(q, record, s.prevlag)
+        }
+        Err(refusal) => IndicesWritten {
+            refusal: u32::from(refusal),
             state: w,
             prevtype: s.prevtype,
             prevlag: s.prevlag,
-        }
+        },
     }
 }

@@ -6,16 +6,19 @@
 
 ghost use Rattle.std.specs.Prelude.{◌≡◌, ◌<◌};
 ghost use Rattle.entcode.specs.Cuts.{upper};
-ghost use Rattle.entcode.specs.Reading.{nought as noughtR};
-ghost use Rattle.entcode.specs.Sound.{window_ok};
+ghost use Rattle.entcode.specs.Reading.{gives, nought as noughtR, refuses};
+ghost use Rattle.entcode.specs.Sound.{gate, window_ok};
 ghost use Rattle.entcode.specs.Writing.{nought as noughtW};
+ghost use Rattle.refusals.specs.Numbers.{number_of, refusal_of};
+
+use refusals::Refusal;
 
 // The longest packet or buffer (document 01).
 pub const LONGEST: usize = 1275;
 
 // A reader beside its packet.
 #[repr(C)]
-#[derive(Clone, Copy, PartialEq, Eq)]
+#[derive(Clone, Copy, Default, PartialEq, Eq)]
 pub struct Dec {
     pub storage: u32,
     pub endoffs: u32,
@@ -32,7 +35,7 @@ pub struct Dec {
 
 // A writer beside its buffer: held byte -1 for none, error 0 or -1.
 #[repr(C)]
-#[derive(Clone, Copy, PartialEq, Eq)]
+#[derive(Clone, Copy, Default, PartialEq, Eq)]
 pub struct Enc {
     pub storage: u32,
     pub endoffs: u32,
@@ -65,42 +68,62 @@ pub struct Encoded {
     pub state: Enc,
 }
 
+impl Decoded {
+    pub fn of(value: u32, state: Dec) -> Decoded
+        ensures { result ≡ gives value state }
+    {
+        Decoded {
+            refusal: 0,
+            value,
+            state,
+        }
+    }
+
+    pub fn refused(refusal: Refusal, state: Dec) -> Decoded
+        ensures { result ≡ refuses (number_of refusal) state }
+    {
+        Decoded {
+            refusal: u32::from(refusal),
+            value: 0,
+            state,
+        }
+    }
+}
+
+impl Encoded {
+    pub fn of(value: u32, state: Enc) -> Encoded
+        ensures { result ≡ record { refusal = 0; value = value; state = state } }
+    {
+        Encoded {
+            refusal: 0,
+            value,
+            state,
+        }
+    }
+
+    pub fn refused(refusal: Refusal, state: Enc) -> Encoded
+        ensures { result ≡ record { refusal = number_of refusal; value = 0; state = state } }
+    {
+        Encoded {
+            refusal: u32::from(refusal),
+            value: 0,
+            state,
+        }
+    }
+}
+
 // ---- all-zero states: what a refused opening hands back, and what an opened one is made from
 
 pub fn nought_reader() -> Dec
     ensures { result ≡ noughtR }
 {
-    Dec {
-        storage: 0,
-        endoffs: 0,
-        window: 0,
-        wbits: 0,
-        total: 0,
-        offs: 0,
-        rng: 0,
-        val: 0,
-        ext: 0,
-        rem: 0,
-        error: 0,
-    }
+    Dec::default()
 }
 
 pub fn nought_writer() -> Enc
     ensures { result ≡ noughtW }
 {
-    Enc {
-        storage: 0,
-        endoffs: 0,
-        window: 0,
-        wbits: 0,
-        total: 0,
-        offs: 0,
-        rng: 0,
-        val: 0,
-        ext: 0,
-        rem: 0,
-        error: 0,
-    }
+    Enc::default()
 }
 
 // ---- what both compute alike
@@ -109,10 +132,22 @@ pub fn nought_writer() -> Enc
 pub fn window_ok(window: u32, wbits: u32) -> bool
     ensures { result ≡ window_ok window wbits }
 {
-    if wbits <= 32 {
-        (window as u64) < (1u64 << wbits)
+    wbits <= 32 && u64::from(window) < (1u64 << wbits)
+}
+
+// What every call checks first (document 01, refusals 1 to 3): the length of its packet or buffer, whether its state is sound for
+// that, and the state's total.
+pub fn gate(length: usize, sound: bool, total: u32) -> Result<(), Refusal>
+    ensures { refusal_of result ≡ gate length sound total }
+{
+    if length > LONGEST {
+        Err(Refusal::TooLong)
+    } else if !sound {
+        Err(Refusal::Unsound)
+    } else if total > 1_000_000 {
+        Err(Refusal::Total)
     } else {
-        false
+        Ok(())
     }
 }
 

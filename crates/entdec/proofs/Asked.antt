@@ -1,10 +1,13 @@
--- A call on a reader, by the number that it computed first: it reads, or it is refused. Assumes nothing.
+-- A call on a reader, by what gate and rule answered: it reads, or it is refused. Assumes nothing.
 use Prim.Native.Nat.{ℕ, ◌^◌, ◌≤◌}
-use mathlib.Core.Path.{◌≡◌}
+use mathlib.Core.Path.{◌≡◌, refl, sym, ap, ◌∙◌}
 use mathlib.Core.List.{List}
 use native.Mathlib.Omega.{arith}
-use Rattle.refusals.specs.First.{first_of}
-use Rattle.refusals.proofs.FirstLaws.{number}
+use Rattle.std.proofs.Common.{Result, Ok, Err}
+use Rattle.std.specs.Result.{result_and}
+use Rattle.refusals.specs.declared.Refusal.{Refusal}
+use Rattle.refusals.specs.Numbers.{number_of, refusal_of}
+use Rattle.refusals.proofs.RefusalLaws.{number_refuses, and_refuses}
 use Rattle.entcode.specs.declared.Dec.{Dec}
 use Rattle.entcode.specs.Models.{Model, Readable}
 use Rattle.entcode.specs.Reader.{read_val, read_next}
@@ -14,17 +17,22 @@ use Rattle.entcode.proofs.ReadingLaws.{call_open, call_runs, call_refused}
 use Rattle.entcode.specs.Rules.{ask_rule}
 use Rattle.entcode.specs.Sound.{gate_r}
 
-pub record Asked (b : List ℕ) (d : Dec) (m : Model) (n : ℕ) : Type 0 where
-  pub ready : n ≡ 0 → Core b d × ((d.total ≤ 2 ^ 30) × Readable m)
-  pub reads : n ≡ 0 → gives (read_val b m d) (read_next b m d) ≡ dec_sym b d m
-  pub refused : (n ≡ 0 → ⊥) → refuses n d ≡ dec_sym b d m
+pub record Asked (b : List ℕ) (d : Dec) (m : Model) : Type 0 where
+  pub core : Core b d
+  pub low : d.total ≤ 2 ^ 30
+  pub readable : Readable m
+  pub reads : gives (read_val b m d) (read_next b m d) ≡ dec_sym b d m
 
--- from what the gate, the rule and the first of the two said
-pub asked : {b : List ℕ} {d : Dec} {m : Model} {n g r : ℕ} → n ≡ first_of g r → g ≡ gate_r b d → r ≡ ask_rule m → Asked b d m n
-asked {b} {d} {m} {n} e p q =
-    let f = number e p q in
-    record {
-      ready = λ z. let o = call_open b d m n f z in (o.0.sound.core, (omega (arith, o.0.low), o.1));
-      reads = call_runs b d m n f;
-      refused = call_refused b d m n f;
-    }
+-- x is the first refusal of the gate's answer g and the rule's answer r
+pub asked : {A : Type 0} {x : Result A Refusal} {a : A} (b : List ℕ) (d : Dec) (m : Model) (g r : Result A Refusal)
+    → x ≡ result_and g r → refusal_of g ≡ gate_r b d → refusal_of r ≡ ask_rule m → x ≡ Ok a → Asked b d m
+asked b d m g r e p q i =
+    let f = sym (ap refusal_of i) ∙ and_refuses g r e p q in
+    let o = call_open b d m 0 f refl in
+    record { core = o.0.sound.core; low = omega (arith, o.0.low); readable = o.1; reads = call_runs b d m 0 f refl }
+
+pub refused : {A : Type 0} {x : Result A Refusal} {refusal : Refusal} (b : List ℕ) (d : Dec) (m : Model) (g r : Result A Refusal)
+    → x ≡ result_and g r → refusal_of g ≡ gate_r b d → refusal_of r ≡ ask_rule m → x ≡ Err refusal
+    → refuses (number_of refusal) d ≡ dec_sym b d m
+refused {A} {x} {refusal} b d m g r e p q i =
+    call_refused b d m (number_of refusal) (sym (ap refusal_of i) ∙ and_refuses g r e p q) (number_refuses refusal)

@@ -3,11 +3,14 @@
 
 ghost use Rattle.std.specs.Prelude.{◌≡◌};
 ghost use Rattle.entcode.specs.Sound.{sound_r, gate_r};
+ghost use Rattle.refusals.specs.Numbers.{refusal_of};
 
-use entcode::{Dec, LONGEST, window_ok};
+use entcode::{Dec, window_ok};
 use entdec_sound::{places_ok, range_ok, small_ok, total_ok};
+use refusals::Refusal;
 
 // Whether a state is sound for a packet.
+#[tactic(auto, unfolding(entcode::specs::Sound::sound_r))]
 fn sound(packet: &[u8], d: Dec) -> bool
     ensures { result ≡ sound_r packet.now d }
 {
@@ -15,17 +18,10 @@ fn sound(packet: &[u8], d: Dec) -> bool
         & (places_ok(packet, d) & (small_ok(d) & (window_ok(d.window, d.wbits) & total_ok(d))))
 }
 
-// Refusals 1 to 3, or 0 for none.
-pub fn gate(packet: &[u8], d: Dec) -> u32
-    ensures { result ≡ gate_r packet.now d }
+// Refusals 1 to 3.
+#[tactic(auto, unfolding(entcode::specs::Sound::gate_r))]
+pub fn gate(packet: &[u8], d: Dec) -> Result<(), Refusal>
+    ensures { refusal_of result ≡ gate_r packet.now d }
 {
-    if packet.len() <= LONGEST {
-        if sound(packet, d) {
-            if d.total <= 1_000_000 { 0 } else { 3 }
-        } else {
-            2
-        }
-    } else {
-        1
-    }
+    entcode::gate(packet.len(), sound(packet, d), d.total)
 }

@@ -11,17 +11,7 @@ ghost use Rattle.entcode.specs.Writing.{sent, enc_open, enc_tell, enc_sym, enc_d
 use entcode::{Enc, Encoded, LONGEST, nought_writer};
 use entenc_gate::gate;
 use entenc_rules::{bit_rule, bits_rule, uint_rule};
-
-// A refusal, or, for 0, what a call without a value made of a state.
-fn answer(n: u32, w: Enc) -> Encoded
-    ensures { result ≡ record { refusal = n; value = 0; state = w } }
-{
-    Encoded {
-        refusal: n,
-        value: 0,
-        state: w,
-    }
-}
+use refusals::Refusal;
 
 // A fresh writer; a refused opening hands back the all-zero state. The fresh one is spelled out, so that LLVM takes
 // most of it from a constant.
@@ -29,12 +19,10 @@ pub fn ec_enc_init(buf: &[u8]) -> Encoded
     ensures { sent buf.now result ≡ enc_open buf.now }
 {
     if buf.len() <= LONGEST {
-        let n = buf.len() as u32;
-        Encoded {
-            refusal: 0,
-            value: 0,
-            state: Enc {
-                storage: n,
+        Encoded::of(
+            0,
+            Enc {
+                storage: buf.len() as u32,
                 endoffs: 0,
                 window: 0,
                 wbits: 0,
@@ -46,9 +34,9 @@ pub fn ec_enc_init(buf: &[u8]) -> Encoded
                 rem: -1,
                 error: 0,
             },
-        }
+        )
     } else {
-        answer(1, nought_writer())
+        Encoded::refused(Refusal::TooLong, nought_writer())
     }
 }
 
@@ -56,16 +44,9 @@ pub fn ec_enc_init(buf: &[u8]) -> Encoded
 pub fn ec_tell(buf: &[u8], w: Enc) -> Encoded
     ensures { sent buf.now result ≡ enc_tell (out buf.now w) }
 {
-    let n = gate(buf, w);
-    if n == 0 {
-        let used = w.total - bitlen::ec_ilog(w.rng);
-        Encoded {
-            refusal: 0,
-            value: used,
-            state: w,
-        }
-    } else {
-        answer(n, w)
+    match gate(buf, w) {
+        Ok(()) => Encoded::of(w.total - bitlen::ec_ilog(w.rng), w),
+        Err(refusal) => Encoded::refused(refusal, w),
     }
 }
 
@@ -73,11 +54,9 @@ pub fn ec_tell(buf: &[u8], w: Enc) -> Encoded
 pub fn ec_enc_bit_logp(buf: &mut [u8], w: Enc, v: u32, lp: u32) -> Encoded
     ensures { sent buf.new result ≡ enc_sym (out buf.old w) (record { model = bit lp; value = v }) }
 {
-    let n = refusals::first_refusal(gate(buf, w), bit_rule(v, lp));
-    if n == 0 {
-        answer(0, entenc_run::ec_enc_bit_logp_run(buf, w, v, lp))
-    } else {
-        answer(n, w)
+    match gate(buf, w).and(bit_rule(v, lp)) {
+        Ok(()) => Encoded::of(0, entenc_run::ec_enc_bit_logp_run(buf, w, v, lp)),
+        Err(refusal) => Encoded::refused(refusal, w),
     }
 }
 
@@ -85,11 +64,9 @@ pub fn ec_enc_bit_logp(buf: &mut [u8], w: Enc, v: u32, lp: u32) -> Encoded
 pub fn ec_enc_icdf(buf: &mut [u8], w: Enc, k: u32, table: &[u8], scale: u32) -> Encoded
     ensures { sent buf.new result ≡ enc_sym (out buf.old w) (record { model = tab scale table.now; value = k }) }
 {
-    let n = refusals::first_refusal(gate(buf, w), icdf::symbol_rule(table, scale, k));
-    if n == 0 {
-        answer(0, entenc_run::ec_enc_icdf_run(buf, w, k, table, scale))
-    } else {
-        answer(n, w)
+    match gate(buf, w).and(icdf::symbol_rule(table, scale, k)) {
+        Ok(()) => Encoded::of(0, entenc_run::ec_enc_icdf_run(buf, w, k, table, scale)),
+        Err(refusal) => Encoded::refused(refusal, w),
     }
 }
 
@@ -97,11 +74,9 @@ pub fn ec_enc_icdf(buf: &mut [u8], w: Enc, k: u32, table: &[u8], scale: u32) -> 
 pub fn ec_enc_uint(buf: &mut [u8], w: Enc, v: u32, ft: u32) -> Encoded
     ensures { sent buf.new result ≡ enc_sym (out buf.old w) (record { model = num ft; value = v }) }
 {
-    let n = refusals::first_refusal(gate(buf, w), uint_rule(v, ft));
-    if n == 0 {
-        answer(0, entenc_run::ec_enc_uint_run(buf, w, v, ft))
-    } else {
-        answer(n, w)
+    match gate(buf, w).and(uint_rule(v, ft)) {
+        Ok(()) => Encoded::of(0, entenc_run::ec_enc_uint_run(buf, w, v, ft)),
+        Err(refusal) => Encoded::refused(refusal, w),
     }
 }
 
@@ -109,11 +84,9 @@ pub fn ec_enc_uint(buf: &mut [u8], w: Enc, v: u32, ft: u32) -> Encoded
 pub fn ec_enc_bits(buf: &mut [u8], w: Enc, v: u32, bits: u32) -> Encoded
     ensures { sent buf.new result ≡ enc_sym (out buf.old w) (record { model = raw bits; value = v }) }
 {
-    let n = refusals::first_refusal(gate(buf, w), bits_rule(v, bits));
-    if n == 0 {
-        answer(0, entenc_run::ec_enc_bits_run(buf, w, v, bits))
-    } else {
-        answer(n, w)
+    match gate(buf, w).and(bits_rule(v, bits)) {
+        Ok(()) => Encoded::of(0, entenc_run::ec_enc_bits_run(buf, w, v, bits)),
+        Err(refusal) => Encoded::refused(refusal, w),
     }
 }
 
@@ -121,10 +94,8 @@ pub fn ec_enc_bits(buf: &mut [u8], w: Enc, v: u32, bits: u32) -> Encoded
 pub fn ec_enc_done(buf: &mut [u8], w: Enc) -> Encoded
     ensures { sent buf.new result ≡ enc_done (out buf.old w) }
 {
-    let n = gate(buf, w);
-    if n == 0 {
-        answer(0, entenc_finish::ec_enc_done_run(buf, w))
-    } else {
-        answer(n, w)
+    match gate(buf, w) {
+        Ok(()) => Encoded::of(0, entenc_finish::ec_enc_done_run(buf, w)),
+        Err(refusal) => Encoded::refused(refusal, w),
     }
 }

@@ -17,34 +17,9 @@ use Rattle.entcode.proofs.FlatLaws.{flat_as, arrive}
 
 -- ---- the middle
 
-replicate_more : (n : ℕ) (r : List ℕ) → replicate n 0 ++ (0 ∷ r) ≡ replicate (suc n) 0 ++ r
-replicate_more zero r = refl
-replicate_more (suc n) r = ap (λ (l : List ℕ). 0 ∷ l) (replicate_more n r)
-
 -- the bytes from first to i are 0
 abbrev pub zeroed : List ℕ → ℕ → ℕ → List ℕ
 zeroed b first i = take first b ++ (replicate (i - first) 0 ++ drop i b)
-
-pub zeroed_more : (b : List ℕ) (first i : ℕ) → first ≤ i → i < length b → set (zeroed b first i) i 0 ≡ zeroed b first (suc i)
-zeroed_more b first i h l =
-    let p = take first b ++ replicate (i - first) 0 in
-    let y = get_or b i 0 in
-    let r = drop (suc i) b in
-    let n : length p ≡ i
-    = length-append (take first b) (replicate (i - first) 0)
-    ∙ omega (arith, length-take-le first b (omega arith), length-replicate {A = ℕ} (i - first) 0) in
-    let k : suc i - first ≡ suc (i - first) = omega arith in
-    ap (λ (d : List ℕ). set (take first b ++ (replicate (i - first) 0 ++ d)) i 0) (drop-cons b i 0 l)
-    ∙ ap (λ (d : List ℕ). set d i 0) (sym (append_assoc (take first b) (replicate (i - first) 0) (y ∷ r)))
-    ∙ set_at p y r 0 i n
-    ∙ append_assoc (take first b) (replicate (i - first) 0) (0 ∷ r)
-    ∙ ap (λ (d : List ℕ). take first b ++ d) (replicate_more (i - first) r)
-    ∙ ap (λ (m : ℕ). take first b ++ (replicate m 0 ++ r)) (sym k)
-
-pub zeroed_none : (b : List ℕ) (first : ℕ) → b ≡ zeroed b first first
-zeroed_none b first =
-    let e : 0 ≡ first - first = omega arith in
-    sym (take-append-drop first b) ∙ ap (λ (n : ℕ). take first b ++ (replicate n 0 ++ drop first b)) e
 
 -- ---- closing
 

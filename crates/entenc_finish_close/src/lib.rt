@@ -13,11 +13,7 @@ fn clear(buf: &mut [u8], first: usize, last: usize)
     requires { (first ≤ last) × (last ≤ length buf.old) }
     ensures { buf.new ≡ take first buf.old ++ (replicate (last - first) 0 ++ drop last buf.old) }
 {
-    let mut i = first;
-    while i < last {
-        buf[i] = 0;
-        i += 1;
-    }
+    buf[first..last].fill(0);
 }
 
 // While no error stands: the unused middle is cleared, and the window's last bits are stowed.

@@ -3,11 +3,14 @@
 
 ghost use Rattle.std.specs.Prelude.{◌≡◌};
 ghost use Rattle.entcode.specs.Sound.{sound_w, gate_w};
+ghost use Rattle.refusals.specs.Numbers.{refusal_of};
 
-use entcode::{Enc, LONGEST, window_ok};
+use entcode::{Enc, window_ok};
 use entenc_sound::{counts_ok, places_ok, range_ok, signs_ok};
+use refusals::Refusal;
 
 // Whether a state is sound for a buffer.
+#[tactic(auto, unfolding(entcode::specs::Sound::sound_w))]
 fn sound(buf: &[u8], w: Enc) -> bool
     ensures { result ≡ sound_w buf.now w }
 {
@@ -15,17 +18,10 @@ fn sound(buf: &[u8], w: Enc) -> bool
         & (places_ok(buf, w) & (signs_ok(w) & (window_ok(w.window, w.wbits) & counts_ok(w))))
 }
 
-// Refusals 1 to 3, or 0 for none.
-pub fn gate(buf: &[u8], w: Enc) -> u32
-    ensures { result ≡ gate_w buf.now w }
+// Refusals 1 to 3.
+#[tactic(auto, unfolding(entcode::specs::Sound::gate_w))]
+pub fn gate(buf: &[u8], w: Enc) -> Result<(), Refusal>
+    ensures { refusal_of result ≡ gate_w buf.now w }
 {
-    if buf.len() <= LONGEST {
-        if sound(buf, w) {
-            if w.total <= 1_000_000 { 0 } else { 3 }
-        } else {
-            2
-        }
-    } else {
-        1
-    }
+    entcode::gate(buf.len(), sound(buf, w), w.total)
 }

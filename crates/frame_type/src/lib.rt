@@ -5,7 +5,9 @@
 ghost use Rattle.std.specs.Prelude.{◌≡◌, cond, leb};
 ghost use Rattle.entcode.specs.Reading.{dec_open};
 ghost use Rattle.frame_type.specs.Kind.{type_rule, frame_type};
+ghost use Rattle.refusals.specs.Numbers.{refusal_of};
 
+use refusals::Refusal;
 use tables::rows::index_rows;
 
 // Refusal, or signal type 0 to 2 and offset type 0 or 1.
@@ -19,28 +21,31 @@ pub struct FrameType {
 
 // ---- refusals
 
-fn length_rule(packet: &[u8]) -> u32
-    ensures { result ≡ (dec_open packet.now).refusal }
+#[tactic(auto, unfolding(entcode::specs::Reading::dec_open))]
+fn length_rule(packet: &[u8]) -> Result<(), Refusal>
+    ensures { refusal_of result ≡ (dec_open packet.now).refusal }
 {
     if packet.len() <= entcode::LONGEST {
-        0
+        Ok(())
     } else {
-        1
+        Err(Refusal::TooLong)
     }
 }
 
-fn active_rule(active: u32) -> u32
-    ensures { result ≡ cond (leb active 1) 0 4 }
+fn active_rule(active: u32) -> Result<(), Refusal>
+    ensures { refusal_of result ≡ cond (leb active 1) 0 4 }
 {
-    if active <= 1 { 0 } else { 4 }
+    if active <= 1 {
+        Ok(())
+    } else {
+        Err(Refusal::Number)
+    }
 }
 
-fn type_rule(packet: &[u8], active: u32) -> u32
-    ensures { result ≡ type_rule packet.now active }
+fn type_rule(packet: &[u8], active: u32) -> Result<(), Refusal>
+    ensures { refusal_of result ≡ type_rule packet.now active }
 {
-    let of_packet = length_rule(packet);
-    let of_active = active_rule(active);
-    refusals::first_refusal(of_packet, of_active)
+    length_rule(packet).and(active_rule(active))
 }
 
 // ---- the call
@@ -48,24 +53,24 @@ fn type_rule(packet: &[u8], active: u32) -> u32
 pub fn frame_type(packet: &[u8], active: u32) -> FrameType
     ensures { result ≡ frame_type packet.now active }
 {
-    let n = type_rule(packet, active);
-    if n == 0 {
-        let base = active * 2;
-        let start = base as usize;
-        let end = start + (2 + start);
-        let rows = index_rows();
-        let a = packet_view::first_symbol(packet, &rows[start..end], 8);
-        let kind = a.value + base;
-        FrameType {
-            refusal: 0,
-            signal: kind / 2,
-            offset: kind % 2,
+    match type_rule(packet, active) {
+        Ok(()) => {
+            let base = active * 2;
+            let start = base as usize;
+            let end = start + (2 + start);
+            let rows = index_rows();
+            let a = packet_view::first_symbol(packet, &rows[start..end], 8);
+            let kind = a.value + base;
+            FrameType {
+                refusal: 0,
+                signal: kind / 2,
+                offset: kind % 2,
+            }
         }
-    } else {
-        FrameType {
-            refusal: n,
+        Err(refusal) => FrameType {
+            refusal: u32::from(refusal),
             signal: 0,
             offset: 0,
-        }
+        },
     }
 }

@@ -4,6 +4,9 @@
 
 ghost use Rattle.std.specs.Prelude.{◌≡◌, ◌≤◌, length};
 ghost use Rattle.icdf.specs.Test.{falls_ok, scale_ok, icdf_ok, symbol_ok, icdf_rule, symbol_rule};
+ghost use Rattle.refusals.specs.Numbers.{refusal_of};
+
+use refusals::Refusal;
 
 // Whether the first entry is at most top, none is above the one before it, and the last is 0. Neighbours are compared
 // in place: with the entry before carried along, the loop is not vectorised.
@@ -11,15 +14,11 @@ fn falls(table: &[u8], top: u32) -> bool
     requires { 1 ≤ length table.now }
     ensures { result ≡ falls_ok top table.now }
 {
-    let mut ok = (table[0] as u32) <= top;
-    let mut k: usize = 1;
-    while k < table.len() {
-        let j = k - 1;
-        ok = ok & (table[k] <= table[j]);
-        k += 1;
+    let mut ok = u32::from(table[0]) <= top;
+    for k in 1..table.len() {
+        ok = ok & (table[k] <= table[k - 1]);
     }
-    let last = table.len() - 1;
-    ok & (table[last] == 0)
+    ok & (table[table.len() - 1] == 0)
 }
 
 fn scale_ok(scale: u32) -> bool
@@ -32,12 +31,11 @@ fn icdf_ok(table: &[u8], scale: u32) -> bool
     requires { (1 ≤ scale) × (scale ≤ 8) }
     ensures { result ≡ icdf_ok scale table.now }
 {
-    let n = table.len();
-    if n < 1 {
-        return false;
+    if table.is_empty() {
+        false
+    } else {
+        (table.len() <= 256) & falls(table, (1u32 << scale) - 1)
     }
-    let top = (1u32 << scale) - 1;
-    (n <= 256) & falls(table, top)
 }
 
 fn symbol_ok(table: &[u8], scale: u32, symbol: u32) -> bool
@@ -46,44 +44,40 @@ fn symbol_ok(table: &[u8], scale: u32, symbol: u32) -> bool
 {
     let k = symbol as usize;
     if k < table.len() {
-        let entry = table[k] as u32;
+        let entry = table[k];
         if k == 0 {
-            entry < (1u32 << scale)
+            u32::from(entry) < (1u32 << scale)
         } else {
-            let j = k - 1;
-            entry < (table[j] as u32)
+            entry < table[k - 1]
         }
     } else {
         false
     }
 }
 
-// The refusal of a table of a scale: 4, 5, or 0 for none.
-pub fn icdf_rule(table: &[u8], scale: u32) -> u32
-    ensures { result ≡ icdf_rule scale table.now }
+// Refusals 4 and 5 of a table of a scale.
+#[tactic(auto, unfolding(crate::specs::Test::icdf_rule))]
+pub fn icdf_rule(table: &[u8], scale: u32) -> Result<(), Refusal>
+    ensures { refusal_of result ≡ icdf_rule scale table.now }
 {
-    if scale_ok(scale) {
-        if icdf_ok(table, scale) { 0 } else { 5 }
+    if !scale_ok(scale) {
+        Err(Refusal::Number)
+    } else if icdf_ok(table, scale) {
+        Ok(())
     } else {
-        4
+        Err(Refusal::Table)
     }
 }
 
-// The refusal of a symbol to be written: 4, 5, 8, or 0 for none.
-pub fn symbol_rule(table: &[u8], scale: u32, symbol: u32) -> u32
-    ensures { result ≡ symbol_rule scale table.now symbol }
+// Refusals 4, 5 and 8 of a symbol to be written.
+#[tactic(auto, unfolding(crate::specs::Test::icdf_rule, crate::specs::Test::symbol_rule))]
+pub fn symbol_rule(table: &[u8], scale: u32, symbol: u32) -> Result<(), Refusal>
+    ensures { refusal_of result ≡ symbol_rule scale table.now symbol }
 {
-    if scale_ok(scale) {
-        if icdf_ok(table, scale) {
-            if symbol_ok(table, scale, symbol) {
-                0
-            } else {
-                8
-            }
-        } else {
-            5
-        }
+    icdf_rule(table, scale)?;
+    if symbol_ok(table, scale, symbol) {
+        Ok(())
     } else {
-        4
+        Err(Refusal::Value)
     }
 }

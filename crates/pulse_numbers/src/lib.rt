@@ -2,7 +2,10 @@
 #![tactic(auto)]
 
 ghost use Rattle.std.specs.Prelude.{◌≡◌, ◌≤◌};
+ghost use Rattle.refusals.specs.Numbers.{refusal_of};
 ghost use Rattle.silk.specs.FrameCalls.{pulse_numbers_ok, blocks_of, pulse_rule};
+
+use refusals::Refusal;
 
 // What a call that writes pulses is told of its frame.
 #[derive(Clone, Copy)]
@@ -21,6 +24,7 @@ pub struct FrameNumbers {
     pub offset: u32,
 }
 
+#[tactic(auto, unfolding(silk::specs::FrameCalls::pulse_numbers_ok))]
 fn numbers_ok(khz: u32, subframes: u32, signal: u32, offset: u32) -> bool
     ensures { result ≡ pulse_numbers_ok khz subframes signal offset }
 {
@@ -37,17 +41,23 @@ pub fn blocks_of_run(khz: u32, subframes: u32) -> usize
     ((places + 15) / 16) as usize
 }
 
-// Refusal 4 or 6, or 0.
-pub fn pulse_rule(n: usize, khz: u32, subframes: u32, signal: u32, offset: u32) -> u32
-    ensures { result ≡ pulse_rule n khz subframes signal offset }
+// Refusal 4 or 6.
+pub fn pulse_rule(
+    n: usize,
+    khz: u32,
+    subframes: u32,
+    signal: u32,
+    offset: u32,
+) -> Result<(), Refusal>
+    ensures { refusal_of result ≡ pulse_rule n khz subframes signal offset }
 {
     if numbers_ok(khz, subframes, signal, offset) {
         if n == 16 * blocks_of_run(khz, subframes) {
-            0
+            Ok(())
         } else {
-            6
+            Err(Refusal::Length)
         }
     } else {
-        4
+        Err(Refusal::Number)
     }
 }

@@ -1,5 +1,6 @@
 -- Laws of `specs/Numbers`: a refusal's number is not 0, and of two checks `and` is the first that refuses. Assumes nothing.
-use Rattle.std.proofs.Common.{ℕ, ◌≡◌, refl, sym, arith, Result, Ok, Err}
+use Rattle.std.proofs.Common.{ℕ, ◌≡◌, ◌∙◌, refl, sym, ap, arith, Result, Ok, Err}
+use mathlib.Core.Path.{ap₂}
 use Rattle.std.specs.Result.{result_and}
 use Rattle.refusals.specs.declared.Refusal.{Refusal}
 use Rattle.refusals.specs.declared.Refusal.TheVariants.{TooLong, Unsound, Total, Number, Table, Length, Gaps, Value, Input, Framing, NotSpeech}
@@ -38,3 +39,8 @@ pub first_refuses : {A B : Type 0} (a : Result A Refusal) (b : Result B Refusal)
 unfolding first_of
 first_refuses (Ok x) b = refl
 first_refuses (Err refusal) b = sym (refused_first refusal (refusal_of b))
+
+-- the number of `and`'s answer x, by those of its two checks
+pub and_refuses : {A : Type 0} {x : Result A Refusal} {k l : ℕ} (a b : Result A Refusal) → x ≡ result_and a b
+    → refusal_of a ≡ k → refusal_of b ≡ l → refusal_of x ≡ first_of k l
+and_refuses a b e p q = ap refusal_of e ∙ first_refuses a b ∙ ap₂ first_of p q
