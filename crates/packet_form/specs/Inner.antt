@@ -2,7 +2,8 @@
 use Rattle.std.specs.Prelude.{◌≤◌}
 use Rattle.framing.specs.declared.Form.{Form}
 
--- no number of a form is large
+-- no number of a form is large: a fact of packets of 16,384 bytes at most, and no ghost field of `Form`, which `form_of` of
+-- framing/specs/Form makes of any list
 pub record Bounded (f : Form) : Type 0 where
   pub count : f.count ≤ 63
   pub own : f.own ≤ 2
