@@ -1,5 +1,7 @@
 -- What is known of a packet before it is written: no public contract speaks of it. Assumes nothing.
-use Rattle.std.specs.Prelude.{ℕ, ◌≡◌, List}
+use Rattle.std.specs.Prelude.{ℕ, ◌≡◌, Result, List, IfOk}
+use Rattle.refusals.specs.declared.Refusal.{Refusal}
+use Rattle.refusals.specs.Numbers.{refusal_of}
 use Rattle.framing.specs.Writing.{alike, shortest_code, bare as bareOf, length_for, write_rule}
 use Rattle.packet_plan.specs.declared.Plan.{Plan}
 
@@ -11,6 +13,6 @@ pub record Fits (ns : List ℕ) (l : ℕ) (p : Plan) : Type 0 where
   pub bare : p.bare ≡ bareOf ns
 
 -- the refusal, and the numbers of the packet where there is none
-pub record Planned (len c n : ℕ) (ns : List ℕ) (l : ℕ) (p : Plan) : Type 0 where
-  pub rule : p.refusal ≡ write_rule len c n ns l
-  pub runs : p.refusal ≡ 0 → Fits ns l p
+pub record Planned (len c n : ℕ) (ns : List ℕ) (l : ℕ) (p : Result Plan Refusal) : Type 0 where
+  pub rule : refusal_of p ≡ write_rule len c n ns l
+  pub runs : IfOk p (Fits ns l)

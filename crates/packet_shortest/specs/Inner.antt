@@ -1,5 +1,5 @@
 -- What is told of the bytes of written lengths: no public contract speaks of it. Assumes nothing.
-use Rattle.std.specs.Prelude.{ℕ, ◌+◌, ◌≤◌, ◌<◌, ◌≡◌, List, take}
+use Rattle.std.specs.Prelude.{ℕ, ◌+◌, ◌≤◌, ◌<◌, ◌≡◌, Option, Some, None, List, take}
 use Rattle.framing.specs.Lengths.{length_codes, total}
 use Rattle.framing.specs.Writing.{bare as bareOf}
 
@@ -12,3 +12,8 @@ pub record Width (ns : List ℕ) (w : ℕ) : Type 0 where
   pub most : w ≤ 50000
   pub exact : w ≤ 40000 → w + total ns ≡ bareOf ns
   pub more : 40000 < w → 16384 ≤ bareOf ns
+
+-- the width that an answer tells; None tells of 16,384 bytes at least
+abbrev pub told : Option ℕ → ℕ
+told (Some w) = w
+told None = 50000

@@ -4,47 +4,37 @@
 
 ghost use Rattle.std.specs.Prelude.{◌≡◌, eqb};
 ghost use Rattle.lists.specs.Every.{every};
+ghost use Rattle.refusals.specs.Numbers.{refusal_of};
 ghost use Rattle.framing.specs.Lengths.{total};
 ghost use Rattle.framing.specs.Rules.{fits_frame};
 ghost use Rattle.framing.specs.Writing.{alike, frames_rule};
 
 use packet_time::in_time;
+use refusals::Refusal;
 
-// Whether the sizes are n bytes together.
+// Whether the sizes are n bytes together. Their sum may be above a usize.
 pub fn adds_up(sizes: &[u16], n: usize) -> bool
     ensures { result ≡ eqb n (total sizes.now) }
 {
     let mut left = n;
-    let mut k = 0;
-    while k < sizes.len() {
-        let size = wide(sizes[k]);
+    for size in sizes {
+        let size = usize::from(*size);
         if left < size {
             return false;
         }
         left -= size;
-        k += 1;
     }
     left == 0
-}
-
-fn wide(x: u16) -> usize
-    ensures { result ≡ x }
-{
-    x as usize
 }
 
 // Whether all are one size.
 pub fn alike_run(sizes: &[u16]) -> bool
     ensures { result ≡ alike sizes.now }
 {
-    let mut k = 0;
-    while k < sizes.len() {
-        if sizes[k] != sizes[0] {
-            return false;
-        }
-        k += 1;
+    match sizes.split_first() {
+        Some((first, rest)) => rest.iter().all(|size| *size == *first),
+        None => true,
     }
-    true
 }
 
 // The longest frame (RFC 6716, section 3.4, rule R2).
@@ -54,32 +44,19 @@ const LONGEST_FRAME: u16 = 1275;
 fn small_run(sizes: &[u16]) -> bool
     ensures { result ≡ every fits_frame sizes.now }
 {
-    let mut k = 0;
-    while k < sizes.len() {
-        if LONGEST_FRAME < sizes[k] {
-            return false;
-        }
-        k += 1;
-    }
-    true
+    sizes.iter().all(|size| *size <= LONGEST_FRAME)
 }
 
 // Refusals 10 and 11.
-pub fn frames_rule(config: u32, sizes: &[u16]) -> u32
-    ensures { result ≡ frames_rule config sizes.now }
+#[tactic(auto, unfolding(framing::specs::Writing::frames_rule, refusals::specs::First::first_of))]
+pub fn frames_rule(config: u32, sizes: &[u16]) -> Result<(), Refusal>
+    ensures { refusal_of result ≡ frames_rule config sizes.now }
 {
-    let count = sizes.len();
-    if count == 0 {
-        return 10;
+    if sizes.is_empty() || !small_run(sizes) || !in_time(sizes.len(), config as usize) {
+        Err(Refusal::Framing)
+    } else if 11 < config {
+        Err(Refusal::NotSpeech)
+    } else {
+        Ok(())
     }
-    if small_run(sizes) {
-        let c = config as usize;
-        if in_time(count, c) {
-            if 11 < config {
-                return 11;
-            }
-            return 0;
-        }
-    }
-    10
 }

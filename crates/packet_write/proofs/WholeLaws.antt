@@ -1,9 +1,10 @@
 -- The pieces put are the packet. Assumes nothing.
-use Prim.Native.Nat.{ℕ, zero, suc, ◌+◌, ◌-◌, ◌*◌, ◌%◌, ◌<◌}
-use mathlib.Core.Path.{◌≡◌, refl, sym, ap, ◌∙◌}
+use Prim.Native.Nat.{ℕ, zero, suc, ◌+◌, ◌-◌, ◌*◌, ◌%◌, ◌≤◌, ◌<◌}
+use mathlib.Core.Path.{◌≡◌, refl, sym, ap, subst, ◌∙◌}
 use mathlib.Core.Bool.{Bool, true, false, not, cond}
 use mathlib.Core.List.{List, [], ◌∷◌, ◌++◌}
 use native.Mathlib.Omega.{arith}
+use Rattle.std.specs.Prelude.{Ok}
 use borrow.Author.Tests.{eq-eqb, ne_eqb, leb-true}
 use lib.Dec.{eqb, ltb}
 use lib.ListN.{length, get_or, drop, replicate, get_or-eq_default}
@@ -11,8 +12,12 @@ use Rattle.deciding.proofs.Choice.{by_lt}
 use Rattle.lists.specs.Every.{every}
 use Rattle.lists.proofs.EveryLaws.{every_at}
 use Rattle.lists.specs.AtMost.{AtMost}
+use Rattle.refusals.specs.declared.Refusal.{Refusal}
+use Rattle.refusals.specs.Numbers.{number_of}
+use Rattle.refusals.proofs.RefusalLaws.{number_refuses}
 use Rattle.framing.specs.Rules.{fits_frame}
-use Rattle.framing.proofs.Shortest.{code_most}
+use Rattle.framing.specs.Inner.{Writable}
+use Rattle.framing.proofs.Shortest.{code_most, shortest_range}
 use lib.Seq.{sets, sets-eq}
 use Rattle.framing.specs.Toc.{by_code}
 use Rattle.framing.specs.Lengths.{length_codes}
@@ -20,6 +25,7 @@ use Rattle.framing.specs.Padding.{pad_code, pad_tail}
 use Rattle.framing.specs.Writing.{count_byte, laid, alike, shortest_code, bare, shortest, length_for, packet_of, write_rule, Wrote, packet_write}
 use Rattle.framing.proofs.Written.{writable, packet_length}
 use Rattle.packet_plan.specs.declared.Plan.{Plan}
+use Rattle.packet_plan.specs.Inner.{Planned}
 use Rattle.packet_shortest.specs.Inner.{codes_of}
 use Rattle.packet_pieces.specs.Inner.{whole_of}
 use Rattle.packet_shortest.proofs.CodeLaws.{but_last_take}
@@ -81,7 +87,15 @@ small_most ns e i =
     by_lt i (length ns) (λ h. leb-true (get_or ns i 0) 1275 (every_at fits_frame ns 0 e i h))
     (λ h. omega (arith, get_or-eq_default ns 0 {n = i} h))
 
+pub bare_short : {len c n m b : ℕ} {ns : List ℕ} → Writable len c n ns m → b ≡ bare ns → b ≤ 16384
+bare_short {ns = ns} w e = omega (arith, w.long, w.room, w.buffer, (shortest_range ns).0, e)
+
 -- ---- the call
+
+-- a plan that is kept
+pub planned : {len c n : ℕ} {ns : List ℕ} {l : ℕ} {p : Plan} → Planned len c n ns l (Ok p) → Writable len c n ns p.length
+planned {len} {c} {n} {ns} {l} {p} d =
+    subst (λ (m : ℕ). Writable len c n ns m) (sym d.runs.length) (writable len c n ns l (sym d.rule))
 
 abbrev made : List ℕ → ℕ → ℕ → Wrote
 made b r k = record { buf = b; answer = record { refusal = r; length = k } }
@@ -102,11 +116,13 @@ wrote_is buf out c frames ns l m o e q =
     ∙ sym (ap (λ (b : Bool). cond b (made (t ++ drop m' buf) 0 m') (made buf (write_rule (length buf) c (length frames) ns l) 0))
     (eq-eqb (write_rule (length buf) c (length frames) ns l) 0 e))
 
-pub kept_is : (buf : List ℕ) (c : ℕ) (frames ns : List ℕ) (l r : ℕ) → r ≡ write_rule (length buf) c (length frames) ns l → (r ≡ 0 → ⊥)
-    → record { buf = buf; answer = record { refusal = r; length = 0 } } ≡ packet_write buf c frames ns l
+pub kept_is : (buf : List ℕ) (c : ℕ) (frames ns : List ℕ) (l : ℕ) (r : Refusal)
+    → number_of r ≡ write_rule (length buf) c (length frames) ns l
+    → record { buf = buf; answer = record { refusal = number_of r; length = 0 } } ≡ packet_write buf c frames ns l
 unfolding packet_write
-kept_is buf c frames ns l r e h =
+kept_is buf c frames ns l r e =
     let n = write_rule (length buf) c (length frames) ns l in
     let m' = length_for ns l in
     ap (λ (k : ℕ). made buf k 0) e
-    ∙ sym (ap (λ (b : Bool). cond b (made (packet_of c ns frames m' ++ drop m' buf) 0 m') (made buf n 0)) (ne_eqb n 0 (λ z. h (e ∙ z))))
+    ∙ sym (ap (λ (b : Bool). cond b (made (packet_of c ns frames m' ++ drop m' buf) 0 m') (made buf n 0))
+    (ne_eqb n 0 (λ z. number_refuses r (e ∙ z))))

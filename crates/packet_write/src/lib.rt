@@ -1,7 +1,7 @@
 // The call that writes a whole packet into a lent buffer (RFC 6716 section 3).
 #![tactic(auto)]
 
-ghost use Rattle.std.specs.Prelude.{◌-◌, ◌≡◌, cond, eqb, length};
+ghost use Rattle.std.specs.Prelude.{◌≡◌, length};
 ghost use Rattle.std.proofs.lemmas.List.Edits.{sets};
 ghost use Rattle.framing.specs.Inner.{Writable};
 ghost use Rattle.framing.specs.Writing.{alike, shortest_code, bare as bareOf, packet_of, packet_write};
@@ -11,38 +11,20 @@ use packet_pieces::put_whole_run;
 use packet_plan::{Plan, plan_run};
 use packet_shortest::own_run;
 
-fn less(a: usize, b: usize) -> usize
-    ensures { result ≡ a - b }
-{
-    if b <= a {
-        return a - b;
-    }
-    0
-}
-
-fn final_code(code: usize, m: usize, shortest: usize) -> usize
-    ensures { result ≡ cond (eqb m shortest) code 3 }
-{
-    if m == shortest {
-        return code;
-    }
-    3
-}
-
 fn write_run(buf: &mut [u8], c: usize, frames: &[u8], sizes: &[u16], p: Plan) -> usize
     requires writable { Writable (length buf.old) c (length frames.now) sizes.now p.length }
     requires same_value { (p.same ≡ alike sizes.now) × (p.code ≡ shortest_code sizes.now) × (p.bare ≡ bareOf sizes.now) }
     ensures { buf.new ≡
         sets buf.old 0 (packet_of c sizes.now frames.now p.length) }
 {
-    let m = p.length;
-    let k = less(m, 2 + p.bare);
-    let shortest = own_run(p.code, p.bare);
-    let code = final_code(p.code, m, shortest);
-    let varied = !p.same;
+    let padding = p.length.saturating_sub(2 + p.bare);
+    let code = if p.length == own_run(p.code, p.bare) {
+        p.code
+    } else {
+        3
+    };
     let toc = (8 * c + code) as u8;
-    let three = code == 3;
-    put_whole_run(buf, toc, three, k, varied, sizes, frames)
+    put_whole_run(buf, toc, code == 3, padding, !p.same, sizes, frames)
 }
 
 // A packet written into a lent buffer, or why it is not.
@@ -56,16 +38,17 @@ pub fn packet_write(
     ensures { record { buf = buf.exit.now; answer = result } ≡
         packet_write buf.entry.now config frames.now sizes.now length }
 {
-    let p = plan_run(buf.len(), config, frames.len(), sizes, length);
-    if p.refusal == 0 {
-        let c = config as usize;
-        let m = p.length as u32;
-        write_run(buf, c, frames, sizes, p);
-        return PacketWritten {
-            refusal: 0,
-            length: m,
-        };
+    match plan_run(buf.len(), config, frames.len(), sizes, length) {
+        Ok(plan) => {
+            write_run(buf, config as usize, frames, sizes, plan);
+            PacketWritten {
+                refusal: 0,
+                length: plan.length as u32,
+            }
+        }
+        Err(refusal) => PacketWritten {
+            refusal: u32::from(refusal),
+            length: 0,
+        },
     }
-    let refusal = p.refusal;
-    PacketWritten { refusal, length: 0 }
 }
