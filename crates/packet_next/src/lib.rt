@@ -8,23 +8,24 @@ ghost use Rattle.packet_next.specs.Inner.{Next, Sized};
 use framing::Form;
 use packet_form::Coded;
 
-// A length all of whose bytes are there.
+// A length all of whose bytes are there. `length_run` of packet_form is its twin where they may be past the end: one for
+// both would test each byte's place here again, which the reading of one frame has no time for.
 fn inside_run(s: &[u8], at: usize) -> Coded
     requires { at + width_of (drop at s.now) ≤ length s.now }
     ensures value_value { (result.value ≡ length_of (drop at s.now)) × (result.width ≡ width_of (drop at s.now)) }
     ensures value_bound { (result.value ≤ 1275) × (result.width ≤ 2) }
 {
-    let first = s[at] as usize;
+    let first = usize::from(s[at]);
     if first < 252 {
-        return Coded {
+        Coded {
             value: first,
             width: 1,
-        };
-    }
-    let second = s[at + 1] as usize;
-    Coded {
-        value: 4 * second + first,
-        width: 2,
+        }
+    } else {
+        Coded {
+            value: 4 * usize::from(s[at + 1]) + first,
+            width: 2,
+        }
     }
 }
 
@@ -33,13 +34,12 @@ pub fn next_run(s: &[u8], f: Form, last: usize, at: usize, k: usize) -> Coded
     requires { Next s.now f last at k }
     ensures { Sized s.now f at k result }
 {
-    if f.varied {
-        if k + 1 < f.count {
-            return inside_run(s, at);
+    if f.varied && k + 1 < f.count {
+        inside_run(s, at)
+    } else {
+        Coded {
+            value: last,
+            width: 0,
         }
-    }
-    Coded {
-        value: last,
-        width: 0,
     }
 }

@@ -8,8 +8,9 @@ ghost use Rattle.packet_places.specs.Inner.{Spanned, Stands};
 
 use framing::Form;
 use packet_next::next_run;
+use packet_share::Span;
 
-// Start and size of each frame. Places past the last are 0.
+// Start and size of each frame. Places past the last are 0. Two arrays, as the C interface's `Packet` has them.
 #[derive(Clone, Copy)]
 pub struct Places {
     pub start: [u16; 12],
@@ -18,89 +19,79 @@ pub struct Places {
 
 // Up to four frames. Each turn's places are constants, so that no array is filled and copied, which would take twice
 // the time.
-pub fn few_run(s: &[u8], f: Form, head: usize, last: usize) -> Places
-    requires { Spanned s.now f head last × (f.count ≤ 4) }
-    ensures { Stands (sizes f s.now) head result }
+pub fn few_run(s: &[u8], f: Form, span: Span) -> Places
+    requires { Spanned s.now f span.head span.last × (f.count ≤ 4) }
+    ensures { Stands (sizes f s.now) span.head result }
 {
     let mut p = Places {
         start: [0; 12],
         size: [0; 12],
     };
-    let n = f.count;
     let mut at = f.own + f.lens;
-    let mut place = head;
-    let mut k = 0;
-    while k < 4 {
-        if n <= k {
+    let mut place = span.head;
+    for k in 0..4 {
+        if f.count <= k {
             return p;
         }
-        let c = next_run(s, f, last, at, k);
+        let next = next_run(s, f, span.last, at, k);
         p.start[k] = place as u16;
-        p.size[k] = c.value as u16;
-        at += c.width;
-        place += c.value;
-        k += 1;
+        p.size[k] = next.value as u16;
+        at += next.width;
+        place += next.value;
     }
     p
 }
 
-// Any number of frames.
-fn each_run(s: &[u8], f: Form, head: usize, last: usize) -> Places
-    requires { Spanned s.now f head last × (f.count ≤ 12) }
-    ensures { Stands (sizes f s.now) head result }
+// Any number of frames. One function with `few_run` by a const parameter is unrolled for twelve too: with it reading one
+// frame took 23 ns in place of 11.
+fn each_run(s: &[u8], f: Form, span: Span) -> Places
+    requires { Spanned s.now f span.head span.last × (f.count ≤ 12) }
+    ensures { Stands (sizes f s.now) span.head result }
 {
     let mut p = Places {
         start: [0; 12],
         size: [0; 12],
     };
-    let n = f.count;
     let mut at = f.own + f.lens;
-    let mut place = head;
-    let mut k = 0;
-    while k < n {
-        let c = next_run(s, f, last, at, k);
+    let mut place = span.head;
+    for k in 0..f.count {
+        let next = next_run(s, f, span.last, at, k);
         p.start[k] = place as u16;
-        p.size[k] = c.value as u16;
-        at += c.width;
-        place += c.value;
-        k += 1;
+        p.size[k] = next.value as u16;
+        at += next.width;
+        place += next.value;
     }
     p
 }
 
 // Frames whose written lengths are one byte each, as those of speech are: no length waits for the one before.
-fn bytes_run(s: &[u8], at: usize, n: usize, head: usize, last: usize) -> Places
-    requires { (at + n ≤ length s.now) × (n ≤ 11) × (head ≤ 16384) × (last ≤ 1275) × (widths n (drop at s.now) ≡ n) }
-    ensures { Stands (lengths n (drop at s.now) ++ (last ∷ [])) head result }
+fn bytes_run(s: &[u8], at: usize, n: usize, span: Span) -> Places
+    requires { (at + n ≤ length s.now) × (n ≤ 11) × (span.head ≤ 16384) × (span.last ≤ 1275) × (widths n (drop at s.now) ≡ n) }
+    ensures { Stands (lengths n (drop at s.now) ++ (span.last ∷ [])) span.head result }
 {
     let mut start = [0; 12];
     let mut size = [0; 12];
-    let mut place = head;
-    let mut k = 0;
-    while k < 12 {
+    let mut place = span.head;
+    for k in 0..12 {
         start[k] = place as u16;
         if n <= k {
-            size[k] = last as u16;
+            size[k] = span.last as u16;
             return Places { start, size };
         }
-        let length = s[at + k] as usize;
-        size[k] = length as u16;
-        place += length;
-        k += 1;
+        let length = s[at + k];
+        size[k] = u16::from(length);
+        place += usize::from(length);
     }
     Places { start, size }
 }
 
-pub fn many_run(s: &[u8], f: Form, head: usize, last: usize) -> Places
-    requires { Spanned s.now f head last × (f.count ≤ 12) }
-    ensures { Stands (sizes f s.now) head result }
+pub fn many_run(s: &[u8], f: Form, span: Span) -> Places
+    requires { Spanned s.now f span.head span.last × (f.count ≤ 12) }
+    ensures { Stands (sizes f s.now) span.head result }
 {
-    if f.varied {
-        let at = f.own + f.lens;
-        let n = f.count - 1;
-        if head == at + n {
-            return bytes_run(s, at, n, head, last);
-        }
+    if f.varied && span.head == f.own + f.lens + (f.count - 1) {
+        bytes_run(s, f.own + f.lens, f.count - 1, span)
+    } else {
+        each_run(s, f, span)
     }
-    each_run(s, f, head, last)
 }

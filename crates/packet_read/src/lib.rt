@@ -3,6 +3,7 @@
 #![tactic(auto)]
 
 ghost use Rattle.std.specs.Prelude.{◌≤◌, ◌<◌, ◌≡◌, get_or};
+ghost use Rattle.refusals.specs.Numbers.{number_of};
 ghost use Rattle.framing.specs.Reading.{refused as refusedOf, accepted as acceptedOf, packet_read};
 ghost use Rattle.packet_form.specs.Inner.{Bounded};
 ghost use Rattle.packet_places.specs.Inner.{Spanned};
@@ -11,14 +12,16 @@ ghost use Rattle.packet_read.specs.Inner.{answer_of};
 use framing::{Form, LONGEST_PACKET, Packet};
 use packet_form::form_run;
 use packet_places::{Places, few_run, many_run};
+use packet_share::Span;
 use packet_span::span_run;
+use refusals::Refusal;
 use sections::byte_at;
 
-fn refused(n: u32) -> Packet
-    ensures { result ≡ refusedOf n }
+fn refused(refusal: Refusal) -> Packet
+    ensures { result ≡ refusedOf (number_of refusal) }
 {
     Packet {
-        refusal: n,
+        refusal: u32::from(refusal),
         config: 0,
         arrangement: 0,
         count: 0,
@@ -32,33 +35,27 @@ fn answer_run(f: Form, toc: usize, p: Places) -> Packet
     requires { Bounded f × (toc < 256) }
     ensures { result ≡ answer_of f toc p }
 {
-    let config = (toc / 8) as u32;
-    let arrangement = (toc % 4) as u32;
-    let count = f.count as u32;
-    let padding = (f.lens + f.pad) as u32;
-    let start = p.start;
-    let size = p.size;
+    let Places { start, size } = p;
     Packet {
         refusal: 0,
-        config,
-        arrangement,
-        count,
-        padding,
+        config: (toc / 8) as u32,
+        arrangement: (toc % 4) as u32,
+        count: f.count as u32,
+        padding: (f.lens + f.pad) as u32,
         start,
         size,
     }
 }
 
-fn accepted_run(s: &[u8], f: Form, head: usize, last: usize, toc: usize) -> Packet
-    requires { Spanned s.now f head last × (f.count ≤ 12) × (toc ≡ get_or s.now 0 0) × (toc < 256) }
+fn accepted_run(s: &[u8], f: Form, span: Span, toc: usize) -> Packet
+    requires { Spanned s.now f span.head span.last × (f.count ≤ 12) × (toc ≡ get_or s.now 0 0) × (toc < 256) }
     ensures { result ≡ acceptedOf s.now }
 {
     if f.count <= 4 {
-        let p = few_run(s, f, head, last);
-        return answer_run(f, toc, p);
+        answer_run(f, toc, few_run(s, f, span))
+    } else {
+        answer_run(f, toc, many_run(s, f, span))
     }
-    let p = many_run(s, f, head, last);
-    answer_run(f, toc, p)
 }
 
 // What a packet holds, or why it is refused.
@@ -66,19 +63,15 @@ pub fn packet_read(packet: &[u8]) -> Packet
     ensures { result ≡ packet_read packet.now }
 {
     if LONGEST_PACKET < packet.len() {
-        return refused(1);
+        return refused(Refusal::TooLong);
     }
-    let f = form_run(packet);
-    let span = span_run(packet, f);
-    if span.kept {
-        let toc = byte_at(packet, 0);
-        if 11 < toc / 8 {
-            return refused(11);
-        }
-        if toc / 4 % 2 == 1 {
-            return refused(11);
-        }
-        return accepted_run(packet, f, span.head, span.last, toc);
+    let form = form_run(packet);
+    let Some(span) = span_run(packet, form) else {
+        return refused(Refusal::Framing);
+    };
+    let toc = byte_at(packet, 0);
+    if 11 < toc / 8 || toc / 4 % 2 == 1 {
+        return refused(Refusal::NotSpeech);
     }
-    refused(10)
+    accepted_run(packet, form, span, toc)
 }

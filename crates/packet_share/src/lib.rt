@@ -3,44 +3,30 @@
 #![tactic(auto)]
 
 ghost use Rattle.std.specs.Prelude.{◌≤◌, ◌≡◌};
-ghost use Rattle.packet_share.specs.Inner.{none as noneOf, closed as closedOf, shared as sharedOf};
+ghost use Rattle.packet_share.specs.Inner.{closed as closedOf, shared as sharedOf};
 
 // The longest frame (rule R2 of section 3.4).
 const LONGEST_FRAME: usize = 1275;
 
-// Whether the rules are kept; then where the first frame starts, and the last frame's size.
+// Where the first frame of a packet that keeps the rules starts, and the last frame's size.
 #[derive(Clone, Copy)]
 pub struct Span {
-    pub kept: bool,
     pub head: usize,
     pub last: usize,
 }
 
-pub fn none() -> Span
-    ensures { result ≡ noneOf }
-{
-    Span {
-        kept: false,
-        head: 0,
-        last: 0,
-    }
-}
-
-pub fn closed(head: usize, last: usize) -> Span
+pub fn closed(head: usize, last: usize) -> Option<Span>
     ensures { result ≡ closedOf head last }
 {
     if LONGEST_FRAME < last {
-        return none();
-    }
-    Span {
-        kept: true,
-        head,
-        last,
+        None
+    } else {
+        Some(Span { head, last })
     }
 }
 
 // n equal shares of the room. The first two need no division by a number that is not known.
-pub fn shared_run(head: usize, n: usize, room: usize) -> Span
+pub fn shared_run(head: usize, n: usize, room: usize) -> Option<Span>
     requires { 1 ≤ n }
     ensures { result ≡ sharedOf head n room }
 {
@@ -51,10 +37,10 @@ pub fn shared_run(head: usize, n: usize, room: usize) -> Span
         if room % 2 == 0 {
             return closed(head, room / 2);
         }
-        return none();
+        return None;
     }
     if room % n == 0 {
         return closed(head, room / n);
     }
-    none()
+    None
 }

@@ -6,17 +6,17 @@ use mathlib.Core.List.{List, [], ◌∷◌, ◌++◌}
 use native.Mathlib.Omega.{arith}
 use borrow.Author.Tests.{leb-true, leb-false, le-leb, eqb-true, eqb-false}
 use lib.Dec.{eqb, leb}
-use lib.ListN.{length, replicate}
+use lib.ListN.{length, get_or, replicate}
 use Rattle.deciding.proofs.Both.{and_both, both_and}
 use Rattle.lists.specs.Every.{every}
 use Rattle.lists.specs.AtMost.{AtMost}
 use Rattle.framing.specs.declared.Form.{Form}
-use Rattle.framing.specs.Toc.{config_of, duration}
+use Rattle.framing.specs.Toc.{config_of, duration, in_time}
 use Rattle.framing.specs.Lengths.{total}
 use Rattle.framing.specs.Form.{form_of, behind, firsts, head, room, sizes}
 use Rattle.framing.specs.Rules.{fits_frame, keeps}
 use Rattle.framing.proofs.LengthLaws.{lengths_most, at_most_drop}
-use Rattle.framing.proofs.Kept.{KeptBy, kept, kept_keeps, by_bool, firsts_varied, sizes_equal, sizes_varied}
+use Rattle.framing.proofs.Kept.{KeptBy, kept, kept_keeps, by_bool, firsts_varied, sizes_equal, sizes_varied, none_first}
 use Rattle.packet_share.specs.Inner.{none, span, closed, shared}
 use Rattle.packet_span.specs.Inner.{last_by, span_of}
 
@@ -112,17 +112,15 @@ module _ (s : List ℕ) (f : Form) (e : f ≡ form_of s) where
       ap (λ (b : Bool). cond b (span (head f s) (last_by f s)) none) t
       ∙ broken (λ k. let l : 1275 < last_by f s = leb-false _ _ t in omega (arith, last_most k)))
 
-  pub closes_varied : AtMost 255 s → (h value : ℕ) → Reached h value → f.varied ≡ true
-      → closed h (length s - (h + f.pad) - value) ≡ span_of s
-  closes_varied y h value r v =
-      let q : length s - (h + f.pad) - value ≡ last_by f s = omega (arith, last_varied v, r.at, r.firstly) in
-      closes y h value (length s - (h + f.pad) - value) r q (λ u. absurd (true≢false (sym v ∙ u)))
+  pub closes_varied : AtMost 255 s → (h value n : ℕ) → Reached h value → n ≡ length s - (h + f.pad + value) → f.varied ≡ true
+      → closed h n ≡ span_of s
+  closes_varied y h value n r q v =
+      closes y h value n r (omega (arith, q, last_varied v, r.at, r.firstly)) (λ u. absurd (true≢false (sym v ∙ u)))
 
-  pub closes_shared : AtMost 255 s → (h value : ℕ) → Reached h value → f.varied ≡ false
-      → shared h f.count (length s - (h + f.pad)) ≡ span_of s
-  closes_shared y h value r v =
-      let n = length s - (h + f.pad) in
-      let e : n ≡ room f s = ap (λ (x : ℕ). length s - (x + f.pad)) r.at in
+  pub closes_shared : AtMost 255 s → (h value n : ℕ) → Reached h value → n ≡ length s - (h + f.pad + value) → f.varied ≡ false
+      → shared h f.count n ≡ span_of s
+  closes_shared y h value n r q v =
+      let e : n ≡ room f s = omega (arith, q, r.at, r.firstly, none_first f s v) in
       by_bool (eqb (n % f.count) 0)
       (λ t.
       ap (λ (b : Bool). cond b (closed h (n / f.count)) none) t
@@ -131,3 +129,18 @@ module _ (s : List ℕ) (f : Form) (e : f ≡ form_of s) where
       (λ t.
       ap (λ (b : Bool). cond b (closed h (n / f.count)) none) t
       ∙ broken (λ k. eqb-false (n % f.count) 0 t (ap (λ (x : ℕ). x % f.count) e ∙ k.shares v)))
+
+  -- ---- the first byte
+
+  module _ (toc : ℕ) (p : toc ≡ get_or s 0 0) where
+    timed : (b : Bool) → b ≡ in_time f.count (toc / 8) → in_time f.count (config_of s) ≡ b
+    timed b q = ap (λ (x : ℕ). in_time f.count (x / 8)) (sym p) ∙ sym q
+
+    pub late : false ≡ in_time f.count (toc / 8) → none ≡ span_of s
+    late q =
+        broken (λ k. let l = leb-false (f.count * duration (config_of s)) 1200 (timed false q) in omega (arith, k.time, l))
+
+    pub reached : (w v : ℕ) → (f.count ≡ 0 → ⊥) → true ≡ in_time f.count (toc / 8) → v ≡ total (firsts f s)
+        → f.own + f.lens + w ≡ head f s → f.own + f.lens + w + f.pad + v ≤ length s → Reached (f.own + f.lens + w) v
+    reached w v n q x h u =
+        record { some = omega arith; time = leb-true _ _ (timed true q); at = h; firstly = x; fits = u }

@@ -8,32 +8,29 @@ ghost use Rattle.packet_span.specs.Inner.{span_of};
 
 use framing::Form;
 use packet_form::firsts_run;
-use packet_share::{Span, closed, none, shared_run};
+use packet_share::{Span, closed, shared_run};
 use packet_time::in_time;
 use sections::byte_at;
 
-pub fn span_run(s: &[u8], f: Form) -> Span
+pub fn span_run(s: &[u8], f: Form) -> Option<Span>
     requires s_len_bound { length s.now ≤ 16384 }
     requires f_value { (f ≡ form_of s.now) × Bounded f }
     ensures { result ≡ span_of s.now }
 {
-    let n = f.count;
-    if n == 0 {
-        return none();
+    if f.count == 0 || !in_time(f.count, byte_at(s, 0) / 8) {
+        return None;
     }
-    let toc = byte_at(s, 0);
-    if in_time(n, toc / 8) {
-        let c = firsts_run(s, f);
-        let head = f.own + f.lens + c.width;
-        let used = head + f.pad;
-        if s.len() < used + c.value {
-            return none();
-        }
-        let room = s.len() - used;
-        if f.varied {
-            return closed(head, room - c.value);
-        }
-        return shared_run(head, n, room);
+    let lengths = firsts_run(s, f);
+    let head = f.own + f.lens + lengths.width;
+    let used = head + f.pad + lengths.value;
+    // A checked subtraction costs one frame's reading a choice of two numbers, a tenth of it.
+    if s.len() < used {
+        return None;
     }
-    none()
+    let room = s.len() - used;
+    if f.varied {
+        closed(head, room)
+    } else {
+        shared_run(head, f.count, room)
+    }
 }
