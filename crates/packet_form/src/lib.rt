@@ -65,7 +65,7 @@ fn padding_run(s: &[u8], at: usize) -> Coded
     ensures value_value { (result.value ≡ pad_bytes (drop at s.now)) × (result.width ≡ pad_lengths (drop at s.now)) }
     ensures value_bound { (result.value ≤ 5000000) × (result.width ≤ 20000) }
 {
-    // `skip`, `take_while` and `count` in place of this loop took 4 ns more for a padded frame, a fourth of its reading.
+    // `skip`, `take_while` and `count` in place of this loop took a fourth more for a padded frame.
     let mut n = 0;
     while byte_at(s, at + n) == 255 {
         n += 1;

@@ -9,7 +9,7 @@ use framing::Form;
 use packet_form::Coded;
 
 // A length all of whose bytes are there. `length_run` of packet_form is its twin where they may be past the end: one for
-// both would test each byte's place here again, which the reading of one frame has no time for.
+// both would have a bounds check here too, where none is needed.
 fn inside_run(s: &[u8], at: usize) -> Coded
     requires { at + width_of (drop at s.now) ≤ length s.now }
     ensures value_value { (result.value ≡ length_of (drop at s.now)) × (result.width ≡ width_of (drop at s.now)) }

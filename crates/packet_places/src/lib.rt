@@ -42,8 +42,8 @@ pub fn few_run(s: &[u8], f: Form, span: Span) -> Places
     p
 }
 
-// Any number of frames. One function with `few_run` by a const parameter is unrolled for twelve too: with it reading one
-// frame took 23 ns in place of 11.
+// Any number of frames. One function with `few_run` by a const parameter is unrolled for twelve too, and reading one frame
+// then took twice the time.
 fn each_run(s: &[u8], f: Form, span: Span) -> Places
     requires { Spanned s.now f span.head span.last × (f.count ≤ 12) }
     ensures { Stands (sizes f s.now) span.head result }

@@ -23,7 +23,7 @@ pub fn span_run(s: &[u8], f: Form) -> Option<Span>
     let lengths = firsts_run(s, f);
     let head = f.own + f.lens + lengths.width;
     let used = head + f.pad + lengths.value;
-    // A checked subtraction costs one frame's reading a choice of two numbers, a tenth of it.
+    // A checked subtraction leaves a choice of two numbers on the way of one frame, which took a tenth more.
     if s.len() < used {
         return None;
     }
