@@ -1,7 +1,7 @@
 // Numbers as decimal text, put into a lent buffer at a place. Each function answers the place behind what it put.
 #![tactic(auto)]
 
-ghost use Rattle.std.specs.Prelude.{◌+◌, ◌≤◌, ◌<◌, ◌≡◌, [], ◌∷◌, nat_abs, length};
+ghost use Rattle.std.specs.Prelude.{◌+◌, ◌≤◌, ◌<◌, [], ◌∷◌, length};
 ghost use Rattle.numerals.specs.Decimal.{natural, decimal};
 ghost use Rattle.numerals.specs.Inner.{Put};
 
@@ -14,36 +14,28 @@ pub fn put_byte_run(out: &mut [u8], at: usize, byte: u8) -> usize
 }
 
 // The digits of n / 10, then the last digit.
-fn put_natural(out: &mut [u8], at: usize, n: u32) -> usize
+fn put_natural(out: &mut [u8], at: usize, n: u16) -> usize
     requires { at + length (natural n) ≤ length out.old }
     ensures { Put (length (natural n)) out.old at (natural n) out.new result }
 {
-    let last = 48 + (n % 10) as u8;
+    let last = b'0' + (n % 10) as u8;
     if n < 10 {
-        return put_byte_run(out, at, last);
+        put_byte_run(out, at, last)
+    } else {
+        let place = put_natural(out, at, n / 10);
+        put_byte_run(out, place, last)
     }
-    let place = put_natural(out, at, n / 10);
-    put_byte_run(out, place, last)
-}
-
-// How far a number lies from 0.
-fn magnitude(x: i16) -> u32
-    ensures { (result ≡ nat_abs x) × (result ≤ 32768) }
-{
-    if x < 0 {
-        return (0 - (x as i32)) as u32;
-    }
-    x as u32
 }
 
 pub fn put_number_run(out: &mut [u8], at: usize, x: i16) -> usize
     requires { at + 6 ≤ length out.old }
     ensures { Put 6 out.old at (decimal x) out.new result }
 {
-    let n = magnitude(x);
+    let n = x.unsigned_abs();
     if x < 0 {
-        let place = put_byte_run(out, at, 45);
-        return put_natural(out, place, n);
+        let place = put_byte_run(out, at, b'-');
+        put_natural(out, place, n)
+    } else {
+        put_natural(out, at, n)
     }
-    put_natural(out, at, n)
 }

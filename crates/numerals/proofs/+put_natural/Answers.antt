@@ -22,11 +22,11 @@ returns-then-n-lt10 t c =
 pub put_natural-place-requires : goal.put_natural-place-requires
 put_natural-place-requires t c = (omega arith, omega (arith, one_more c.args.n c.if-n-lt10.false))
 
-pub put_byte_run-requires-2 : goal.put_byte_run-requires-2
-put_byte_run-requires-2 t c = omega (arith, one_more c.args.n c.if-n-lt10.false)
+pub put_byte_run-requires-else-n-lt10 : goal.put_byte_run-requires-else-n-lt10
+put_byte_run-requires-else-n-lt10 t c = omega (arith, one_more c.args.n c.if-n-lt10.false)
 
-pub returns : goal.returns
-returns t c =
+pub returns-else-n-lt10 : goal.returns-else-n-lt10
+returns-else-n-lt10 t c =
     let h = c.if-n-lt10.false in
-    put_as (put_then c.put_natural-place.ensures c.put_byte_run-2.ensures) (sym (natural_next c.args.n h))
+    put_as (put_then c.put_natural-place.ensures c.put_byte_run-else-n-lt10.ensures) (sym (natural_next c.args.n h))
     (omega (arith, one_more c.args.n h))
