@@ -1,7 +1,7 @@
 // Lines of text, put into a lent buffer at a place. Each function answers the place behind what it put.
 #![tactic(auto)]
 
-ghost use Rattle.std.specs.Prelude.{◌+◌, ◌*◌, ◌≤◌, ◌∷◌, ◌++◌, length};
+ghost use Rattle.std.specs.Prelude.{◌+◌, ◌*◌, ◌≤◌, ◌<◌, ◌∷◌, ◌++◌, length};
 ghost use Rattle.numerals.specs.Decimal.{decimal};
 ghost use Rattle.numerals.specs.Inner.{Put};
 ghost use Rattle.listing.specs.Lines.{spaced, line, counted, refused_text};
@@ -12,13 +12,9 @@ pub fn put_word_run(out: &mut [u8], at: usize, word: &[u8]) -> usize
     requires { at + length word.now ≤ length out.old }
     ensures { Put (length word.now) out.old at word.now out.new result }
 {
-    let mut place = at;
-    let mut i = 0;
-    while i < word.len() {
-        place = put_byte_run(out, place, word[i]);
-        i += 1;
-    }
-    place
+    let end = at + word.len();
+    out[at..end].copy_from_slice(word);
+    end
 }
 
 // A number after a space.
@@ -26,7 +22,7 @@ pub fn put_spaced_run(out: &mut [u8], at: usize, x: i16) -> usize
     requires { at + 7 ≤ length out.old }
     ensures { Put 7 out.old at (32 ∷ decimal x) out.new result }
 {
-    let place = put_byte_run(out, at, 32);
+    let place = put_byte_run(out, at, b' ');
     put_number_run(out, place, x)
 }
 
@@ -36,11 +32,8 @@ pub fn put_numbers_run(out: &mut [u8], at: usize, xs: &[i16]) -> usize
     ensures { Put (7 * length xs.now) out.old at (spaced xs.now) out.new result }
 {
     let mut place = at;
-    let mut i = 0;
-    while i < xs.len() {
-        let x = xs[i];
-        place = put_spaced_run(out, place, x);
-        i += 1;
+    for x in xs {
+        place = put_spaced_run(out, place, *x);
     }
     place
 }
@@ -62,7 +55,7 @@ pub fn put_line_run(out: &mut [u8], at: usize, word: &[u8], xs: &[i16]) -> usize
         (line word.now xs.now) out.new result }
 {
     let place = put_start_run(out, at, word, xs);
-    put_byte_run(out, place, 10)
+    put_byte_run(out, place, b'\n')
 }
 
 // A word, how many numbers follow, and these.
@@ -72,17 +65,15 @@ pub fn put_counted_run(out: &mut [u8], at: usize, word: &[u8], xs: &[i16]) -> us
     ensures { Put (length word.now + 7 * length xs.now + 8) out.old at
         (counted word.now xs.now) out.new result }
 {
-    let count = [xs.len() as i16];
-    let place = put_start_run(out, at, word, &count);
+    let place = put_start_run(out, at, word, &[xs.len() as i16]);
     let place = put_numbers_run(out, place, xs);
-    put_byte_run(out, place, 10)
+    put_byte_run(out, place, b'\n')
 }
 
 // All that a refused input prints.
 pub fn put_refused_run(out: &mut [u8], at: usize, number: u32) -> usize
-    requires { (at + 15 ≤ length out.old) × (number ≤ 9) }
+    requires { (at + 15 ≤ length out.old) × (number < 32768) }
     ensures { Put 15 out.old at (refused_text number) out.new result }
 {
-    let numbers = [number as i16];
-    put_line_run(out, at, b"refused", &numbers)
+    put_line_run(out, at, b"refused", &[number as i16])
 }

@@ -1,10 +1,12 @@
 -- A text put into a lent buffer at a place: what an inner function that writes promises. Assumes nothing.
-use Prim.Native.Nat.{ℕ, suc, ◌+◌, ◌≤◌}
-use mathlib.Core.Path.{◌≡◌, refl, ap, ◌∙◌}
+use Prim.Native.Nat.{ℕ, suc, ◌+◌, ◌-◌, ◌≤◌}
+use mathlib.Core.Path.{◌≡◌, refl, sym, ap, ◌∙◌}
 use mathlib.Core.List.{List, [], ◌∷◌, ◌++◌}
 use native.Mathlib.Omega.{arith}
-use lib.ListN.{length, set, length-append}
-use lib.Seq.{sets}
+use lib.ListN.{length, take, drop, set, length-append}
+use lib.Seq.{sets, sets-eq, take-length}
+use borrow.Rule.Slice.PartMut.{put_mid}
+use Rattle.std.proofs.lemmas.Slice.{put_mid-paste}
 use Rattle.numerals.specs.Inner.{Put}
 
 pub put_none : (l : List ℕ) (at : ℕ) → Put 0 l at [] l at
@@ -32,4 +34,16 @@ put_as {n} {k} {l} {m} {t} {u} {at} {i} a e h =
       is = a.is ∙ ap (λ (x : List ℕ). sets l at x) e;
       behind = a.behind ∙ ap (λ (x : List ℕ). at + length x) e;
       most = omega (arith, a.most, ap length e);
+    }
+
+-- a part of the buffer, written as a whole
+pub put_part : (l : List ℕ) (at : ℕ) (t : List ℕ) {m : List ℕ} → m ≡ t → at + length t ≤ length l
+    → Put (length t) l at t (put_mid at (at + length t - at) l m) (at + length t)
+put_part l at t {m} e h =
+    record {
+      is = put_mid-paste at (at + length t - at) l m t (length t) e (omega arith) refl
+          ∙ ap (λ (x : List ℕ). take at l ++ x ++ drop (at + length t) l) (take-length t)
+          ∙ sym (sets-eq t l at h);
+      behind = refl;
+      most = omega arith;
     }
