@@ -8,10 +8,7 @@ ghost use Rattle.sections.specs.Values.{byte_at, value_at, values_at};
 pub fn byte_at(s: &[u8], i: usize) -> usize
     ensures { (result ≡ byte_at s.now i) × (result < 256) }
 {
-    if i < s.len() {
-        return s[i] as usize;
-    }
-    0
+    if i < s.len() { usize::from(s[i]) } else { 0 }
 }
 
 // The two bytes at a place, as a number with a sign.
@@ -19,8 +16,7 @@ pub fn value_at_run(s: &[u8], i: usize) -> i16
     requires { i + 2 ≤ length s.now }
     ensures { result ≡ value_at s.now i }
 {
-    let pair = 256 * byte_at(s, i) + byte_at(s, i + 1);
-    wrapping::fold16_run(pair as i32)
+    i16::from_be_bytes([s[i], s[i + 1]])
 }
 
 // The values at a place, as many as there is room for.
@@ -28,10 +24,7 @@ pub fn fill_run(values: &mut [i16], s: &[u8], at: usize)
     requires { at + 2 * length values.old ≤ length s.now }
     ensures { values.new ≡ values_at s.now at (length values.old) }
 {
-    let mut i = 0;
-    while i < values.len() {
-        let x = value_at_run(s, at + 2 * i);
-        values[i] = x;
-        i += 1;
+    for (i, x) in values.iter_mut().enumerate() {
+        *x = value_at_run(s, at + 2 * i);
     }
 }
