@@ -37,13 +37,13 @@ put_as {n} {k} {l} {m} {t} {u} {at} {i} a e h =
     }
 
 -- a part of the buffer, written as a whole
-pub put_part : (l : List ℕ) (at : ℕ) (t : List ℕ) {m : List ℕ} → m ≡ t → at + length t ≤ length l
-    → Put (length t) l at t (put_mid at (at + length t - at) l m) (at + length t)
-put_part l at t {m} e h =
+pub put_part : (l : List ℕ) (at k : ℕ) {t m : List ℕ} → m ≡ t → length t ≡ k → at + k ≤ length l → Put k l at t (put_mid at (at + k - at) l m) (at + k)
+put_part l at k {t} {m} e n h =
     record {
-      is = put_mid-paste at (at + length t - at) l m t (length t) e (omega arith) refl
+      is = put_mid-paste at (at + k - at) l m t k e (omega arith) (sym n)
+          ∙ ap (λ (i : ℕ). take at l ++ take i t ++ drop (at + i) l) (sym n)
           ∙ ap (λ (x : List ℕ). take at l ++ x ++ drop (at + length t) l) (take-length t)
-          ∙ sym (sets-eq t l at h);
-      behind = refl;
+          ∙ sym (sets-eq t l at (omega arith));
+      behind = omega arith;
       most = omega arith;
     }

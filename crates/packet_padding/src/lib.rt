@@ -13,13 +13,9 @@ pub fn put_same_run(out: &mut [u8], at: usize, n: usize, b: u8) -> usize
     requires { at + n ≤ length out.old }
     ensures { Put n out.old at (replicate n b) out.new result }
 {
-    let mut place = at;
-    let mut k = 0;
-    while k < n {
-        place = put_byte_run(out, place, b);
-        k += 1;
-    }
-    place
+    let end = at + n;
+    out[at..end].fill(b);
+    end
 }
 
 // The length bytes of padding of k bytes.
@@ -28,22 +24,17 @@ pub fn put_padding_run(out: &mut [u8], at: usize, k: usize) -> usize
     ensures { Puts out.old at (pad_code k) out.new result }
 {
     if k == 0 {
-        return at;
+        at
+    } else {
+        let place = put_same_run(out, at, (k - 1) / 255, 255);
+        put_byte_run(out, place, ((k - 1) % 255) as u8)
     }
-    let n = k - 1;
-    let turns = n / 255;
-    let last = (n % 255) as u8;
-    let place = put_same_run(out, at, turns, 255);
-    put_byte_run(out, place, last)
 }
 
 // The bytes that the length bytes count.
 pub fn tail_run(k: usize) -> usize
     ensures { result ≡ pad_tail k }
 {
-    if k == 0 {
-        return 0;
-    }
-    let n = k - 1;
+    let n = k.saturating_sub(1);
     n - n / 255
 }

@@ -14,22 +14,16 @@ fn put_frame(out: &mut [u8], at: usize, start: u16, size: u16) -> usize
     requires { (at + 20 ≤ length out.old) × (start ≤ 16384) × (size ≤ 16384) }
     ensures { Put 20 out.old at (frame_line start size) out.new result }
 {
-    let numbers = [start as i16, size as i16];
-    put_line_run(out, at, b"frame", &numbers)
+    put_line_run(out, at, b"frame", &[start as i16, size as i16])
 }
 
 pub fn put_frames_run(out: &mut [u8], at: usize, a: Packet) -> usize
     requires { (at + 240 ≤ length out.old) × Small a }
     ensures { Put 240 out.old at (frame_lines a a.count) out.new result }
 {
-    let count = a.count as usize;
     let mut place = at;
-    let mut k = 0;
-    while k < count {
-        let start = a.start[k];
-        let size = a.size[k];
-        place = put_frame(out, place, start, size);
-        k += 1;
+    for k in 0..a.count as usize {
+        place = put_frame(out, place, a.start[k], a.size[k]);
     }
     place
 }
