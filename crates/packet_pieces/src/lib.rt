@@ -3,9 +3,8 @@
 
 ghost use Rattle.std.specs.Prelude.{◌+◌, ◌≤◌, ◌<◌, ◌≡◌, length};
 ghost use Rattle.lists.specs.AtMost.{AtMost};
-ghost use Rattle.framing.specs.Lengths.{length_code};
-ghost use Rattle.framing.specs.Writing.{bit, count_byte};
-ghost use Rattle.packet_shortest.specs.Inner.{codes_of};
+ghost use Rattle.framing.specs.Lengths.{length_code, length_codes};
+ghost use Rattle.framing.specs.Writing.{count_byte};
 ghost use Rattle.packet_padding.specs.Inner.{Puts};
 ghost use Rattle.packet_pieces.specs.Inner.{front_of, middle_of, whole_of};
 
@@ -21,29 +20,22 @@ fn put_length_run(out: &mut [u8], at: usize, n: usize) -> usize
     ensures { Puts out.old at (length_code n) out.new result }
 {
     if n < 252 {
-        let b = n as u8;
-        return put_byte_run(out, at, b);
+        put_byte_run(out, at, n as u8)
+    } else {
+        let first = 252 + n % 4;
+        let place = put_byte_run(out, at, first as u8);
+        put_byte_run(out, place, ((n - first) / 4) as u8)
     }
-    let first = 252 + n % 4;
-    let second = (n - first) / 4;
-    let a = first as u8;
-    let b = second as u8;
-    let place = put_byte_run(out, at, a);
-    put_byte_run(out, place, b)
 }
 
-// The lengths of the first n frames.
-fn put_lengths_run(out: &mut [u8], at: usize, sizes: &[u16], n: usize) -> usize
-    requires { (n ≤ length sizes.now) × AtMost 1275 sizes.now
-        × (at + length (codes_of sizes.now n) ≤ length out.old) }
-    ensures { Puts out.old at (codes_of sizes.now n) out.new result }
+// Lengths, one behind the other.
+fn put_lengths_run(out: &mut [u8], at: usize, sizes: &[u16]) -> usize
+    requires { AtMost 1275 sizes.now × (at + length (length_codes sizes.now) ≤ length out.old) }
+    ensures { Puts out.old at (length_codes sizes.now) out.new result }
 {
     let mut place = at;
-    let mut k = 0;
-    while k < n {
-        let size = sizes[k] as usize;
-        place = put_length_run(out, place, size);
-        k += 1;
+    for size in sizes {
+        place = put_length_run(out, place, usize::from(*size));
     }
     place
 }
@@ -57,9 +49,10 @@ fn put_front_run(out: &mut [u8], toc: u8, three: bool, b: u8, k: usize) -> usize
     let place = put_byte_run(out, 0, toc);
     if three {
         let next = put_byte_run(out, place, b);
-        return put_padding_run(out, next, k);
+        put_padding_run(out, next, k)
+    } else {
+        place
     }
-    place
 }
 
 fn put_middle_run(out: &mut [u8], at: usize, varied: bool, sizes: &[u16]) -> usize
@@ -68,28 +61,17 @@ fn put_middle_run(out: &mut [u8], at: usize, varied: bool, sizes: &[u16]) -> usi
     ensures { Puts out.old at (middle_of varied sizes.now) out.new result }
 {
     if varied {
-        let n = sizes.len() - 1;
-        return put_lengths_run(out, at, sizes, n);
+        put_lengths_run(out, at, &sizes[..sizes.len() - 1])
+    } else {
+        at
     }
-    at
-}
-
-fn flag(t: bool) -> usize
-    ensures { (result ≡ bit t) × (result ≤ 1) }
-{
-    if t {
-        return 1;
-    }
-    0
 }
 
 fn count_byte(n: usize, varied: bool, k: usize) -> usize
     requires { n ≤ 12 }
     ensures { (result ≡ count_byte n varied k) × (result < 256) }
 {
-    let padded = flag(0 < k);
-    let lengths = flag(varied);
-    n + 64 * padded + 128 * lengths
+    n + 64 * usize::from(0 < k) + 128 * usize::from(varied)
 }
 
 // The first byte, in arrangement 3 the count byte and the padding's length bytes, the written lengths, the frames, and
