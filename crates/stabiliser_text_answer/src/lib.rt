@@ -16,9 +16,9 @@ pub fn put_answer_run(out: &mut [u8], a: Moves, vector: &[i16]) -> usize
     ensures { Put 256 out.old 0 (answer_text (record { vector = vector.entry.now; answer = a })) out.new result }
 {
     if a.refusal == 0 {
-        let moves = [a.moves as i16];
-        let place = put_line_run(out, 0, b"rounds", &moves);
-        return put_counted_run(out, place, b"vector", vector);
+        let place = put_line_run(out, 0, b"rounds", &[a.moves as i16]);
+        put_counted_run(out, place, b"vector", vector)
+    } else {
+        put_refused_run(out, 0, a.refusal)
     }
-    put_refused_run(out, 0, a.refusal)
 }
