@@ -1,1 +1,1 @@
-pub mod Widened
+pub mod EightBits

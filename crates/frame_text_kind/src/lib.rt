@@ -6,7 +6,6 @@ ghost use Rattle.std.specs.Prelude.{◌+◌, ◌≤◌, length};
 ghost use Rattle.numerals.specs.Inner.{Put};
 ghost use Rattle.frame_text.specs.FrameText.{kind_text};
 
-use frame_text::wide;
 use listing::put_line_run;
 use silk::Indices;
 
@@ -15,8 +14,11 @@ pub fn put_kind_run(out: &mut [u8], at: usize, x: Indices, khz: u32, subframes: 
     requires { (at + 39 ≤ length out.old) × (khz ≤ 16) × (subframes ≤ 4) }
     ensures { Put 39 out.old at (kind_text khz subframes x) out.new result }
 {
-    let frame = [khz as i16, subframes as i16];
-    let kind = [wide(x.signal), wide(x.offset)];
-    let place = put_line_run(out, at, b"frame", &frame);
-    put_line_run(out, place, b"type", &kind)
+    let place = put_line_run(out, at, b"frame", &[khz as i16, subframes as i16]);
+    put_line_run(
+        out,
+        place,
+        b"type",
+        &[i16::from(x.signal), i16::from(x.offset)],
+    )
 }

@@ -15,10 +15,9 @@ fn put_block(out: &mut [u8], at: usize, xs: &[i16]) -> usize
     requires { (at + 112 ≤ length out.old) × (length xs.now ≡ 16) }
     ensures { Put 112 out.old at (numbers xs.now) out.new result }
 {
-    let first = xs[0];
-    let place = put_number_run(out, at, first);
+    let place = put_number_run(out, at, xs[0]);
     let place = put_numbers_run(out, place, &xs[1..]);
-    put_byte_run(out, place, 10)
+    put_byte_run(out, place, b'\n')
 }
 
 fn put_blocks(out: &mut [u8], at: usize, blocks: usize, pulses: &[i16]) -> usize
@@ -26,12 +25,8 @@ fn put_blocks(out: &mut [u8], at: usize, blocks: usize, pulses: &[i16]) -> usize
     ensures { Put (112 * blocks) out.old at (block_lines blocks pulses.now) out.new result }
 {
     let mut place = at;
-    let mut i = 0;
-    while i < blocks {
-        let start = 16 * i;
-        let end = start + 16;
-        place = put_block(out, place, &pulses[start..end]);
-        i += 1;
+    for i in 0..blocks {
+        place = put_block(out, place, &pulses[16 * i..16 * i + 16]);
     }
     place
 }
@@ -40,8 +35,7 @@ pub fn put_pulses_run(out: &mut [u8], at: usize, blocks: usize, pulses: &[i16]) 
     requires { (at + 112 * blocks + 18 ≤ length out.old) × (blocks ≤ 20) × (16 * blocks ≤ length pulses.now) }
     ensures { Put (112 * blocks + 18) out.old at (pulses_text blocks pulses.now) out.new result }
 {
-    let count = [blocks as i16];
-    let place = put_line_run(out, at, b"pulses", &count);
+    let place = put_line_run(out, at, b"pulses", &[blocks as i16]);
     let place = put_blocks(out, place, blocks, pulses);
     put_word_run(out, place, b"end\n")
 }
