@@ -16,18 +16,10 @@ fn put_stabilised(out: &mut [u8], vector: &mut [i16], gaps: &mut [i16], input: &
     ensures { Put 256 out.old 0
         (sections_text input.now (length vector.old) (length gaps.old)) out.new result }
 {
-    let behind = 2 + 2 * vector.len();
     fill_run(vector, input, 1);
-    fill_run(gaps, input, behind);
+    fill_run(gaps, input, 2 + 2 * vector.len());
     let a = nlsf_stabilize::silk_NLSF_stabilize(vector, gaps);
     stabiliser_text_answer::put_answer_run(out, a, vector)
-}
-
-// As many as a count of one byte can say.
-fn values() -> [i16; 255]
-    ensures { 255 ≡ length result }
-{
-    [0; 255]
 }
 
 // The text of any input; 256 bytes have room for each.
@@ -38,9 +30,11 @@ pub fn stabiliser_text(input: &[u8], out: &mut [u8; 256]) -> usize
     let second = 1 + 2 * n;
     let m = byte_at(input, second);
     if input.len() == second + 1 + 2 * m {
-        let mut vector = values();
-        let mut gaps = values();
-        return put_stabilised(out, &mut vector[..n], &mut gaps[..m], input);
+        // as many as a count of one byte can say
+        let mut vector = [0; 255];
+        let mut gaps = [0; 255];
+        put_stabilised(out, &mut vector[..n], &mut gaps[..m], input)
+    } else {
+        put_refused_run(out, 0, 9)
     }
-    put_refused_run(out, 0, 9)
 }
