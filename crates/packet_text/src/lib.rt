@@ -5,7 +5,8 @@ ghost use Rattle.std.specs.Prelude.{◌≡◌};
 ghost use Rattle.listing.specs.Printed.{printed};
 ghost use Rattle.packet_text.specs.PacketText.{packet_text};
 
-use packet_text_accepted::{put_accepted_run, put_one_run};
+use listing::put_refused_run;
+use packet_text_accepted::put_accepted_run;
 
 // The text of any input; 512 bytes have room for each.
 pub fn packet_text(input: &[u8], out: &mut [u8; 512]) -> usize
@@ -14,7 +15,8 @@ pub fn packet_text(input: &[u8], out: &mut [u8; 512]) -> usize
 {
     let a = packet_read::packet_read(input);
     if a.refusal == 0 {
-        return put_accepted_run(out, a);
+        put_accepted_run(out, a)
+    } else {
+        put_refused_run(out, 0, a.refusal)
     }
-    put_one_run(out, 0, b"refused", a.refusal)
 }

@@ -1,7 +1,5 @@
 -- One number more. Assumes nothing.
-use Rattle.std.proofs.Common.{◌≡◌, ◌++◌, ◌∷◌, ◌<◌, [], List, ℤ, pos, sym, ap₂, ◌∙◌, add-one, arith, rules, get_or, length}
-use mir.Syntax.{w8}
-use mir.Val.{SFits}
+use Rattle.std.proofs.Common.{◌≡◌, ◌++◌, ◌∷◌, ◌<◌, [], List, ℤ, pos, sym, ap₂, ◌∙◌, add-one, arith, rules, length}
 use lib.ListN.{length-set}
 use lib.Seq.{take_all, take-suc, take-suc-set}
 use Rattle.frame_text.proofs.EightBits.{widened}
@@ -11,14 +9,15 @@ pub loop-i-preserved : goal.loop-i-preserved
 loop-i-preserved g c =
     let i = c.loop-i.i in
     let xs = c.args.xs in
+    let before = c.loop-i.invariant in
     let l : length xs ≡ g.row.N = search rules in
     let inside : i < length xs = omega arith in
-    let f : SFits w8 (get_or xs i (pos 0)) = search rules in
-    let x = widened c.from.type_inv c.from.ensures f in
-    let before = c.loop-i.invariant in (
+    let room : i < length c.loop-i.wide = omega (arith, before.0) in
+    let x = widened c.from.type_inv c.from.ensures (search rules) in
+    (
       length-set c.loop-i.wide i _ ∙ before.0,
       rw add-one
-          (take-suc-set c.loop-i.wide i _ (omega (arith, before.0))
+          (take-suc-set c.loop-i.wide i _ room
           ∙ ap₂ (λ (a : List ℤ) (y : ℤ). a ++ (y ∷ [])) before.1 x
           ∙ sym (take-suc xs i (pos 0) inside)),
     )
