@@ -1,11 +1,11 @@
 // What the frame lister prints for an input, put into a lent buffer.
 #![tactic(auto)]
 
-ghost use Rattle.std.specs.Prelude.{◌+◌, ◌*◌, ◌≤◌, ◌≡◌, pos, nat_abs, length, replicate};
+ghost use Rattle.std.specs.Prelude.{◌+◌, ◌*◌, ◌≤◌, ◌≡◌, length};
 ghost use Rattle.numerals.specs.Inner.{Put};
 ghost use Rattle.listing.specs.Printed.{printed};
 ghost use Rattle.sections.specs.Values.{byte_at};
-ghost use Rattle.silk.specs.Inner.Indices.{Rate, Subframes, Upto};
+ghost use Rattle.silk.specs.Inner.Indices.{Rate, Subframes};
 ghost use Rattle.silk.specs.FrameCalls.{blocks_of};
 ghost use Rattle.lister_text.specs.ListerText.{excitation_text, accepted_text, frame_text, lister_text, blank as blankOf};
 
@@ -38,12 +38,6 @@ fn blank() -> Indices
     }
 }
 
-fn zeros() -> [i16; 320]
-    ensures { result ≡ replicate 320 (pos 0) }
-{
-    [0; 320]
-}
-
 // The pulses behind the side indices.
 fn put_pulses(
     out: &mut [u8],
@@ -67,21 +61,18 @@ fn put_pulses(
 fn put_frame(out: &mut [u8], packet: &[u8], a: IndicesRead, khz: u32, subframes: u32) -> usize
     requires in_bounds { 2564 ≤ length out.old }
     requires rate { Rate khz × Subframes subframes }
-    requires prevtype_value { (a.prevtype ≡ nat_abs a.indices.signal) × Upto 1 a.indices.offset }
     ensures { Put 2564 out.old 0 (accepted_text packet.now khz subframes a) out.new result }
 {
     let x = a.indices;
-    let signal = a.prevtype;
-    let place = put_indices_run(out, 0, x, signal, khz, subframes);
-    let offset = x.offset as u32;
-    let n = 16 * blocks_of_run(khz, subframes);
-    let mut pulses = zeros();
+    let place = put_indices_run(out, 0, x, khz, subframes);
     let numbers = CallNumbers {
         khz,
         subframes,
-        signal,
-        offset,
+        signal: u32::from(x.signal.unsigned_abs()),
+        offset: u32::from(x.offset.unsigned_abs()),
     };
+    let n = 16 * blocks_of_run(khz, subframes);
+    let mut pulses = [0; 320];
     put_pulses(out, place, packet, a.state, &mut pulses[..n], numbers)
 }
 
@@ -93,9 +84,10 @@ fn put_read(out: &mut [u8], packet: &[u8], s: Setting) -> usize
     let d = entdec::ec_dec_init(packet).state;
     let a = decode_indices::silk_decode_indices(packet, d, blank(), s);
     if a.refusal == 0 {
-        return put_frame(out, packet, a, s.khz, s.subframes);
+        put_frame(out, packet, a, s.khz, s.subframes)
+    } else {
+        put_refused_run(out, 0, a.refusal)
     }
-    put_refused_run(out, 0, a.refusal)
 }
 
 // ---- the input
@@ -111,21 +103,16 @@ pub fn lister_text(input: &[u8], out: &mut [u8; 4096]) -> usize
     ensures { record { buffer = out.new; count = result } ≡ printed (lister_text input.now) out.old }
 {
     if whole(input) {
-        let khz = number_at(input, 1);
-        let subframes = number_at(input, 2);
-        let active = number_at(input, 3);
-        let mode = number_at(input, 4);
-        let prevtype = number_at(input, 5);
-        let prevlag = value_at_run(input, 6);
         let setting = Setting {
-            khz,
-            subframes,
-            active,
-            mode,
-            prevtype,
-            prevlag,
+            khz: number_at(input, 1),
+            subframes: number_at(input, 2),
+            active: number_at(input, 3),
+            mode: number_at(input, 4),
+            prevtype: number_at(input, 5),
+            prevlag: value_at_run(input, 6),
         };
-        return put_read(out, &input[10..], setting);
+        put_read(out, &input[10..], setting)
+    } else {
+        put_cut_run(out)
     }
-    put_cut_run(out)
 }
