@@ -1,4 +1,5 @@
 // Numbers as decimal text, put into a lent buffer at a place. Each function answers the place behind what it put.
+// No struct of buffer and place: each contract would have to say as well that the struct lends the same buffer on.
 #![tactic(auto)]
 
 ghost use Rattle.std.specs.Prelude.{◌+◌, ◌≤◌, ◌<◌, [], ◌∷◌, length};
@@ -13,7 +14,7 @@ pub fn put_byte_run(out: &mut [u8], at: usize, byte: u8) -> usize
     at + 1
 }
 
-// The digits of n / 10, then the last digit.
+// The digits of n / 10, then the last digit: the text's own definition, where a loop would put the last digit first.
 fn put_natural(out: &mut [u8], at: usize, n: u16) -> usize
     requires { at + length (natural n) ≤ length out.old }
     ensures { Put (length (natural n)) out.old at (natural n) out.new result }
