@@ -8,5 +8,5 @@ ghost use Rattle.bitlen.specs.Length.{bit_length};
 pub fn ec_ilog(x: u32) -> u32
     ensures { result ≡ bit_length x }
 {
-    32 - u32::leading_zeros(x)
+    32 - x.leading_zeros()
 }

@@ -63,17 +63,19 @@ const SHARES: [u16; 48] = [
     1024 / 47,
 ];
 
+#[tactic(auto, unfolding(crate::specs::Inner::share_row))]
 pub fn shares() -> [u16; 48]
     ensures { result ≡ share_row }
 {
     SHARES
 }
 
+#[tactic(auto, using(crate::proofs::RowLaws::shares_long, crate::proofs::RowLaws::share_in))]
 fn share(shares: &[u16], a: u32, x: u32) -> u32
     requires { (shares.now ≡ share_row) × ((a ≤ x) × (x - a < 48)) }
     ensures { result ≡ 1024 / (x - a) }
 {
-    shares[(x - a) as usize] as u32
+    u32::from(shares[(x - a) as usize])
 }
 
 // ---- roots
@@ -95,6 +97,7 @@ const ROOTS: [u16; 13] = [
     46214 >> 2,
 ];
 
+#[tactic(auto, unfolding(crate::specs::Inner::root_row))]
 pub fn roots() -> [u16; 13]
     ensures { result ≡ root_row }
 {
@@ -108,7 +111,7 @@ fn root(roots: &[u16], s: u32) -> u16
 {
     let i = ec_ilog(s);
     let f = ((s << 8) >> i) % 128;
-    let y = roots[i as usize] as u32;
+    let y = u32::from(roots[i as usize]);
     (y + ((213 * f * y) >> 16)) as u16
 }
 
@@ -119,7 +122,7 @@ fn value_before(values: &[u8], i: usize) -> u32
     requires { i < length values.now }
     ensures { result ≡ get_or (edges values.now) i 0 }
 {
-    if i > 0 { values[i - 1] as u32 } else { 0 }
+    if i > 0 { u32::from(values[i - 1]) } else { 0 }
 }
 
 // The share behind the last value: 256 stands there.
@@ -127,7 +130,7 @@ pub fn last_share_run(shares: &[u16], values: &[u8]) -> u32
     requires { (shares.now ≡ share_row) × ((1 ≤ length values.now) × (rises values.now ≡ true)) }
     ensures { result ≡ share_at values.now (length values.now) }
 {
-    share(shares, values[values.len() - 1] as u32, 256)
+    share(shares, u32::from(values[values.len() - 1]), 256)
 }
 
 // A weight, and the share before its value.
@@ -143,7 +146,7 @@ pub fn weigh_run(shares: &[u16], roots: &[u16], values: &[u8], i: usize, behind:
     ensures weight_value { result.weight ≡ get_or (weights_of values.now) i 0 }
     ensures share_value { result.share ≡ share_at values.now i }
 {
-    let q = share(shares, value_before(values, i), values[i] as u32);
+    let q = share(shares, value_before(values, i), u32::from(values[i]));
     Weighed {
         weight: root(roots, q + behind),
         share: q,
@@ -158,12 +161,9 @@ pub fn weights_run(weights: &mut [u16], values: &[u8])
     let shares = shares();
     let roots = roots();
     let mut q = last_share_run(&shares, values);
-    let mut k: usize = values.len();
-    while k > 0 {
-        let i = k - 1;
+    for i in (0..values.len()).rev() {
         let w = weigh_run(&shares, &roots, values, i, q);
         weights[i] = w.weight;
         q = w.share;
-        k = i;
     }
 }

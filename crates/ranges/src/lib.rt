@@ -10,12 +10,8 @@ pub fn all_in_range(xs: &[i8], least: i8, most: i8) -> bool
     ensures { result ≡ every (in_range least most) xs.now }
 {
     let mut ok = true;
-    let mut k: usize = xs.len();
-    while k > 0 {
-        let j = k - 1;
-        let x = xs[j];
-        ok = ((least <= x) & (x <= most)) & ok;
-        k = j;
+    for x in xs {
+        ok = ok & ((least <= *x) & (*x <= most));
     }
     ok
 }
