@@ -15,8 +15,7 @@ fn first_smallest(w: &[i32]) -> usize
     let mut x = w[1];
     let mut least = x - w[0];
     let mut place: usize = 0;
-    let mut i: usize = 1;
-    while i + 1 < w.len() {
+    for i in 1..w.len() - 1 {
         let y = w[i + 1];
         let d = y - x;
         if d < least {
@@ -24,7 +23,6 @@ fn first_smallest(w: &[i32]) -> usize
             place = i;
         }
         x = y;
-        i += 1;
     }
     place
 }
@@ -37,9 +35,10 @@ pub fn place_run(w: &[i32; 18], n: usize) -> usize
 {
     let all = &w[..];
     if n <= 10 {
-        return first_smallest(&all[0..12]);
+        first_smallest(&all[..12])
+    } else {
+        first_smallest(all)
     }
-    first_smallest(&all[0..18])
 }
 
 // Whether none of the first n + 1 steps is below 0.
@@ -48,14 +47,12 @@ pub fn rises_run(w: &[i32; 18], n: usize) -> bool
     ensures { (result ≡ true → UpTo (suc n) w.now) × (result ≡ false → Falls (suc n) w.now) }
 {
     let mut x = w[0];
-    let mut i: usize = 1;
-    while i <= n + 1 {
+    for i in 1..n + 2 {
         let y = w[i];
         if y < x {
             return false;
         }
         x = y;
-        i += 1;
     }
     true
 }

@@ -16,11 +16,9 @@ pub fn slacks_run(w: &mut [i32; 18], s: &mut [i32; 18], v: &[i16], g: &[i16])
 {
     w[0] = 0;
     let mut sum: i32 = 0;
-    let mut i: usize = 0;
-    while i < v.len() {
-        sum = sum + (g[i] as i32);
+    for i in 0..v.len() {
+        sum += i32::from(g[i]);
         s[i + 1] = sum;
-        w[i + 1] = (v[i] as i32) - sum;
-        i += 1;
+        w[i + 1] = i32::from(v[i]) - sum;
     }
 }

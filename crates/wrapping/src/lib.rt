@@ -23,5 +23,5 @@ pub fn fold16_run(s: i32) -> i16
 pub fn add16(a: i16, b: i16) -> i16
     ensures { result ≡ wrap16 (a +ℤ b) }
 {
-    fold16_run((a as i32) + (b as i32))
+    a.wrapping_add(b)
 }
