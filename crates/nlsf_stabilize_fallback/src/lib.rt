@@ -18,11 +18,7 @@ fn lower_one(x: i16, next: i32, gap: i16) -> i16
     requires { (up next ≤ 32768) × ((down next ≤ 32768) × (down (next -ℤ gap) ≤ 32768)) }
     ensures { result ≡ min_z x (next -ℤ gap) }
 {
-    let y = next - (gap as i32);
-    if (x as i32) <= y {
-        return x;
-    }
-    y as i16
+    i32::from(x).min(next - i32::from(gap)) as i16
 }
 
 // Downward: the last at most 32,768 less the last gap, each other at most the one behind it less the gap between them.
@@ -30,14 +26,11 @@ fn go_down(v: &mut [i16], g: &[i16])
     requires { (length g.now ≡ suc (length v.old)) × Within 0 32767 (lowered (drop 1 g.now) v.old) }
     ensures { v.new ≡ lowered (drop 1 g.now) v.old }
 {
-    let mut k: usize = v.len();
     let mut next: i32 = 32768;
-    while k > 0 {
-        let j = k - 1;
-        let x = lower_one(v[j], next, g[k]);
+    for j in (0..v.len()).rev() {
+        let x = lower_one(v[j], next, g[j + 1]);
         v[j] = x;
-        next = x as i32;
-        k = j;
+        next = i32::from(x);
     }
 }
 
@@ -46,14 +39,7 @@ fn raise_one(x: i16, prev: i16, gap: i16) -> i16
     requires { down gap ≡ 0 }
     ensures { result ≡ max_z x (sat16 (prev +ℤ gap)) }
 {
-    let y = (prev as i32) + (gap as i32);
-    if y > 32767 {
-        return 32767;
-    }
-    if (x as i32) <= y {
-        return y as i16;
-    }
-    x
+    x.max(prev.saturating_add(gap))
 }
 
 // Upward: the first at least the first gap, each other at least the one before it plus the gap between them.
@@ -62,12 +48,10 @@ fn go_up(v: &mut [i16], g: &[i16])
     ensures { v.new ≡ raised g.now v.old }
 {
     let mut prev: i16 = 0;
-    let mut i: usize = 0;
-    while i < v.len() {
+    for i in 0..v.len() {
         let x = raise_one(v[i], prev, g[i]);
         v[i] = x;
         prev = x;
-        i += 1;
     }
 }
 
