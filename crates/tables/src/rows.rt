@@ -1,6 +1,6 @@
 // The inverse rows: one sheet, each row behind the one before it (docs/TABLES.md), and the three parts of it that calls
 // lend. A part is copied out of the sheet, of which the compiler keeps that part alone.
-ghost use Rattle.std.specs.Prelude.{◌≡◌, length};
+ghost use Rattle.std.specs.Prelude.{◌≡◌};
 ghost use mathlib.Core.List.{flatten};
 ghost use Rattle.sheet.specs.Sheet.{sheet};
 ghost use Rattle.sheet.specs.Rows.{header_rows, index_rows, pulse_rows};
@@ -75,21 +75,11 @@ const SHEET: [u8; 1475] = [
     0, 118, 0, 248, 0, 53, 0, 69, 0, 80, 0, 88, 0, 95, 0, 102, 0,
 ];
 
+#[tactic(auto, unfolding(sheet::specs::Sheet::sheet))]
 fn all_rows() -> [u8; 1475]
     ensures { result ≡ sheet }
 {
     SHEET
-}
-
-fn copy(from: &[u8], to: &mut [u8])
-    requires { length from.now ≡ length to.old }
-    ensures { to.new ≡ from.now }
-{
-    let mut k: usize = 0;
-    while k < to.len() {
-        to[k] = from[k];
-        k += 1;
-    }
 }
 
 // The rows of an Opus frame's header.
@@ -98,7 +88,7 @@ pub fn header_rows() -> [u8; 10]
 {
     let all = all_rows();
     let mut rows: [u8; 10] = [0; 10];
-    copy(&all[0..INDEX_ROWS], &mut rows);
+    rows.copy_from_slice(&all[..INDEX_ROWS]);
     rows
 }
 
@@ -108,7 +98,7 @@ pub fn index_rows() -> [u8; 556]
 {
     let all = all_rows();
     let mut rows: [u8; 556] = [0; 556];
-    copy(&all[INDEX_ROWS..PULSE_ROWS], &mut rows);
+    rows.copy_from_slice(&all[INDEX_ROWS..PULSE_ROWS]);
     rows
 }
 
@@ -118,6 +108,6 @@ pub fn pulse_rows() -> [u8; 909]
 {
     let all = all_rows();
     let mut rows: [u8; 909] = [0; 909];
-    copy(&all[PULSE_ROWS..SHEET_END], &mut rows);
+    rows.copy_from_slice(&all[PULSE_ROWS..SHEET_END]);
     rows
 }

@@ -1,14 +1,14 @@
--- `narrow_vector_run` meets its contract: each arm's row is the book's, by computation. Assumes nothing.
+-- `vector_run` meets its contract: each arm's row is the book's, by computation. Assumes nothing.
 use mathlib.Core.Path.{refl}
-use Rattle.sheet.specs.Books.{narrow_book}
+use Rattle.sheet.specs.Books.{wide_book}
 use Rattle.tables.proofs.Arms.{arm, last}
-use Rattle.tables.proofs.books.narrow_vector_run.Statement.{statement}
-use Rattle.tables.proofs.books.narrow_vector_run.Tie as tie
+use Rattle.tables.proofs.books.WideBook1683217.vector_run.Statement.{statement}
+use Rattle.tables.proofs.books.WideBook1683217.vector_run.Tie as tie
 
-pub narrow_vector_run_spec : {M : Type 1} → statement M
-unfolding narrow_book
-narrow_vector_run_spec =
-    let t = narrow_book.vectors in
+pub vector_run_spec : {M : Type 1} → statement M
+unfolding wide_book
+vector_run_spec =
+    let t = wide_book.vectors in
     tie.close (tie.spec
     (λ c. search (arm t)) (λ c. search (arm t)) (λ c. search (arm t)) (λ c. search (arm t)) (λ c. search (arm t))
     (λ c. search (arm t)) (λ c. search (arm t)) (λ c. search (arm t)) (λ c. search (arm t)) (λ c. search (arm t))
