@@ -5,15 +5,16 @@
 ghost use Rattle.std.specs.Prelude.{◌≡◌, pos, negsuc};
 ghost use Rattle.lists.specs.Every.{every};
 ghost use Rattle.ranges.specs.InRange.{in_range};
+ghost use Rattle.refusals.specs.Numbers.{refusal_of};
 ghost use Rattle.spectrum.specs.Calls.{book_of, place_indices, numbers_ok, decode_refusal, decoded, decode_call};
 
-use narrow::narrow_run;
+use book::spectrum_run;
 use ranges::all_in_range;
+use refusals::Refusal;
 use spectrum::{Moves, Spectrum};
-use wide::wide_run;
+use tables::books::{Narrow, Wide};
 
-mod narrow; // narrow.rt: the book of 8 and 12 kHz
-mod wide; // wide.rt: the book of 16 kHz
+mod book; // book.rt: either book
 
 // ---- refusals
 
@@ -28,9 +29,10 @@ fn places_ok(index: [i8; 17], khz: u32) -> bool
     ensures { result ≡ every (in_range (negsuc 9) (pos 10)) (place_indices (book_of khz).order index) }
 {
     if khz == 16 {
-        return all_in_range(&index[1..17], -10, 10);
+        all_in_range(&index[1..17], -10, 10)
+    } else {
+        all_in_range(&index[1..11], -10, 10)
     }
-    all_in_range(&index[1..11], -10, 10)
 }
 
 fn numbers_ok(index: [i8; 17], khz: u32) -> bool
@@ -42,15 +44,17 @@ fn numbers_ok(index: [i8; 17], khz: u32) -> bool
     rate & (((0 <= first) & (first <= 31)) & small)
 }
 
-// Refusals 4 and 6, or 0.
-fn refusal(vector: &[i16], index: [i8; 17], khz: u32) -> u32
-    ensures { result ≡ decode_refusal vector.now index khz }
+// The indices' numbers before the vector's length.
+fn checked(vector: &[i16], index: [i8; 17], khz: u32) -> Result<(), Refusal>
+    ensures { refusal_of result ≡ decode_refusal vector.now index khz }
 {
-    if numbers_ok(index, khz) {
-        if vector.len() == order_of(khz) { 0 } else { 6 }
-    } else {
-        4
+    if !numbers_ok(index, khz) {
+        return Err(Refusal::Number);
     }
+    if vector.len() != order_of(khz) {
+        return Err(Refusal::Length);
+    }
+    Ok(())
 }
 
 // ---- the call
@@ -62,9 +66,10 @@ fn decode(vector: &mut [i16], index: [i8; 17], khz: u32) -> u32
 {
     let v = index[0] as usize;
     if khz == 16 {
-        return wide_run(vector, v, &index[1..17]);
+        spectrum_run::<16, 8, 32, 17, Wide>(vector, v, &index[1..17])
+    } else {
+        spectrum_run::<10, 5, 20, 11, Narrow>(vector, v, &index[1..11])
     }
-    narrow_run(vector, v, &index[1..11])
 }
 
 // Decoded and stabilised, with the number of moves; a refusal leaves the vector as it is.
@@ -72,17 +77,14 @@ pub fn silk_NLSF_decode(vector: &mut [i16], indices: Spectrum, khz: u32) -> Move
     ensures { record { vector = vector.exit.now; answer = result } ≡ decode_call vector.entry.now indices khz }
 {
     let index = indices.index;
-    let n = refusal(vector, index, khz);
-    if n == 0 {
-        let m = decode(vector, index, khz);
-        Moves {
+    match checked(vector, index, khz) {
+        Ok(()) => Moves {
             refusal: 0,
-            moves: m,
-        }
-    } else {
-        Moves {
-            refusal: n,
+            moves: decode(vector, index, khz),
+        },
+        Err(refusal) => Moves {
+            refusal: u32::from(refusal),
             moves: 0,
-        }
+        },
     }
 }

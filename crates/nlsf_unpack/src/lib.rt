@@ -5,7 +5,7 @@
 ghost use Rattle.std.specs.Prelude.{◌≡◌, ℕ, ◌/◌, ◌<◌, length};
 ghost use Rattle.silk.specs.IndexSyntax.{book_of, selectors_of, residual_pick};
 
-use tables::books::{narrow_selectors_run, wide_selectors_run};
+use tables::books::{Book, Narrow, Wide};
 
 // The selectors of vector v, in a row as long for either book: one call then reads or writes the residuals of both,
 // and so is inlined. Those of the narrow book end after 5 bytes, which serve its 10 places.
@@ -14,9 +14,9 @@ pub fn selectors_run(khz: u32, v: u32) -> [u8; 8]
     ensures { (i : ℕ) → i < (book_of khz).order → residual_pick result i ≡ residual_pick (selectors_of khz v) i }
 {
     if khz == 16 {
-        return wide_selectors_run(v as usize);
+        return Wide::selectors_run(v as usize);
     }
-    let t = narrow_selectors_run(v as usize);
+    let t = Narrow::selectors_run(v as usize);
     [t[0], t[1], t[2], t[3], t[4], 0, 0, 0]
 }
 

@@ -6,10 +6,7 @@ ghost use Rattle.table_entries.specs.Entries.{no_entry, book_tables};
 ghost use Rattle.table_entries.specs.Inner.{book_by};
 
 use crate::entry::{NO_ENTRY, byte, gap, word};
-use tables::books::{
-    narrow_gaps, narrow_predictors, narrow_selectors_run, narrow_vector_run, narrow_weights_run,
-    wide_gaps, wide_predictors, wide_selectors_run, wide_vector_run, wide_weights_run,
-};
+use tables::books::{Book, Narrow, Wide, book_weights_run};
 
 fn vectors_entry(wide: bool, place: usize) -> u32
     ensures { result ≡ get_or (flatten (book_by wide).vectors) place no_entry }
@@ -18,14 +15,14 @@ fn vectors_entry(wide: bool, place: usize) -> u32
         if place >= 512 {
             return NO_ENTRY;
         }
-        let t = wide_vector_run(place / 16);
+        let t = Wide::vector_run(place / 16);
         return byte(t[place % 16]);
     }
     if place >= 320 {
         return NO_ENTRY;
     }
-    let t = narrow_vector_run(place / 10);
-    byte(t[place % 10])
+    let u = Narrow::vector_run(place / 10);
+    byte(u[place % 10])
 }
 
 fn weights_entry(wide: bool, place: usize) -> u32
@@ -35,14 +32,14 @@ fn weights_entry(wide: bool, place: usize) -> u32
         if place >= 512 {
             return NO_ENTRY;
         }
-        let t = wide_weights_run(place / 16);
+        let t = book_weights_run::<16, 8, 32, 17, Wide>(place / 16);
         return word(t[place % 16]);
     }
     if place >= 320 {
         return NO_ENTRY;
     }
-    let t = narrow_weights_run(place / 10);
-    word(t[place % 10])
+    let u = book_weights_run::<10, 5, 20, 11, Narrow>(place / 10);
+    word(u[place % 10])
 }
 
 fn selectors_entry(wide: bool, place: usize) -> u32
@@ -52,14 +49,14 @@ fn selectors_entry(wide: bool, place: usize) -> u32
         if place >= 256 {
             return NO_ENTRY;
         }
-        let t = wide_selectors_run(place / 8);
+        let t = Wide::selectors_run(place / 8);
         return byte(t[place % 8]);
     }
     if place >= 160 {
         return NO_ENTRY;
     }
-    let t = narrow_selectors_run(place / 5);
-    byte(t[place % 5])
+    let u = Narrow::selectors_run(place / 5);
+    byte(u[place % 5])
 }
 
 // The 0 for the last place is no entry.
@@ -70,14 +67,14 @@ fn predictors_entry(wide: bool, place: usize) -> u32
         if place >= 30 {
             return NO_ENTRY;
         }
-        let t = wide_predictors();
+        let t = Wide::predictors();
         return byte(t[2 * (place % 15) + place / 15]);
     }
     if place >= 18 {
         return NO_ENTRY;
     }
-    let t = narrow_predictors();
-    byte(t[2 * (place % 9) + place / 9])
+    let u = Narrow::predictors();
+    byte(u[2 * (place % 9) + place / 9])
 }
 
 fn gaps_entry(wide: bool, place: usize) -> u32
@@ -87,14 +84,14 @@ fn gaps_entry(wide: bool, place: usize) -> u32
         if place >= 17 {
             return NO_ENTRY;
         }
-        let t = wide_gaps();
+        let t = Wide::gaps();
         return gap(t[place]);
     }
     if place >= 11 {
         return NO_ENTRY;
     }
-    let t = narrow_gaps();
-    gap(t[place])
+    let u = Narrow::gaps();
+    gap(u[place])
 }
 
 // Table 0 to 4 of a book.

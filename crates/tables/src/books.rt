@@ -41,7 +41,7 @@ pub trait Book<const N: usize, const H: usize, const P: usize, const G: usize> {
     fn gaps() -> [i16; G]
         ensures { result ≡ map pos lists.gaps };
 
-    ghost laws: { BookLaws N STEP GAP_SUM lists };
+    ghost laws: { BookLaws N H P G STEP GAP_SUM lists };
 }
 
 // The weights of vector v.

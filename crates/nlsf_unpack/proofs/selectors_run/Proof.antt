@@ -24,12 +24,12 @@ first_five l m (suc (suc (suc (suc zero)))) h = refl
 first_five l m (suc (suc (suc (suc (suc j))))) h = absurd (omega arith)
 
 returns : tie.Need-returns-then-khz-eq16
-returns c = rw (eq-eqb _ _ c.if-khz-eq16.true, c.wide_selectors_run.ensures) (λ i l. refl)
+returns c = rw (eq-eqb _ _ c.if-khz-eq16.true, c.selectors_run.ensures) (λ i l. refl)
 
 returns_2 : tie.Need-returns
 returns_2 c =
     let l = get_or narrow_book.selectors c.args.v [] in
-    rw (ne_eqb _ _ c.if-khz-eq16.false, c.narrow_selectors_run-t.ensures)
+    rw (ne_eqb _ _ c.if-khz-eq16.false, c.selectors_run-t.ensures)
     (λ i h. ap (λ (b : ℕ). b / cond (eqb (i % 2) 0) 2 32 % 8) (first_five l (0 ∷ 0 ∷ 0 ∷ []) (i / 2) (omega (arith, narrow_shaped.order))))
 
 pub selectors_run_spec : {M : Type 1} → statement M

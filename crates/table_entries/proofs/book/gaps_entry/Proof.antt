@@ -17,7 +17,7 @@ returns_2 : tie.Need-returns-then-wide
 returns_2 c =
     let b = c.before.before.before in
     let i = b.args.place in
-    let g = c.wide_gaps-t in
+    let g = c.gaps-t in
     let f : SFits w16 (get_or g.result i (pos 0)) = sfits_of c.gap-arg-1.given in
     rw b.if-wide.true (gap_inside wide_shaped i b.if-place-ge17.false (rw (to_z-of_z f) at c.gap.ensures) g.ensures)
 
@@ -28,7 +28,7 @@ returns_4 : tie.Need-returns
 returns_4 c =
     let b = c.before.before.before in
     let i = b.args.place in
-    let g = c.narrow_gaps-t in
+    let g = c.gaps-u in
     let f : SFits w16 (get_or g.result i (pos 0)) = sfits_of c.gap-arg-2-1.given in
     rw b.if-wide.false (gap_inside narrow_shaped i b.if-place-ge11.false (rw (to_z-of_z f) at c.gap-2.ensures) g.ensures)
 

@@ -14,14 +14,14 @@ returns_2 : tie.Need-returns-then-wide
 returns_2 c =
     let b = c.before.before in
     rw b.if-wide.true
-    (predictor_inside wide_shaped b.args.place (omega arith) b.if-place-ge30.false c.byte.ensures c.wide_predictors-t.ensures)
+    (predictor_inside wide_shaped b.args.place (omega arith) b.if-place-ge30.false c.byte.ensures c.predictors-t.ensures)
 
 returns_4 : tie.Need-returns
 returns_4 c =
     let b = c.before.before in
     let h : b.args.place < 18 = omega arith in
     rw b.if-wide.false
-    (predictor_inside narrow_shaped b.args.place (omega arith) h c.byte-2.ensures c.narrow_predictors-t.ensures)
+    (predictor_inside narrow_shaped b.args.place (omega arith) h c.byte-2.ensures c.predictors-u.ensures)
 
 pub predictors_entry_spec : {M : Type 1} → statement M
 predictors_entry_spec =

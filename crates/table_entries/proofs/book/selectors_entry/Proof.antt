@@ -12,7 +12,7 @@ selectors_entry_spec =
     tie.close (tie.spec
     (λ c. rw c.if-wide.true (past w _ c.if-place-ge256.true)) (λ c κs. search rules) (λ c. search rules) (λ c κs. search rules)
     (λ c. rw c.if-wide.true
-    (inside w _ (lit< tt) c.if-place-ge256.false c.byte.ensures c.wide_selectors_run-t.ensures))
+    (inside w _ (lit< tt) c.if-place-ge256.false c.byte.ensures c.selectors_run-t.ensures))
     (λ c. rw c.if-wide.false (past n _ c.if-place-ge160.true)) (λ c κs. search rules) (λ c. search rules) (λ c κs. search rules)
     (λ c. rw c.if-wide.false
-    (inside n _ (lit< tt) c.if-place-ge160.false c.byte-2.ensures c.narrow_selectors_run-t.ensures)))
+    (inside n _ (lit< tt) c.if-place-ge160.false c.byte-2.ensures c.selectors_run-u.ensures)))

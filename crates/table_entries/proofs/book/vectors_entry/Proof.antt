@@ -12,7 +12,7 @@ vectors_entry_spec =
     tie.close (tie.spec
     (λ c. rw c.if-wide.true (past w _ c.if-place-ge512.true)) (λ c κs. search rules) (λ c. search rules) (λ c κs. search rules)
     (λ c. rw c.if-wide.true
-    (inside w _ (lit< tt) c.if-place-ge512.false c.byte.ensures c.wide_vector_run-t.ensures))
+    (inside w _ (lit< tt) c.if-place-ge512.false c.byte.ensures c.vector_run-t.ensures))
     (λ c. rw c.if-wide.false (past n _ c.if-place-ge320.true)) (λ c κs. search rules) (λ c. search rules) (λ c κs. search rules)
     (λ c. rw c.if-wide.false
-    (inside n _ (lit< tt) c.if-place-ge320.false c.byte-2.ensures c.narrow_vector_run-t.ensures)))
+    (inside n _ (lit< tt) c.if-place-ge320.false c.byte-2.ensures c.vector_run-u.ensures)))

@@ -13,8 +13,8 @@ weights_entry_spec =
     (λ c. rw c.if-wide.true (past w _ c.if-place-ge512.true)) (λ c κs. search rules) (λ c. search rules)
     (λ c. search rules) (λ c κs. search rules)
     (λ c. rw c.if-wide.true
-    (inside w _ (lit< tt) c.if-place-ge512.false c.word.ensures c.wide_weights_run-t.ensures))
+    (inside w _ (lit< tt) c.if-place-ge512.false c.word.ensures c.book_weights_run-t.ensures))
     (λ c. rw c.if-wide.false (past n _ c.if-place-ge320.true)) (λ c κs. search rules) (λ c. search rules)
     (λ c. search rules) (λ c κs. search rules)
     (λ c. rw c.if-wide.false
-    (inside n _ (lit< tt) c.if-place-ge320.false c.word-2.ensures c.narrow_weights_run-t.ensures)))
+    (inside n _ (lit< tt) c.if-place-ge320.false c.word-2.ensures c.book_weights_run-u.ensures)))
