@@ -1,15 +1,15 @@
--- The call: lengths, then the gaps' sum r, -1 where the rule is broken. Assumes nothing.
+-- The call: lengths, then the sum of gaps that meet the rule. Assumes nothing.
 use Prim.Native.Nat.{ℕ, suc}
 use mathlib.Core.Path.{◌≡◌, refl, sym, ap, ap₂, ◌∙◌}
 use mathlib.Core.Bool.{Bool, true, false, cond}
 use mathlib.Core.List.{List}
+use Rattle.std.proofs.Common.{Option, None, Some}
 use native.Mathlib.Omega.{arith}
 use lib.IntN.{ℤ, pos, negsuc}
-use lib.Signed.{le_z}
 use lib.ListN.{length}
 use Rattle.deciding.proofs.Both.{and_both}
+use Rattle.ints.specs.Parts.{down}
 use Rattle.spectrum.proofs.CallLaws.{lengths_are, stabilise_accepted, stabilise_refuses, stabilise_answers}
-use Rattle.spectrum.proofs.Extremes.{le_le_z}
 use Rattle.spectrum.proofs.Kept.{good_total}
 use Rattle.spectrum.proofs.Results.{ruled}
 use Rattle.spectrum.specs.Calls.{called, lengths_ok, stabilise_refusal, stabilise_call}
@@ -18,21 +18,36 @@ use Rattle.spectrum.specs.Gaps.{good_gaps}
 use Rattle.spectrum.specs.Values.{total}
 use Rattle.nlsf_stabilize_stays.proofs.StayLaws.{stays_still}
 use Rattle.nlsf_stabilize_stays.specs.Inner.{stays}
-use Rattle.nlsf_stabilize.specs.Inner.{Ready, ruled_sum}
+use Rattle.nlsf_stabilize.specs.Inner.{Ready, ruled_sum, sum_of}
 
--- the sum is below 0 just where the rule is broken
-pub ruled_sum_lem : (n : ℕ) (g : List ℤ) (r : ℤ) → length g ≡ suc n → r ≡ ruled_sum n g → (t : Bool) → le_z (pos 0) r ≡ t → good_gaps n g ≡ t
+some_is : (z : ℤ) → down z ≡ 0 → Some z ≡ sum_of z
+some_is (pos n) d = refl
+some_is (negsuc n) d = absurd (omega arith)
+
+-- the sum that is answered is the whole one
+pub sum_some : (n : ℕ) (g : List ℤ) → length g ≡ suc n → good_gaps n g ≡ true → Some (total g) ≡ sum_of (ruled_sum n g)
 unfolding ruled_sum
-ruled_sum_lem n g r l e t q = go (good_gaps n g) refl e t q
+sum_some n g l h =
+    some_is (total g) (omega (arith, good_total g (ruled n g l h).good)) ∙ sym (ap (λ (b : Bool). sum_of (cond b (total g) (negsuc 0))) h)
+
+pub sum_none : (n : ℕ) (g : List ℤ) → good_gaps n g ≡ false → None ≡ sum_of (ruled_sum n g)
+unfolding ruled_sum
+sum_none n g h = sym (ap (λ (b : Bool). sum_of (cond b (total g) (negsuc 0))) h)
+
+-- and there is one just where the rule is met
+pub ruled_some : (n : ℕ) (g : List ℤ) (z : ℤ) → length g ≡ suc n → Some z ≡ sum_of (ruled_sum n g) → (good_gaps n g ≡ true) × (z ≡ total g)
+ruled_some n g z l e = go (good_gaps n g) refl
   where
-    go : (b : Bool) → good_gaps n g ≡ b → r ≡ cond b (total g) (negsuc 0) → (t : Bool) → le_z (pos 0) r ≡ t → b ≡ t
-    go true h e t q =
-        sym (le_le_z (pos 0) (total g) (omega (arith, good_total g (ruled n g l h).good))) ∙ ap (le_z (pos 0)) (sym e) ∙ q
-    go false h e t q = ap (le_z (pos 0)) (sym e) ∙ q
+    go : (b : Bool) → good_gaps n g ≡ b → (b ≡ true) × (z ≡ total g)
+    go true h = let f = sum_some n g l h in (refl, cc)
+    go false h = let f = sum_none n g h in let k : ◌≡◌ {A = Option ℤ} (Some z) None = e ∙ sym f in absurd (cc)
 
-pub ruled_total : (n : ℕ) (g : List ℤ) (r : ℤ) → r ≡ ruled_sum n g → good_gaps n g ≡ true → r ≡ total g
-unfolding ruled_sum
-ruled_total n g r e h = e ∙ ap (λ (b : Bool). cond b (total g) (negsuc 0)) h
+pub ruled_none : (n : ℕ) (g : List ℤ) → length g ≡ suc n → None ≡ sum_of (ruled_sum n g) → good_gaps n g ≡ false
+ruled_none n g l e = go (good_gaps n g) refl
+  where
+    go : (b : Bool) → good_gaps n g ≡ b → b ≡ false
+    go true h = let f = sum_some n g l h in let k : ◌≡◌ {A = Option ℤ} None (Some (total g)) = e ∙ sym f in absurd (cc)
+    go false h = refl
 
 module _ (v g : List ℤ) where
   refused : (n : ℕ) → stabilise_refusal v g ≡ n → (n ≡ 0 → ⊥) → called v n 0 ≡ stabilise_call v g

@@ -7,7 +7,7 @@ ghost use Rattle.spectrum.specs.Values.{total};
 ghost use Rattle.spectrum.specs.Stabilising.{stabilise};
 ghost use Rattle.spectrum.specs.Calls.{lengths_ok, stabilise_call};
 ghost use Rattle.nlsf_stabilize_stays.specs.Inner.{stays};
-ghost use Rattle.nlsf_stabilize.specs.Inner.{Ready};
+ghost use Rattle.nlsf_stabilize.specs.Inner.{Ready, moves_of};
 
 use gaps::ruled_sum_run;
 use nlsf_stabilize_fallback::fall_back_run;
@@ -15,6 +15,7 @@ use nlsf_stabilize_move::move_at_run;
 use nlsf_stabilize_search::{place_run, rises_run};
 use nlsf_stabilize_slack::slacks_run;
 use nlsf_stabilize_stays::stays_run;
+use refusals::Refusal;
 use spectrum::Moves;
 
 mod gaps; // gaps.rt: the gap set's rule
@@ -55,34 +56,31 @@ fn lengths_ok(vector: &[i16], gaps: &[i16]) -> bool
     }
 }
 
+// The number of moves of a vector that is stabilised.
+fn stabilised(vector: &mut [i16], gaps: &[i16]) -> Result<u32, Refusal>
+    ensures { record { vector = vector.exit.now; answer = moves_of result } ≡ stabilise_call vector.entry.now gaps.now }
+{
+    if !lengths_ok(vector, gaps) {
+        return Err(Refusal::Length);
+    }
+    if stays_run(vector, gaps) {
+        return Ok(0);
+    }
+    match ruled_sum_run(gaps, vector.len()) {
+        Some(sum) => Ok(stabilise_run(vector, gaps, sum)),
+        None => Err(Refusal::Gaps),
+    }
+}
+
 // Stabilised, with the number of moves; a refusal, 6 or 7, leaves the vector as it is.
 pub fn silk_NLSF_stabilize(vector: &mut [i16], gaps: &[i16]) -> Moves
     ensures { record { vector = vector.exit.now; answer = result } ≡ stabilise_call vector.entry.now gaps.now }
 {
-    if lengths_ok(vector, gaps) {
-        if stays_run(vector, gaps) {
-            return Moves {
-                refusal: 0,
-                moves: 0,
-            };
-        }
-        let sum = ruled_sum_run(gaps, vector.len());
-        if sum >= 0 {
-            let m = stabilise_run(vector, gaps, sum);
-            Moves {
-                refusal: 0,
-                moves: m,
-            }
-        } else {
-            Moves {
-                refusal: 7,
-                moves: 0,
-            }
-        }
-    } else {
-        Moves {
-            refusal: 6,
+    match stabilised(vector, gaps) {
+        Ok(moves) => Moves { refusal: 0, moves },
+        Err(refusal) => Moves {
+            refusal: u32::from(refusal),
             moves: 0,
-        }
+        },
     }
 }
