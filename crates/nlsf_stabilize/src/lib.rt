@@ -30,17 +30,15 @@ pub fn stabilise_run(v: &mut [i16], g: &[i16], sum: i32) -> u32
     let mut w = [32768 - sum; 18];
     let mut s = [0i32; 18];
     slacks_run(&mut w, &mut s, v, g);
-    let mut m: u32 = 0;
-    while m < 20 {
+    for m in 0..20 {
         let i = place_run(&w, v.len());
         move_at_run(v, &mut w, &s, g, i);
-        m += 1;
         if rises_run(&w, v.len()) {
-            return m;
+            return m + 1;
         }
     }
     fall_back_run(v, g);
-    m
+    20
 }
 
 // ---- the call
