@@ -113,9 +113,7 @@ pub fn places_run(
     let roots = roots();
     let mut q = last_share_run(&shares, values);
     let mut r: i32 = 0;
-    let mut k: usize = selectors.len();
-    while k > 0 {
-        k -= 1;
+    for k in (0..selectors.len()).rev() {
         let e = selectors[k];
         let j = 2 * k + 1;
         r = residual(xs[j], step, predictor(lists, e / 16 % 2, j), r);
