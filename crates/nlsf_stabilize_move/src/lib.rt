@@ -41,10 +41,7 @@ fn cap(x: i32) -> i16
     requires { Mag 32768 x }
     ensures { result ≡ capped x }
 {
-    if x > 32767 {
-        return 32767;
-    }
-    x as i16
+    x.min(32767) as i16
 }
 
 // Where the slacks about gap i meet.

@@ -31,7 +31,7 @@ pub fn stays_run(v: &[i16], g: &[i16]) -> bool
 {
     let mut p: i32 = 0;
     let mut i: usize = 0;
-    // Two places a turn: half as many jumps back.
+    // Two places a turn: half as many jumps back. A range by twos would not leave i for the last place, which is read behind the loop.
     while i + 1 < v.len() {
         let x = v[i] as i32;
         let y = v[i + 1] as i32;
