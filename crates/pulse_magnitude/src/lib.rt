@@ -7,11 +7,5 @@ ghost use Rattle.std.specs.Prelude.{◌≡◌, nat_abs};
 pub fn magnitude(pulse: i16) -> u32
     ensures { result ≡ nat_abs pulse }
 {
-    let wide = pulse as i32;
-    if wide < 0 {
-        let other = -wide;
-        other as u32
-    } else {
-        wide as u32
-    }
+    u32::from(pulse.unsigned_abs())
 }

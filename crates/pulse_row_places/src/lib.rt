@@ -53,11 +53,6 @@ pub fn sign_row_at_run(signal: u32, offset: u32, c: u8) -> usize
     requires { (signal ≤ 2) × (offset ≤ 1) }
     ensures { result ≡ 825 + (7 * (offset + 2 * signal) + min c 6) * 2 }
 {
-    let k = 7 * (offset + 2 * signal);
-    if c < 6 {
-        let row = k + (c as u32);
-        return SIGN + (row as usize) * 2;
-    }
-    let row = k + 6;
+    let row = 7 * (offset + 2 * signal) + u32::from(c.min(6));
     SIGN + (row as usize) * 2
 }

@@ -29,12 +29,12 @@ fn decode_sign(packet: &[u8], d: Dec, row: &[u8], m: i16) -> SignRead
     ensures { Ran packet.now d (sign row.now (nat_abs m)) (of_symbols 1) result.pulse result.state }
 {
     let a = entdec_run::ec_dec_icdf8_run(packet, d, row);
-    let state = a.state;
-    if a.value == 0 {
-        let pulse = -m;
-        return SignRead { pulse, state };
+    let minus = a.value == 0;
+    let pulse = if minus { -m } else { m };
+    SignRead {
+        pulse,
+        state: a.state,
     }
-    SignRead { pulse: m, state }
 }
 
 // The places that have a pulse, in their order, and how many. Each place is stored, and the next one takes its place
@@ -44,12 +44,9 @@ fn pulse_places(places: &[i16], at: &mut [u8; 16]) -> usize
     ensures { Gathered places.now at.new result 16 }
 {
     let mut n: usize = 0;
-    let mut k: usize = 0;
-    while k < 16 {
+    for k in 0..16 {
         at[n] = k as u8;
-        let m = places[k];
-        n += (m != 0) as usize;
-        k += 1;
+        n += usize::from(places[k] != 0);
     }
     n
 }
@@ -66,15 +63,11 @@ fn all_signs(packet: &[u8], from: Dec, row: &[u8], places: &mut [i16]) -> Dec
     let mut at = [0u8; 16];
     let n = pulse_places(places, &mut at);
     let mut d = from;
-    let mut t: usize = 0;
-    while t < n {
-        let k = at[t] as usize;
-        let m = places[k];
-        let a = decode_sign(packet, d, row, m);
-        let pulse = a.pulse;
-        places[k] = pulse;
+    for k in &at[..n] {
+        let k = usize::from(*k);
+        let a = decode_sign(packet, d, row, places[k]);
+        places[k] = a.pulse;
         d = a.state;
-        t += 1;
     }
     d
 }
@@ -84,12 +77,8 @@ fn no_pulse(places: &[i16]) -> bool
     ensures { result ≡ true → places.now ≡ replicate (length places.now) (pos 0) }
 {
     let mut none = true;
-    let mut k: usize = places.len();
-    while k > 0 {
-        let j = k - 1;
-        let m = places[j];
-        none = (m == 0) & none;
-        k = j;
+    for m in places {
+        none = (*m == 0) & none;
     }
     none
 }
@@ -109,10 +98,9 @@ pub fn silk_decode_signs_run(
     ensures { Ran packet.now from (each (pos 0) (sign row.now) (mags places.old)) 256
         places.new result }
 {
-    if empty {
-        if no_pulse(places) {
-            return from;
-        }
+    if empty && no_pulse(places) {
+        from
+    } else {
+        all_signs(packet, from, row, places)
     }
-    all_signs(packet, from, row, places)
 }

@@ -1,11 +1,9 @@
--- `silk_decode_signs_run` meets its contract: where no place has a pulse, nothing is asked. Assumes nothing.
-use borrow.Author.Rules.{rules}
-use Prim.Native.Nat.{ℕ, zero, suc}
-use native.Mathlib.Omega.{arith}
-use mathlib.Core.Path.{◌≡◌, refl, ap, ◌∙◌}
+-- Where no place has a pulse, nothing is asked.
+use Rattle.std.proofs.Common.{◌≡◌, ◌∙◌, ℕ, length, refl, ap, pos, arith}
+use Prim.Native.Nat.{zero, suc}
 use mathlib.Core.List.{List, [], ◌∷◌}
-use lib.IntN.{ℤ, pos}
-use lib.ListN.{length, replicate}
+use lib.IntN.{ℤ}
+use lib.ListN.{replicate}
 use Rattle.entcode.specs.declared.Dec.{Dec}
 use Rattle.entcode.specs.Inner.Reading.{Core}
 use Rattle.tree.specs.Asks.{got, run}
@@ -14,8 +12,7 @@ use Rattle.tree.proofs.Through.{before}
 use Rattle.silk.specs.PulseSyntax.{each, sign}
 use Rattle.silk.proofs.PulseSteps.{each_next}
 use Rattle.silk.specs.Inner.Pulses.{mags}
-use Rattle.pulse_signs_read.proofs.silk_decode_signs_run.Statement.{statement}
-use Rattle.pulse_signs_read.proofs.silk_decode_signs_run.Tie as tie
+use Rattle.pulse_signs_read.proofs.silk_decode_signs_run.Goals as goal
 
 no_signs : (b : List ℕ) (d : Dec) (r : List ℕ) (n : ℕ) → run b d (each (pos 0) (sign r) (mags (replicate n (pos 0)))) ≡ got (replicate n (pos 0)) d
 unfolding each run sign
@@ -26,10 +23,5 @@ no_signs b d r (suc n) =
 none : (b : List ℕ) (d : Dec) (r : List ℕ) (s : List ℤ) → s ≡ replicate (length s) (pos 0) → Core b d → Ran b d (each (pos 0) (sign r) (mags s)) 256 s d
 none b d r s e c = rw e (record { is = no_signs b d r (length s); core = c; least = omega arith; most = omega arith })
 
-returns : tie.Need-returns-then-no_pulse
-returns c =
-    let b = c.before.before.before.before.before in
-    none _ _ _ b.args.places.now (c.no_pulse.ensures c.if-no_pulse.true) b.requires.0
-
-pub silk_decode_signs_run_spec : {M : Type 1} → statement M
-silk_decode_signs_run_spec = tie.close (tie.spec (λ c κs. search rules) (λ c. search rules) returns (λ c κs. search rules) (λ c. search rules) (λ c. search rules))
+pub returns-then-no_pulse : goal.returns-then-no_pulse
+returns-then-no_pulse c = none _ _ _ c.args.places.now (c.no_pulse.ensures c.if-no_pulse.true) c.requires.core

@@ -1,0 +1,13 @@
+-- The places up to the last of those that were read have their signs, and the tree has come as far.
+use Rattle.std.proofs.Common.{◌≡◌, length}
+use Rattle.pulse_signs_read.specs.Inner.{behind, Gathered}
+use Rattle.pulse_signs_read.proofs.Signing.{Signing}
+use Rattle.pulse_signs_read.proofs.all_signs.Given as goal
+
+abbrev pub invariant-loop-k : goal.invariant-loop-k
+invariant-loop-k l = record {
+  gathered : Gathered l.fn.places l.k-items l.n 16;
+  going : Signing l.packet l.row l.fn.places l.fn.from l.places l.d (behind l.k-items l.k-index);
+  size : length l.places ≡ 16;
+  count : length l.k-items ≡ l.n;
+}
