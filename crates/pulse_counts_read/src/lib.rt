@@ -21,7 +21,7 @@ pub struct BlockRead {
     pub state: Dec,
 }
 
-// The same for each block of a frame.
+// The same for each block of a frame, in two arrays as the definition `blocks_from` takes them.
 #[derive(Clone, Copy)]
 pub struct BlocksRead {
     pub counts: [u8; 20],
@@ -39,8 +39,7 @@ fn count_run(packet: &[u8], from: Dec, rows: &[u8], level: usize) -> BlockRead
     ensures count_bound { (result.count ≤ 16) × (result.lows ≤ 10) }
 {
     let start = COUNT + level * 18;
-    let end = start + 18;
-    let a = entdec_run::ec_dec_icdf8_run(packet, from, &rows[start..end]);
+    let a = entdec_run::ec_dec_icdf8_run(packet, from, &rows[start..start + 18]);
     let mut d = a.state;
     let mut v = a.value;
     let mut j: u32 = 0;
@@ -70,13 +69,11 @@ pub fn counts_run(packet: &[u8], from: Dec, rows: &[u8], level: usize, n: usize)
     let mut counts = [0u8; 20];
     let mut lows = [0u8; 20];
     let mut d = from;
-    let mut i: usize = 0;
-    while i < n {
+    for i in 0..n {
         let b = count_run(packet, d, rows, level);
         counts[i] = b.count as u8;
         lows[i] = b.lows as u8;
         d = b.state;
-        i += 1;
     }
     BlocksRead {
         counts,

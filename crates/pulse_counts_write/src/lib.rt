@@ -31,9 +31,8 @@ fn later_tell(buf: &mut [u8], from: Enc, rows: &[u8], sum: u32, lows: u32) -> En
         (low_counts 10 0 (count_said 0 (record { count = sum; lows = lows }))) (of_symbols 10) (out buf.new result) }
 {
     let mut w = from;
-    let mut j: u32 = 0;
-    while j < lows {
-        j += 1;
+    for k in 0..lows {
+        let j = k + 1;
         let at = pulse_row_places::later_at(j);
         let v = count_said(j, sum, lows);
         w = entenc_run::ec_enc_icdf_run(buf, w, v, &rows[at..COUNT_END], 8);
@@ -59,18 +58,15 @@ pub fn counts_tell_run(
     ensures { Told (out buf.old from) (blocks_from sums lows 0 n) (counts level n) (of_symbols 220) (out buf.new result) }
 {
     let start = COUNT + level * 18;
-    let end = start + 18;
     let mut w = from;
-    let mut i: usize = 0;
-    while i < n {
-        let sum = sums[i];
-        let shift = lows[i];
-        let first = count_said(0, sum as u32, shift as u32);
-        w = entenc_run::ec_enc_icdf_run(buf, w, first, &rows[start..end], 8);
+    for i in 0..n {
+        let sum = u32::from(sums[i]);
+        let shift = u32::from(lows[i]);
+        let first = count_said(0, sum, shift);
+        w = entenc_run::ec_enc_icdf_run(buf, w, first, &rows[start..start + 18], 8);
         if shift != 0 {
-            w = later_tell(buf, w, rows, sum as u32, shift as u32);
+            w = later_tell(buf, w, rows, sum, shift);
         }
-        i += 1;
     }
     w
 }

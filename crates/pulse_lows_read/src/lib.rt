@@ -24,13 +24,10 @@ fn low_bits(packet: &[u8], from: Dec, row: &[u8], m: u32, n: u32) -> Decoded
 {
     let mut v = m;
     let mut d = from;
-    let mut j: u32 = 0;
-    while j < n {
+    for _ in 0..n {
         let a = entdec_run::ec_dec_icdf8_run(packet, d, row);
-        let bit = a.value;
-        v = 2 * v + bit;
+        v = 2 * v + a.value;
         d = a.state;
-        j += 1;
     }
     Decoded {
         refusal: 0,
@@ -48,14 +45,10 @@ fn all_lows(packet: &[u8], from: Dec, row: &[u8], places: &mut [i16], n: u32) ->
     ensures { Placed packet.now from (each 0 (low_bits n) (mags places.old)) (of_symbols 160) places.new result }
 {
     let mut d = from;
-    let mut k: usize = 0;
-    while k < 16 {
-        let m = places[k];
-        let a = low_bits(packet, d, row, m as u32, n);
-        let v = a.value;
-        places[k] = v as i16;
+    for k in 0..16 {
+        let a = low_bits(packet, d, row, places[k] as u32, n);
+        places[k] = a.value as i16;
         d = a.state;
-        k += 1;
     }
     d
 }
@@ -69,7 +62,8 @@ pub fn block_lows_run(packet: &[u8], from: Dec, row: &[u8], places: &mut [i16], 
     ensures { Placed packet.now from (each 0 (low_bits n) (mags places.old)) (of_symbols 160) places.new result }
 {
     if n == 0 {
-        return from;
+        from
+    } else {
+        all_lows(packet, from, row, places, n)
     }
-    all_lows(packet, from, row, places, n)
 }
