@@ -1,11 +1,9 @@
--- A block without pulses: its splits ask nothing, and each of its places is 0. Assumes nothing.
-use Prim.Native.Nat.{ℕ, zero, suc, ◌+◌, ◌<◌}
-use mathlib.Core.Path.{◌≡◌, refl, ap}
-use mathlib.Core.List.{List, [], ◌∷◌, ◌++◌}
-use native.Mathlib.Numerals.{add-one}
-use native.Mathlib.Omega.{arith}
-use lib.IntN.{ℤ, pos}
-use lib.ListN.{length, set, drop, replicate}
+-- A block without pulses: its splits ask nothing. Assumes nothing.
+use Prim.Native.Nat.{ℕ}
+use mathlib.Core.Path.{◌≡◌, refl}
+use mathlib.Core.List.{List}
+use lib.IntN.{pos}
+use lib.ListN.{replicate}
 use Rattle.entcode.specs.declared.Dec.{Dec}
 use Rattle.entcode.specs.Inner.Reading.{Core}
 use Rattle.tree.specs.Inner.Ran.{Ran}
@@ -21,19 +19,3 @@ no_pulses {b = b} {d = d} p n e l h =
     let four = halves 1 0 (s 1) two two in
     let eight = halves 2 0 (s 2) four four in
     rw (e, l) (halves 3 0 (s 3) eight eight)
-
--- the first n places of s are 0, the others as they were
-abbrev pub cleared : ℕ → List ℤ → List ℤ
-cleared n s = replicate n (pos 0) ++ drop n s
-
-pub cleared_next : (n : ℕ) (s : List ℤ) → n < length s → set (cleared n s) n (pos 0) ≡ cleared (n + 1) s
-cleared_next n s h = rw add-one (go n s h)
-  where
-    go : (n : ℕ) (s : List ℤ) → n < length s → set (cleared n s) n (pos 0) ≡ cleared (suc n) s
-    go n [] h = absurd (omega arith)
-    go zero (x ∷ s) h = refl
-    go (suc n) (x ∷ s) h = ap (λ (t : List ℤ). pos 0 ∷ t) (go n s (omega arith))
-
-pub all_cleared : (s : List ℤ) → cleared (length s) s ≡ replicate (length s) (pos 0)
-all_cleared [] = refl
-all_cleared (x ∷ s) = ap (λ (t : List ℤ). pos 0 ∷ t) (all_cleared s)

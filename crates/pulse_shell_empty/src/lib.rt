@@ -7,7 +7,5 @@ ghost use Rattle.std.specs.Prelude.{◌≡◌, pos, length, replicate};
 pub fn clear(places: &mut [i16])
     ensures { places.new ≡ replicate (length places.old) (pos 0) }
 {
-    for k in 0..places.len() {
-        places[k] = 0;
-    }
+    places.fill(0);
 }

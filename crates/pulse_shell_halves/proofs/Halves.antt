@@ -1,7 +1,7 @@
 -- The halves of a slice, read one after the other: what was read stands in front, the rest behind it is as it was. Assumes nothing.
 use Prim.Native.Nat.{ℕ, zero, suc, ◌+◌, ◌-◌, ◌*◌, ◌<◌, ◌≤◌}
 use mathlib.Core.Path.{◌≡◌, refl, sym, ap, subst, ◌∙◌}
-use mathlib.Core.Bool.{Bool, true, false, cond}
+use mathlib.Core.Bool.{cond}
 use mathlib.Core.List.{List, [], ◌++◌, append_assoc, append-nil}
 use native.Mathlib.Omega.{arith}
 use lib.Dec.{eqb}
@@ -13,19 +13,12 @@ use Rattle.entcode.specs.declared.Dec.{Dec}
 use Rattle.entcode.specs.Inner.Reading.{Core}
 use Rattle.tree.specs.Inner.Ran.{Ran}
 use Rattle.silk.specs.PulseSyntax.{split, shell}
-use Rattle.silk.specs.Inner.Pulses.{PulseRows, Placed}
+use Rattle.silk.specs.Inner.Pulses.{Placed}
 use Rattle.silk.proofs.PulseSteps.{halves}
 
 -- how many of p pulses lie in half h, where `left` lie in the first
 abbrev half_count : ℕ → ℕ → ℕ → ℕ
 half_count left p h = cond (eqb h 0) left (p - left)
-
-half_within : (left p h : ℕ) → left ≤ p → half_count left p h ≤ p
-half_within left p h l = go (eqb h 0)
-  where
-    go : (t : Bool) → cond t left (p - left) ≤ p
-    go true = l
-    go false = omega arith
 
 within : (w h : ℕ) → h ≤ 2 → h * w ≤ w + w
 within w zero l = omega arith
@@ -73,8 +66,8 @@ module _ (b : List ℕ) (k w n left p : ℕ) (d₀ : Dec) (s₀ : List ℤ) wher
     read : Read h front q
     wide : length s₀ ≡ w + w
     to : h ≤ 2
-    core : Core b q
-    most : q.total ≤ d₀.total + h * n
+    pub core : Core b q
+    pub most : q.total ≤ d₀.total + h * n
     pub fewer : left ≤ p
 
 module _ {b : List ℕ} {k w n left p : ℕ} {d₀ : Dec} {s₀ : List ℤ} where
@@ -98,7 +91,7 @@ module _ {b : List ℕ} {k w n left p : ℕ} {d₀ : Dec} {s₀ : List ℤ} wher
     sized : length s ≡ h * w + (w + w - h * w)
     sized = ap length g.is ∙ length-append g.front (drop (h * w) s₀) ∙ rw (g.size, length-drop (h * w) s₀, g.wide)
 
-    pub halving_kept : length s ≡ length s₀
+    halving_kept : length s ≡ length s₀
     halving_kept = omega (arith, sized, within w h g.to, g.wide)
 
     -- both are read, behind their split
@@ -111,20 +104,12 @@ module _ {b : List ℕ} {k w n left p : ℕ} {d₀ : Dec} {s₀ : List ℤ} wher
         rw e (halves k p r t.first t.second)
 
     module _ (l : h < 2) where
-      pub halving_fits : h * w + w ≤ length s
+      halving_fits : h * w + w ≤ length s
       halving_fits = omega (arith, halving_kept, g.wide, one_more w h l, within w (h + 1) (omega arith))
 
       -- the half at hand
       part : length (take (h * w + w - h * w) (drop (h * w) s)) ≡ w
       part = length-take-le (h * w + w - h * w) (drop (h * w) s) (omega (arith, length-drop (h * w) s, halving_fits)) ∙ omega arith
-
-      -- what its reader asks for
-      pub halving_asks : {rows : List ℕ} {c m : ℕ} → c ≡ half_count left p h → d₀.total + (n + n) ≤ m → PulseRows rows → p ≤ 16
-          → Core b q × ((q.total ≤ m) × (PulseRows rows × ((c ≤ 16) × (length (take (h * w + w - h * w) (drop (h * w) s)) ≡ w))))
-      halving_asks e room r few = (
-        g.core,
-        (omega (arith, g.most, within n h g.to), (r, (omega (arith, half_within left p h g.fewer), part))),
-      )
 
       ahead : w ≤ length (drop (h * w) s₀)
       ahead = omega (arith, length-drop (h * w) s₀, g.wide, one_more w h l, within w (h + 1) (omega arith))

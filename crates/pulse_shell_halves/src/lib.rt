@@ -29,8 +29,7 @@ pub fn decode_split_run(packet: &[u8], d: Dec, rows: &[u8], table: usize, p: u32
     }
     let n = p as usize;
     let start = pulse_row_places::split_start_run(table, n);
-    let end = start + (n + 1);
-    entdec_run::ec_dec_icdf8_run(packet, d, &rows[start..end])
+    entdec_run::ec_dec_icdf8_run(packet, d, &rows[start..start + (n + 1)])
 }
 
 // The p pulses of 2 places.
@@ -42,9 +41,8 @@ fn shell_2(packet: &[u8], d: Dec, rows: &[u8], places: &mut [i16], p: u32) -> De
     ensures { Placed packet.now d (shell 1 p) (of_symbols 1) places.new result }
 {
     let a = decode_split_run(packet, d, rows, 0, p);
-    let left = a.value;
-    places[0] = left as i16;
-    places[1] = (p - left) as i16;
+    places[0] = a.value as i16;
+    places[1] = (p - a.value) as i16;
     a.state
 }
 
@@ -57,7 +55,7 @@ pub fn half_count_run(h: usize, left: u32, p: u32) -> u32
     if h == 0 { left } else { p - left }
 }
 
-// The p pulses of 4 places.
+// The p pulses of 4 places. A level is a function of its own: a const argument must be a parameter's name alone, not its half.
 fn shell_4(packet: &[u8], d: Dec, rows: &[u8], places: &mut [i16], p: u32) -> Dec
     requires core { Core packet.now d }
     requires total_bound { d.total ≤ 2 ^ 29 }
@@ -68,13 +66,9 @@ fn shell_4(packet: &[u8], d: Dec, rows: &[u8], places: &mut [i16], p: u32) -> De
     let a = decode_split_run(packet, d, rows, 1, p);
     let left = a.value;
     let mut q = a.state;
-    let mut h: usize = 0;
-    while h < 2 {
-        let at = h * 2;
-        let end = at + 2;
+    for h in 0..2 {
         let c = half_count_run(h, left, p);
-        q = shell_2(packet, q, rows, &mut places[at..end], c);
-        h += 1;
+        q = shell_2(packet, q, rows, &mut places[h * 2..h * 2 + 2], c);
     }
     q
 }
@@ -90,13 +84,9 @@ pub fn shell_8_run(packet: &[u8], d: Dec, rows: &[u8], places: &mut [i16], p: u3
     let a = decode_split_run(packet, d, rows, 2, p);
     let left = a.value;
     let mut q = a.state;
-    let mut h: usize = 0;
-    while h < 2 {
-        let at = h * 4;
-        let end = at + 4;
+    for h in 0..2 {
         let c = half_count_run(h, left, p);
-        q = shell_4(packet, q, rows, &mut places[at..end], c);
-        h += 1;
+        q = shell_4(packet, q, rows, &mut places[h * 4..h * 4 + 4], c);
     }
     q
 }

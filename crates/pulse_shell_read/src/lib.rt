@@ -26,13 +26,9 @@ pub fn silk_shell_decoder_run(packet: &[u8], d: Dec, rows: &[u8], places: &mut [
     let a = decode_split_run(packet, d, rows, 3, p);
     let left = a.value;
     let mut q = a.state;
-    let mut h: usize = 0;
-    while h < 2 {
-        let at = h * 8;
-        let end = at + 8;
+    for h in 0..2 {
         let c = half_count_run(h, left, p);
-        q = shell_8_run(packet, q, rows, &mut places[at..end], c);
-        h += 1;
+        q = shell_8_run(packet, q, rows, &mut places[h * 8..h * 8 + 8], c);
     }
     q
 }
