@@ -54,8 +54,8 @@ pub fn block_signs_run(
 {
     if some_pulses(c, j) {
         let row = pulse_row_places::sign_row_at_run(f.signal, f.offset, c);
-        let last = row + 2;
-        return pulse_signs_write::silk_encode_signs_run(buf, w, &rows[row..last], part);
+        pulse_signs_write::silk_encode_signs_run(buf, w, &rows[row..row + 2], part)
+    } else {
+        w
     }
-    w
 }

@@ -22,9 +22,7 @@ fn low_bits_tell(buf: &mut [u8], from: Enc, row: &[u8], m: u32, n: u32) -> Enc
     ensures { Told (out buf.old from) m (low_bits n (m / 2 ^ n)) (of_symbols 10) (out buf.new result) }
 {
     let mut w = from;
-    let mut k = n;
-    while 0 < k {
-        k -= 1;
+    for k in (0..n).rev() {
         let bit = (m >> k) % 2;
         w = entenc_run::ec_enc_icdf_run(buf, w, bit, row, 8);
     }
@@ -41,12 +39,8 @@ fn all_lows_tell(buf: &mut [u8], from: Enc, row: &[u8], pulses: &[i16], n: u32) 
         (each 0 (low_bits n) (shifted_by n pulses.now)) (of_symbols 160) (out buf.new result) }
 {
     let mut w = from;
-    let mut k: usize = 0;
-    while k < 16 {
-        let pulse = pulses[k];
-        let m = magnitude(pulse);
-        w = low_bits_tell(buf, w, row, m, n);
-        k += 1;
+    for k in 0..16 {
+        w = low_bits_tell(buf, w, row, magnitude(pulses[k]), n);
     }
     w
 }
@@ -61,7 +55,8 @@ pub fn block_lows_tell_run(buf: &mut [u8], w: Enc, row: &[u8], pulses: &[i16], n
         (each 0 (low_bits n) (shifted_by n pulses.now)) (of_symbols 160) (out buf.new result) }
 {
     if n == 0 {
-        return w;
+        w
+    } else {
+        all_lows_tell(buf, w, row, pulses, n)
     }
-    all_lows_tell(buf, w, row, pulses, n)
 }

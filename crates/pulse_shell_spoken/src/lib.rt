@@ -26,14 +26,12 @@ pub fn spoken_of_run(start: &mut [usize], all: &mut [u8], left: &mut [u8], x: &[
     let tables = [3u8, 2, 1, 0, 0, 1, 0, 0, 2, 1, 0, 0, 1, 0, 0];
     let s = pulse_shell_splits::splits_of_run(x, p);
     let mut n: usize = 0;
-    let mut k: usize = 0;
-    while k < 15 {
+    for k in 0..15 {
         let c = s.all[k];
-        start[n] = pulse_row_places::split_start_run(tables[k] as usize, c as usize);
+        start[n] = pulse_row_places::split_start_run(usize::from(tables[k]), usize::from(c));
         all[n] = c;
         left[n] = s.left[k];
         n = counted(n, c);
-        k += 1;
     }
     n
 }

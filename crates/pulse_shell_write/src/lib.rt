@@ -31,14 +31,10 @@ pub fn silk_shell_encoder_run(buf: &mut [u8], w: Enc, rows: &[u8], places: &[u8]
         p as u8,
     );
     let mut q = w;
-    let mut k: usize = 0;
-    while k < count {
+    for k in 0..count {
         let start = starts[k];
-        let n = alls[k] as usize;
-        let end = start + (n + 1);
-        let left = lefts[k] as u32;
-        q = entenc_run::ec_enc_icdf_run(buf, q, left, &rows[start..end], 8);
-        k += 1;
+        let end = start + (usize::from(alls[k]) + 1);
+        q = entenc_run::ec_enc_icdf_run(buf, q, u32::from(lefts[k]), &rows[start..end], 8);
     }
     q
 }

@@ -36,12 +36,10 @@ fn signs_said(symbols: &mut [u8], pulses: &[i16]) -> usize
     ensures { (result ≤ 16) × (take result symbols.new ≡ signs_said pulses.now) }
 {
     let mut n: usize = 0;
-    let mut k: usize = 0;
-    while k < 16 {
+    for k in 0..16 {
         let pulse = pulses[k];
         symbols[n] = sign_said(pulse);
         n = next_place(n, pulse);
-        k += 1;
     }
     n
 }
@@ -59,10 +57,8 @@ pub fn silk_encode_signs_run(buf: &mut [u8], from: Enc, row: &[u8], pulses: &[i1
     let mut symbols = [0u8; 16];
     let count = signs_said(&mut symbols, pulses);
     let mut w = from;
-    let mut k: usize = 0;
-    while k < count {
-        w = entenc_run::ec_enc_icdf_run(buf, w, symbols[k] as u32, row, 8);
-        k += 1;
+    for symbol in &symbols[..count] {
+        w = entenc_run::ec_enc_icdf_run(buf, w, u32::from(*symbol), row, 8);
     }
     w
 }
