@@ -23,19 +23,14 @@ fn shells(packet: &[u8], rows: &[u8], x: BlocksRead, pulses: &mut [i16], n: usiz
     ensures { Split packet.now x.state x.counts x.lows n pulses.new result }
 {
     let mut d = x.state;
-    let mut i: usize = 0;
-    while i < n {
-        let at = i * 16;
-        let end = at + 16;
-        let c = x.counts[i];
+    for i in 0..n {
         d = pulse_shell_read::silk_shell_decoder_run(
             packet,
             d,
             rows,
-            &mut pulses[at..end],
-            c as u32,
+            &mut pulses[i * 16..i * 16 + 16],
+            u32::from(x.counts[i]),
         );
-        i += 1;
     }
     d
 }
@@ -49,19 +44,14 @@ fn lows(packet: &[u8], from: Dec, rows: &[u8], x: BlocksRead, pulses: &mut [i16]
     ensures { Lowered packet.now from x.counts x.lows (rows16 n (mags pulses.old)) n pulses.new result }
 {
     let mut d = from;
-    let mut i: usize = 0;
-    while i < n {
-        let at = i * 16;
-        let end = at + 16;
-        let j = x.lows[i];
+    for i in 0..n {
         d = pulse_lows_read::block_lows_run(
             packet,
             d,
             &rows[LOW_BIT..LOW_BIT_END],
-            &mut pulses[at..end],
-            j as u32,
+            &mut pulses[i * 16..i * 16 + 16],
+            u32::from(x.lows[i]),
         );
-        i += 1;
     }
     d
 }
@@ -82,23 +72,17 @@ fn signs(
     ensures { Signed packet.now from f.signal f.offset x.counts x.lows
         (rows16 f.blocks (mags pulses.old)) f.blocks pulses.new result }
 {
-    let n = f.blocks;
     let mut d = from;
-    let mut i: usize = 0;
-    while i < n {
-        let at = i * 16;
-        let end = at + 16;
+    for i in 0..f.blocks {
         let row = pulse_row_places::sign_row_at_run(f.signal, f.offset, x.counts[i]);
-        let last = row + 2;
         let empty = (x.counts[i] == 0) & (x.lows[i] == 0);
         d = pulse_signs_read::silk_decode_signs_run(
             packet,
             d,
-            &rows[row..last],
-            &mut pulses[at..end],
+            &rows[row..row + 2],
+            &mut pulses[i * 16..i * 16 + 16],
             empty,
         );
-        i += 1;
     }
     d
 }
@@ -120,10 +104,8 @@ pub fn silk_decode_pulses_run(
     ensures { Excited packet.now d signal offset n pulses.new result }
 {
     let at = ((signal / 2) as usize) * 9;
-    let end = at + 9;
-    let a = entdec_run::ec_dec_icdf8_run(packet, d, &rows[at..end]);
-    let level = a.value as usize;
-    let x = pulse_counts_read::counts_run(packet, a.state, rows, level, n);
+    let a = entdec_run::ec_dec_icdf8_run(packet, d, &rows[at..at + 9]);
+    let x = pulse_counts_read::counts_run(packet, a.state, rows, a.value as usize, n);
     let s = shells(packet, rows, x, pulses, n);
     let l = lows(packet, s, rows, x, pulses, n);
     let f = FrameNumbers {

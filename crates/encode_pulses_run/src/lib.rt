@@ -27,16 +27,12 @@ fn splits(buf: &mut [u8], from: Enc, rows: &[u8], pulses: &[i16], x: Plan, n: us
     ensures { SplitsTold (out buf.old from) x.counts x.lows pulses.now n (out buf.new result) }
 {
     let mut w = from;
-    let mut i: usize = 0;
-    while i < n {
-        let at = i * 16;
-        let end = at + 16;
-        let c = x.counts[i];
-        let j = x.lows[i];
+    for i in 0..n {
+        let c = u32::from(x.counts[i]);
+        let j = u32::from(x.lows[i]);
         if c != 0 {
-            w = block_splits_run(buf, w, rows, &pulses[at..end], c as u32, j as u32);
+            w = block_splits_run(buf, w, rows, &pulses[i * 16..i * 16 + 16], c, j);
         }
-        i += 1;
     }
     w
 }
@@ -50,19 +46,14 @@ fn lows(buf: &mut [u8], from: Enc, rows: &[u8], pulses: &[i16], x: Plan, n: usiz
     ensures { LowsTold (out buf.old from) x.counts x.lows pulses.now n (out buf.new result) }
 {
     let mut w = from;
-    let mut i: usize = 0;
-    while i < n {
-        let at = i * 16;
-        let end = at + 16;
-        let j = x.lows[i];
+    for i in 0..n {
         w = pulse_lows_write::block_lows_tell_run(
             buf,
             w,
             &rows[LOW_BIT..LOW_BIT_END],
-            &pulses[at..end],
-            j as u32,
+            &pulses[i * 16..i * 16 + 16],
+            u32::from(x.lows[i]),
         );
-        i += 1;
     }
     w
 }
@@ -77,16 +68,9 @@ fn signs(buf: &mut [u8], from: Enc, rows: &[u8], pulses: &[i16], x: Plan, f: Fra
     ensures { SignsTold (out buf.old from) x.counts x.lows pulses.now f.blocks f.signal f.offset
         (out buf.new result) }
 {
-    let n = f.blocks;
     let mut w = from;
-    let mut i: usize = 0;
-    while i < n {
-        let at = i * 16;
-        let end = at + 16;
-        let c = x.counts[i];
-        let j = x.lows[i];
-        w = block_signs_run(buf, w, rows, &pulses[at..end], c, j, f);
-        i += 1;
+    for i in 0..f.blocks {
+        w = block_signs_run(buf, w, rows, &pulses[i * 16..i * 16 + 16], x.counts[i], x.lows[i], f);
     }
     w
 }
@@ -111,12 +95,8 @@ pub fn silk_encode_pulses_run(
 {
     let n = f.blocks;
     let at = ((f.signal / 2) as usize) * 9;
-    let end = at + 9;
-    let a = entenc_run::ec_enc_icdf_run(buf, w, rate, &rows[at..end], 8);
-    let counts = x.counts;
-    let shifts = x.lows;
-    let level = rate as usize;
-    let c = pulse_counts_write::counts_tell_run(buf, a, rows, level, counts, shifts, n);
+    let a = entenc_run::ec_enc_icdf_run(buf, w, rate, &rows[at..at + 9], 8);
+    let c = pulse_counts_write::counts_tell_run(buf, a, rows, rate as usize, x.counts, x.lows, n);
     let s = splits(buf, c, rows, pulses, x, n);
     let l = lows(buf, s, rows, pulses, x, n);
     signs(buf, l, rows, pulses, x, f)
