@@ -38,20 +38,20 @@ pub fn silk_encode_pulses(
     match entenc_gate::gate(buf, w).and(rule) {
         Ok(()) => {
             let blocks = pulse_numbers::blocks_of_run(f.khz, f.subframes);
-            let x = pulse_shifts::plan_run(pulses, blocks);
-            if x.fits {
-                let rows = tables::rows::pulse_rows();
-                let frame = FrameNumbers {
-                    blocks,
-                    signal: f.signal,
-                    offset: f.offset,
-                };
-                let state = encode_pulses_run::silk_encode_pulses_run(
-                    buf, w, &rows, pulses, x, frame, rate,
-                );
-                Encoded::of(0, state)
-            } else {
-                Encoded::refused(Refusal::Value, w)
+            match pulse_shifts::plan_run(pulses, blocks) {
+                Some(x) => {
+                    let rows = tables::rows::pulse_rows();
+                    let frame = FrameNumbers {
+                        blocks,
+                        signal: f.signal,
+                        offset: f.offset,
+                    };
+                    let state = encode_pulses_run::silk_encode_pulses_run(
+                        buf, w, &rows, pulses, x, frame, rate,
+                    );
+                    Encoded::of(0, state)
+                }
+                None => Encoded::refused(Refusal::Value, w),
             }
         }
         Err(refusal) => Encoded::refused(refusal, w),

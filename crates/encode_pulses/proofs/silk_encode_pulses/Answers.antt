@@ -44,8 +44,8 @@ silk_encode_pulses_run-state-requires c =
     let m = k.own.frame.numbers in
     let few : c.blocks_of_run-blocks.result ≤ 20 =
     omega (arith, c.blocks_of_run-blocks.ensures, blocks_most f.khz f.subframes m.khz16 m.subframes4) in
-    let sized : length c.plan_run-x.result.lows ≡ 20 = search rules in
-    let x = c.plan_run-x in
+    let sized : length c.in-Some.result.lows ≡ 20 = search rules in
+    let x = c.in-Some in
     record {
       core = k.gate.core;
       total_bound = omega (arith, k.gate.low);
@@ -66,8 +66,8 @@ returns-then-x c =
     let m = k.own.frame.numbers in
     let few : c.blocks_of_run-blocks.result ≤ 20 =
     omega (arith, c.blocks_of_run-blocks.ensures, blocks_most f.khz f.subframes m.khz16 m.subframes4) in
-    let sized : length c.plan_run-x.result.lows ≡ 20 = search rules in
-    let x = c.plan_run-x in
+    let sized : length c.in-Some.result.lows ≡ 20 = search rules in
+    let x = c.in-Some in
     let r = c.silk_encode_pulses_run-state in
     let n = c.blocks_of_run-blocks.ensures in
     let t = c.if-x.true in
@@ -84,7 +84,7 @@ returns-else-x c =
     let o = out a.buf.now a.w in
     let e = sym (ap refusal_of c.in-Ok.is)
     ∙ and_refuses c.gate.result c.write_rule-rule.result c.and.ensures c.gate.ensures c.write_rule-rule.ensures in
-    let x = c.plan_run-x in
+    let x = c.in-Some in
     rw c.refused.ensures
     (pulses_unfit o a.pulses.now f.khz f.subframes f.signal f.offset a.rate 0 e refl
     (plan_fits _ _ a.pulses.now x.result.counts x.result.lows x.result.fits false x.ensures c.blocks_of_run-blocks.ensures c.if-x.false))
