@@ -70,7 +70,15 @@ fn signs(buf: &mut [u8], from: Enc, rows: &[u8], pulses: &[i16], x: Plan, f: Fra
 {
     let mut w = from;
     for i in 0..f.blocks {
-        w = block_signs_run(buf, w, rows, &pulses[i * 16..i * 16 + 16], x.counts[i], x.lows[i], f);
+        w = block_signs_run(
+            buf,
+            w,
+            rows,
+            &pulses[i * 16..i * 16 + 16],
+            x.counts[i],
+            x.lows[i],
+            f,
+        );
     }
     w
 }

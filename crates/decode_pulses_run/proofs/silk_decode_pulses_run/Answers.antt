@@ -24,8 +24,7 @@ counts_run-x-requires-clause-level_bound c =
 pub lows-l-requires-clause-n_bound : goal.lows-l-requires-clause-n_bound
 lows-l-requires-clause-n_bound c =
     let p = c.requires.n_bound in
-    let t = c.shells-s in
-    (
+    let t = c.shells-s in (
       p.0,
       c.counts_run-x.ensures.at_most.1,
       turned_held Small (λ w k. k.size) _ _ _ _ t.new.pulses _ c.args.n t.ensures (t.auto.pulses ∙ p.1),
@@ -34,8 +33,7 @@ lows-l-requires-clause-n_bound c =
 pub signs-requires-clause-blocks_bound : goal.signs-requires-clause-blocks_bound
 signs-requires-clause-blocks_bound c =
     let p = c.requires.n_bound in
-    let u = c.lows-l in
-    (
+    let u = c.lows-l in (
       p.0,
       p.2,
       p.3,

@@ -49,8 +49,7 @@ pub low_bits-a-requires-clause-m_bound : goal.low_bits-a-requires-clause-m_bound
 low_bits-a-requires-clause-m_bound c =
     let l = c.loop-k in
     let f : SFits w16 (get_or c.loop-k.places c.loop-k.k (pos 0)) = search rules in
-    let r = c.requires.natural in
-    (
+    let r = c.requires.natural in (
       rw (to_z-of_z f) (small _ _ c.args.places.now _ l.places l.d l.k l.invariant.going c.loop-k-test.true r.1 r.2),
       c.requires.row_value.1,
     )
