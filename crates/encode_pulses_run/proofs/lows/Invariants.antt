@@ -5,4 +5,6 @@ use Rattle.silk.proofs.PulseTelling.{LowsTelling}
 use Rattle.encode_pulses_run.proofs.lows.Given as goal
 
 abbrev pub invariant-loop-i : goal.invariant-loop-i
-invariant-loop-i l = LowsTelling (out l.fn.buf l.fn.from) l.x.counts l.x.lows l.pulses l.n (out l.buf l.w) l.i × (length l.buf ≡ length l.fn.buf)
+invariant-loop-i l =
+    LowsTelling (out l.fn.buf l.fn.from) l.x.counts l.x.lows l.pulses l.n (out l.buf l.w) l.i
+    × (length l.buf ≡ length l.fn.buf)

@@ -16,7 +16,8 @@ ec_dec_icdf8_run-a-requires-clause-icdf c = rw c.requires.row_value (row_good 12
 pub overflow_add-v : goal.overflow_add-v
 overflow_add-v c =
     let l = c.loop in
-    omega (arith, within l.v l.counter l.invariant.small (omega arith), c.ec_dec_icdf8_run-a.ensures.inside, ap length c.requires.row_value, low_bit_size)
+    let w = within l.v l.counter l.invariant.small (omega arith) in
+    omega (arith, w, c.ec_dec_icdf8_run-a.ensures.inside, ap length c.requires.row_value, low_bit_size)
 
 pub loop-preserved : goal.loop-preserved
 loop-preserved c =

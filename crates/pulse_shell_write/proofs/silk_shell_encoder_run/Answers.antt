@@ -13,7 +13,8 @@ use Rattle.pulse_shell_write.proofs.Said.{shell_told}
 use Rattle.pulse_shell_write.proofs.silk_shell_encoder_run.Goals as goal
 
 -- where the row of a part stands in the rows
-place : {rows : List ℕ} {start all left : ℕ} (q : Part) → PulseRows rows → Stored start all left q → Stands (58 + q.table * 16 + all_of q) rows start (all + 1)
+place : {rows : List ℕ} {start all left : ℕ} (q : Part) → PulseRows rows → Stored start all left q
+    → Stands (58 + q.table * 16 + all_of q) rows start (all + 1)
 place q r a = rw a.all_is (stands_in r.is a.stands)
 
 pub ec_enc_icdf_run-q-requires-clause-icdf : goal.ec_enc_icdf_run-q-requires-clause-icdf

@@ -1,5 +1,6 @@
 -- A block that no shift suits leaves the frame without a plan.
-use Rattle.std.proofs.Common.{◌≡◌, ◌+◌, ◌-◌, ◌*◌, ◌≤◌, ◌<◌, ◌∙◌, ℕ, List, [], length, take, drop, true, false, refl, sym, arith, add-one, length-set, length-drop}
+use Rattle.std.proofs.Common.{◌≡◌, ◌+◌, ◌-◌, ◌*◌, ◌≤◌, ◌<◌, ◌∙◌, ℕ, List, [], length, take, drop, true, false, refl, sym}
+use Rattle.std.proofs.Common.{arith, add-one, length-set, length-drop}
 use Prim.Native.Nat.{zero, suc}
 use mathlib.Core.Bool.{Bool, ◌&&◌}
 use lib.Dec.{leb}

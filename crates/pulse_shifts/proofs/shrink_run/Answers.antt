@@ -1,5 +1,6 @@
 -- The magnitude of this place, shifted, is at most the total.
-use Rattle.std.proofs.Common.{◌≡◌, ◌+◌, ◌/◌, ◌^◌, ◌<◌, ◌++◌, ◌∷◌, ◌∙◌, [], ℕ, List, length, get_or, take, pos, sym, ap, rules, arith, add-one, length-set}
+use Rattle.std.proofs.Common.{◌≡◌, ◌+◌, ◌/◌, ◌^◌, ◌<◌, ◌++◌, ◌∷◌, ◌∙◌, [], ℕ, List, length, get_or, take, pos, sym, ap}
+use Rattle.std.proofs.Common.{rules, arith, add-one, length-set}
 use mathlib.Core.Path.{ap₂}
 use lib.IntN.{ℤ, nat_abs}
 use lib.ListN.{set}
@@ -16,7 +17,8 @@ value : (j : ℕ) (p : List ℤ) (k m : ℕ) → m ≡ nat_abs (get_or p k (pos 
 value j p k m e = ap (λ (n : ℕ). n / 2 ^ j) e ∙ sym (shifted_at j p k)
 
 -- one place more
-grown : (s v : List ℕ) (k x : ℕ) → k < length s → k < length v → take k s ≡ take k v → x ≡ get_or v k 0 → take (k + 1) (set s k x) ≡ take (k + 1) v
+grown : (s v : List ℕ) (k x : ℕ) → k < length s → k < length v → take k s ≡ take k v → x ≡ get_or v k 0
+    → take (k + 1) (set s k x) ≡ take (k + 1) v
 grown s v k x h g e q =
     rw add-one
     (take-suc-set s k x h ∙ ap₂ (λ (a : List ℕ) (y : ℕ). a ++ (y ∷ [])) e q ∙ sym (take-suc v k 0 g))
