@@ -77,8 +77,8 @@ fn no_pulse(places: &[i16]) -> bool
     ensures { result ≡ true → places.now ≡ replicate (length places.now) (pos 0) }
 {
     let mut none = true;
-    for m in places {
-        none = (*m == 0) & none;
+    for k in (0..places.len()).rev() {
+        none = (places[k] == 0) & none;
     }
     none
 }

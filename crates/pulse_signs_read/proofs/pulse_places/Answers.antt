@@ -1,5 +1,5 @@
 -- A place more, by the test whether it is 0.
-use Rattle.std.proofs.Common.{◌≡◌, ◌+◌, ◌<◌, ◌≤◌, ◌∙◌, ℕ, length, get_or, refl, sym, ap, true, false, pos, rules, arith}
+use Rattle.std.proofs.Common.{◌≡◌, ◌+◌, ◌<◌, ◌≤◌, ℕ, length, get_or, refl, ap, true, false, pos, rules, arith}
 use Prim.Native.Nat.{zero, suc}
 use mathlib.Core.Bool.{Bool, not}
 use mathlib.Core.List.{List}
@@ -7,16 +7,12 @@ use borrow.Author.Tests.{eqb-true, eqb-false}
 use lib.Dec.{eqb}
 use lib.IntN.{ℤ, negsuc, nat_abs}
 use lib.ListN.{set}
-use mir.Facts.{to_z-of_z}
 use mir.Syntax.{w16}
-use mir.Val.{SFits, to_z, of_z, bool_byte}
+use mir.Val.{SFits, of_z, bool_byte}
 use Rattle.pulse_signs_read.specs.Inner.{mag, Gathered}
+use Rattle.pulse_signs_read.proofs.Bits.{zero_of}
 use Rattle.pulse_signs_read.proofs.Gathered.{gathered_none, gathered_some}
 use Rattle.pulse_signs_read.proofs.pulse_places.Goals as goal
-
--- the machine tests the bits of a number: they are all 0 where it is
-zero_of : (m : ℤ) → SFits w16 m → of_z w16 m ≡ 0 → m ≡ pos 0
-zero_of m f e = sym (to_z-of_z f) ∙ ap (to_z w16) e
 
 some : (m : ℤ) → (m ≡ pos 0 → ⊥) → 1 ≤ nat_abs m
 some (pos zero) h = absurd (h refl)
