@@ -72,7 +72,8 @@ fn all_signs(packet: &[u8], from: Dec, row: &[u8], places: &mut [i16]) -> Dec
     d
 }
 
-// Whether no place has a pulse: all are looked at, so that no jump depends on them.
+// Whether no place has a pulse: all are looked at, so that no jump depends on them. From the end: upward, a frame's pulses
+// took 3 % longer to read (x86-64).
 fn no_pulse(places: &[i16]) -> bool
     ensures { result ≡ true → places.now ≡ replicate (length places.now) (pos 0) }
 {
