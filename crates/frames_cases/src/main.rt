@@ -3,58 +3,32 @@
 // did not.
 #![tactic(auto)]
 
-ghost use Rattle.records.specs.Inner.{Placed, Parted};
-
-use reading::{read_agrees, reading_run};
-use records::calls::{READ_PULSES, WRITE_PULSES};
-use records::{FRAME_NUMBERS, Parts, Place, STATE_BYTES};
+use record_head::Record;
+use records::Left;
+use records::calls::FrameCall;
 use std::io;
-use writing::{write_agrees, writing_run};
 
 mod reading; // reading.rt: the calls that read
 mod writing; // writing.rt: the calls that write
 
-// Whether the record's call answers and leaves what it should.
-fn agrees(buf: &[u8], p: Place, s: Parts) -> bool
-    requires { Placed buf.now p × Parted buf.now s }
-{
-    let n = buf.len();
-    if n - s.at < FRAME_NUMBERS {
-        return false;
+// What the record's call leaves, where it answers and leaves what it should.
+fn agrees<'a>(record: Record<'a>, before: Left<'a>) -> Option<Left<'a>> {
+    match FrameCall::try_from(record.call).ok()? {
+        FrameCall::ReadIndices => reading::indices(record, before),
+        FrameCall::ReadPulses => reading::pulses(record, before),
+        FrameCall::WriteIndices => writing::indices(record, before),
+        FrameCall::WritePulses => writing::pulses(record, before),
     }
-    if n - s.state < STATE_BYTES {
-        return false;
-    }
-    let from = p.from;
-    let to = p.to;
-    let rest = s.rest;
-    let end = s.end;
-    if s.call <= READ_PULSES {
-        let c = reading_run(buf, s);
-        return read_agrees(c, &buf[from..to], &buf[rest..end]);
-    }
-    let left = s.from;
-    let right = s.to;
-    let c = writing_run(buf, s);
-    write_agrees(c, &buf[rest..end], &buf[from..to], &buf[left..right])
 }
 
-fn report(rt: &impl Print, p: Place) -> io::Result<()> {
-    records::report(
-        rt,
-        b"read indices\nread pulses\nwrite indices\nwrite pulses\n",
-        p,
-    )
-}
-
-fn replay(rt: &impl Print, buf: &[u8]) -> io::Result<()> {
-    let mut p = records::start();
-    while p.at < buf.len() {
-        let s = records::coded_run(buf, p, WRITE_PULSES, FRAME_NUMBERS);
-        let ok = agrees(buf, p, s);
-        p = records::after_run(buf, p, s, ok);
-    }
-    report(rt, p)
+fn replay(rt: &impl Print, file: &[u8]) -> io::Result<()> {
+    let names = [
+        "read indices",
+        "read pulses",
+        "write indices",
+        "write pulses",
+    ];
+    records::replay_run(rt, &names, file, agrees)
 }
 
 fn main(rt: HostRuntime) -> io::Result<()> {

@@ -1,24 +1,40 @@
 // Recorded calls that write a frame: each is asked once more, and compared with what it should answer and leave.
-ghost use Rattle.std.specs.Prelude.{◌+◌, ◌*◌, ◌≤◌, length};
-
 use entcode::{Enc, Encoded};
-use record_bytes::numbers::value;
-use record_bytes::slices::{fill_run, fill_up};
-use record_frames::{Numbers, indices_run, kept_run, numbers_run};
-use record_states::{encoded_run, same_encoded, writer_run};
-use records::{ANSWER_BYTES, Parts};
+use record_bytes::numbers::{Unread, fill};
+use record_frames::{Kept, Numbers, call_numbers, kept_for_next, side_indices};
+use record_head::Record;
+use record_states::{writer_answer, writer_state};
+use records::Left;
 use silk::{Indices, IndicesWritten};
 
-// What is asked, and what it should answer.
+// What is asked of a buffer, and what it should answer and leave.
 #[derive(Clone, Copy)]
-pub struct Writing {
-    pub call: u8,
-    pub numbers: Numbers,
-    pub given: Enc,
-    pub should: Encoded,
+struct Writing<'a> {
+    buffer: &'a [u8],
+    given: Enc,
+    numbers: Numbers,
+    besides: &'a [u8],
+    should: Encoded,
+    left: Left<'a>,
 }
 
-fn write_indices(c: Writing, lent: &mut [u8], x: Indices, prevlag: i16) -> IndicesWritten {
+fn writing_of<'a>(record: Record<'a>, before: Left<'a>) -> Option<Writing<'a>> {
+    let mut body = Unread { left: record.body };
+    let should = writer_answer(&mut body)?;
+    let numbers = call_numbers(&mut body)?;
+    let mut parts = records::coded(record, body, before)?;
+    let given = writer_state(&mut parts.state)?;
+    Some(Writing {
+        buffer: before.bytes,
+        given,
+        numbers,
+        besides: parts.besides,
+        should,
+        left: parts.left,
+    })
+}
+
+fn write_indices(c: Writing<'_>, lent: &mut [u8], x: Indices, prevlag: i16) -> IndicesWritten {
     let n = c.numbers;
     tignarops::tg_encode_indices(
         lent,
@@ -33,7 +49,7 @@ fn write_indices(c: Writing, lent: &mut [u8], x: Indices, prevlag: i16) -> Indic
     )
 }
 
-fn write_pulses(c: Writing, lent: &mut [u8], pulses: &[i16]) -> Encoded {
+fn write_pulses(c: Writing<'_>, lent: &mut [u8], pulses: &[i16]) -> Encoded {
     let n = c.numbers;
     tignarops::tg_encode_pulses(
         lent,
@@ -47,82 +63,44 @@ fn write_pulses(c: Writing, lent: &mut [u8], pulses: &[i16]) -> Encoded {
     )
 }
 
-// Whether writing the side indices of 36 bytes answers what it should, and keeps the 6 bytes behind them.
-fn indices_written_run(c: Writing, lent: &mut [u8], given: &[u8]) -> bool
-    requires { 42 ≤ length given.now }
-{
-    let prevlag = value(given[34], given[35]);
-    let kept = kept_run(given, 36);
-    let x = indices_run(given);
-    let a = write_indices(c, lent, x, prevlag);
-    let state = a.state;
+// The call is given side indices and the previous lag; what it should keep stands behind.
+pub(super) fn indices<'a>(record: Record<'a>, before: Left<'a>) -> Option<Left<'a>> {
+    let c = writing_of(record, before)?;
+    let mut besides = Unread { left: c.besides };
+    let given = side_indices(&mut besides)?;
+    let prevlag = besides.value()?;
+    let kept = kept_for_next(&mut besides)?;
+    if !besides.left.is_empty() {
+        return None;
+    }
+    let mut space = [0u8; 1276];
+    let lent = space.get_mut(..c.buffer.len())?;
+    lent.copy_from_slice(c.buffer);
+    let a = write_indices(c, lent, given, prevlag);
     let answer = Encoded {
         refusal: a.refusal,
         value: 0,
-        state: state,
+        state: a.state,
     };
-    same_encoded(answer, c.should) & (a.prevtype == kept.prevtype) & (a.prevlag == kept.prevlag)
+    let keeps = Kept {
+        prevtype: a.prevtype,
+        prevlag: a.prevlag,
+    };
+    (answer == c.should && keeps == kept && lent[..] == c.left.bytes[..]).then_some(c.left)
 }
 
-// Whether writing these pulses answers what it should.
-fn pulses_written_run(c: Writing, lent: &mut [u8], pulses: &mut [i16], given: &[u8]) -> bool
-    requires { 2 * length pulses.old ≤ length given.now }
-{
-    fill_run(pulses, given);
-    let a = write_pulses(c, lent, pulses);
-    same_encoded(a, c.should)
-}
-
-fn pulses_written_in_run(c: Writing, lent: &mut [u8], given: &[u8]) -> bool
-    requires { length given.now ≤ 642 }
-{
+// The call is given pulses. A frame has at most 320.
+pub(super) fn pulses<'a>(record: Record<'a>, before: Left<'a>) -> Option<Left<'a>> {
+    let c = writing_of(record, before)?;
+    if 642 < c.besides.len() {
+        return None;
+    }
     let mut space = [0i16; 321];
-    let m = given.len() / 2;
-    pulses_written_run(c, lent, &mut space[0..m], given)
-}
-
-// Whether the call on the lent buffer answers what it should.
-fn written(c: Writing, lent: &mut [u8], given: &[u8]) -> bool {
-    if c.call == records::calls::WRITE_INDICES {
-        if given.len() == 42 {
-            return indices_written_run(c, lent, given);
-        }
-        return false;
-    }
-    if 642 < given.len() {
-        return false;
-    }
-    pulses_written_in_run(c, lent, given)
-}
-
-// Whether it does on a lent copy of `before`, and leaves `after`.
-fn leaves(c: Writing, lent: &mut [u8], given: &[u8], before: &[u8], after: &[u8]) -> bool {
-    fill_up(lent, before, 0);
-    let ok = written(c, lent, given);
-    let left = fill_up(lent, after, 0);
-    ok & (after.len() == before.len()) & left
-}
-
-pub fn write_agrees(c: Writing, given: &[u8], before: &[u8], after: &[u8]) -> bool {
+    let pulses = space.get_mut(..c.besides.len() / 2)?;
+    fill(pulses, c.besides);
     let mut space = [0u8; 1276];
-    let m = before.len();
-    if 1276 < m {
-        return false;
-    }
-    leaves(c, &mut space[0..m], given, before, after)
-}
-
-// The call of a record.
-pub fn writing_run(buf: &[u8], s: Parts) -> Writing
-    requires { (s.at + 72 ≤ length buf.now) × (s.state + 44 ≤ length buf.now) }
-{
-    let numbers = numbers_run(buf, s.at + ANSWER_BYTES);
-    let given = writer_run(buf, s.state);
-    let should = encoded_run(buf, s.at);
-    Writing {
-        call: s.call,
-        numbers: numbers,
-        given: given,
-        should: should,
-    }
+    let lent = space.get_mut(..c.buffer.len())?;
+    lent.copy_from_slice(c.buffer);
+    let answer = write_pulses(c, lent, pulses);
+    (answer == c.should && lent[..] == c.left.bytes[..]).then_some(c.left)
 }

@@ -3,68 +3,42 @@
 // of the first that did not.
 #![tactic(auto)]
 
-ghost use Rattle.records.specs.Inner.{Placed, Parted};
-
 use entcode::{Dec, Decoded};
-use record_bytes::numbers::word_run;
-use record_states::{decoded_run, reader_run};
-use records::calls::{ACCOUNT, BIT, BITS, NUMBER, OPEN, TABLE};
-use records::{ANSWER_BYTES, Parts, Place, READER_NUMBERS, STATE_BYTES};
+use record_bytes::numbers::Unread;
+use record_head::Record;
+use record_states::{reader_answer, reader_state};
+use records::Left;
+use records::calls::CoderCall;
 use std::io;
 
-fn ask(call: u8, packet: &[u8], d: Dec, number: u32, table: &[u8]) -> Decoded {
-    if call == OPEN {
-        return tignarops::tg_dec_open(packet);
+// A reader has no call that finishes.
+fn ask(call: CoderCall, packet: &[u8], d: Dec, number: u32, table: &[u8]) -> Option<Decoded> {
+    match call {
+        CoderCall::Open => Some(tignarops::tg_dec_open(packet)),
+        CoderCall::Account => Some(tignarops::tg_dec_account(packet, d)),
+        CoderCall::Bit => Some(tignarops::tg_dec_bit(packet, d, number)),
+        CoderCall::Table => Some(tignarops::tg_dec_icdf(packet, d, table, number)),
+        CoderCall::Number => Some(tignarops::tg_dec_uint(packet, d, number)),
+        CoderCall::Bits => Some(tignarops::tg_dec_bits(packet, d, number)),
+        CoderCall::Finish => None,
     }
-    if call == ACCOUNT {
-        return tignarops::tg_dec_account(packet, d);
-    }
-    if call == BIT {
-        return tignarops::tg_dec_bit(packet, d, number);
-    }
-    if call == TABLE {
-        return tignarops::tg_dec_icdf(packet, d, table, number);
-    }
-    if call == NUMBER {
-        return tignarops::tg_dec_uint(packet, d, number);
-    }
-    tignarops::tg_dec_bits(packet, d, number)
 }
 
-// Whether the record's call answers as it should.
-fn agrees(buf: &[u8], p: Place, s: Parts) -> bool
-    requires { Placed buf.now p × Parted buf.now s }
-{
-    let n = buf.len();
-    if n - s.at < READER_NUMBERS {
-        return false;
-    }
-    if n - s.state < STATE_BYTES {
-        return false;
-    }
-    let from = p.from;
-    let to = p.to;
-    let rest = s.rest;
-    let end = s.end;
-    let d = reader_run(buf, s.state);
-    let number = word_run(buf, s.at + ANSWER_BYTES);
-    let should = decoded_run(buf, s.at);
-    let a = ask(s.call, &buf[from..to], d, number, &buf[rest..end]);
-    record_states::same_decoded(a, should)
+// What the record's call leaves, where it answers as it should.
+fn agrees<'a>(record: Record<'a>, before: Left<'a>) -> Option<Left<'a>> {
+    let call = CoderCall::try_from(record.call).ok()?;
+    let mut numbers = Unread { left: record.body };
+    let should = reader_answer(&mut numbers)?;
+    let number = numbers.word()?;
+    let mut parts = records::coded(record, numbers, before)?;
+    let given = reader_state(&mut parts.state)?;
+    let answer = ask(call, before.bytes, given, number, parts.besides)?;
+    (answer == should).then_some(parts.left)
 }
 
-fn report(rt: &impl Print, p: Place) -> io::Result<()> {
-    records::report(rt, b"open\naccount\nbit\ntable\nnumber\nbits\n", p)
-}
-
-fn replay(rt: &impl Print, buf: &[u8]) -> io::Result<()> {
-    let mut p = records::start();
-    while p.at < buf.len() {
-        let s = records::coded_run(buf, p, BITS, READER_NUMBERS);
-        let ok = agrees(buf, p, s);
-        p = records::after_run(buf, p, s, ok);
-    }
-    report(rt, p)
+fn replay(rt: &impl Print, file: &[u8]) -> io::Result<()> {
+    let names = ["open", "account", "bit", "table", "number", "bits"];
+    records::replay_run(rt, &names, file, agrees)
 }
 
 fn main(rt: HostRuntime) -> io::Result<()> {

@@ -1,72 +1,47 @@
 // The side indices of a frame, what is kept for the next, and the numbers of a call, by the bytes of a record
-// (docs/RECORDED.md, "Layout").
+// (docs/RECORDED.md, "Layout"). None where too few are left.
 #![tactic(auto)]
 
-ghost use Rattle.std.specs.Prelude.{◌+◌, ◌≤◌, length};
+ghost use Rattle.std.specs.Prelude.{◌≡◌, ◌+◌, length, IfSome};
 
-use record_bytes::numbers::{small, value, word_run};
-use record_bytes::slices::{fill_small_run, same_small};
+use record_bytes::numbers::Unread;
 use silk::Indices;
 
-// ---- side indices, 34 bytes
+// ---- side indices
 
-pub fn indices_run(bytes: &[u8]) -> Indices
-    requires { 34 ≤ length bytes.now }
+pub fn side_indices(bytes: &mut Unread<'_>) -> Option<Indices>
+    ensures { IfSome result (λ _. length bytes.new.left.now + 34 ≡ length bytes.old.left.now) }
 {
-    let mut gains = [0i8; 4];
-    let mut ltp = [0i8; 4];
-    let mut nlsf = [0i8; 17];
-    fill_small_run(&mut gains, &bytes[0..4]);
-    fill_small_run(&mut ltp, &bytes[4..8]);
-    fill_small_run(&mut nlsf, &bytes[8..25]);
-    Indices {
-        gains: gains,
-        ltp: ltp,
-        nlsf: nlsf,
-        lag: value(bytes[25], bytes[26]),
-        contour: small(bytes[27]),
-        signal: small(bytes[28]),
-        offset: small(bytes[29]),
-        interp: small(bytes[30]),
-        period: small(bytes[31]),
-        scale: small(bytes[32]),
-        seed: small(bytes[33]),
-    }
+    Some(Indices {
+        gains: bytes.smalls()?,
+        ltp: bytes.smalls()?,
+        nlsf: bytes.smalls()?,
+        lag: bytes.value()?,
+        contour: bytes.small()?,
+        signal: bytes.small()?,
+        offset: bytes.small()?,
+        interp: bytes.small()?,
+        period: bytes.small()?,
+        scale: bytes.small()?,
+        seed: bytes.small()?,
+    })
 }
 
-// Whether these are the side indices that the bytes hold.
-pub fn same_indices_run(x: Indices, bytes: &[u8]) -> bool
-    requires { 34 ≤ length bytes.now }
-{
-    let y = indices_run(bytes);
-    same_small(&x.gains, &bytes[0..4])
-        & same_small(&x.ltp, &bytes[4..8])
-        & same_small(&x.nlsf, &bytes[8..25])
-        & (x.lag == y.lag)
-        & (x.contour == y.contour)
-        & (x.signal == y.signal)
-        & (x.offset == y.offset)
-        & (x.interp == y.interp)
-        & (x.period == y.period)
-        & (x.scale == y.scale)
-        & (x.seed == y.seed)
-}
+// ---- what is kept for the next frame
 
-// ---- what is kept for the next frame, 6 bytes
-
-#[derive(Clone, Copy)]
+#[derive(Clone, Copy, PartialEq, Eq)]
 pub struct Kept {
     pub prevtype: u32,
     pub prevlag: i16,
 }
 
-pub fn kept_run(bytes: &[u8], at: usize) -> Kept
-    requires { at + 6 ≤ length bytes.now }
+pub fn kept_for_next(bytes: &mut Unread<'_>) -> Option<Kept>
+    ensures { IfSome result (λ _. length bytes.new.left.now + 6 ≡ length bytes.old.left.now) }
 {
-    Kept {
-        prevtype: word_run(bytes, at),
-        prevlag: value(bytes[at + 4], bytes[at + 5]),
-    }
+    Some(Kept {
+        prevtype: bytes.word()?,
+        prevlag: bytes.value()?,
+    })
 }
 
 // ---- the numbers of a call
@@ -81,14 +56,14 @@ pub struct Numbers {
     pub fifth: u32,
 }
 
-pub fn numbers_run(buf: &[u8], at: usize) -> Numbers
-    requires { at + 20 ≤ length buf.now }
+pub fn call_numbers(bytes: &mut Unread<'_>) -> Option<Numbers>
+    ensures { IfSome result (λ _. length bytes.new.left.now + 20 ≡ length bytes.old.left.now) }
 {
-    Numbers {
-        khz: word_run(buf, at),
-        subframes: word_run(buf, at + 4),
-        third: word_run(buf, at + 8),
-        fourth: word_run(buf, at + 12),
-        fifth: word_run(buf, at + 16),
-    }
+    Some(Numbers {
+        khz: bytes.word()?,
+        subframes: bytes.word()?,
+        third: bytes.word()?,
+        fourth: bytes.word()?,
+        fifth: bytes.word()?,
+    })
 }

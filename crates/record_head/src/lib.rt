@@ -1,49 +1,61 @@
-// What a record begins with (docs/RECORDED.md, "Layout").
+// What a record begins with (docs/RECORDED.md, "Layout"), and one record after the other.
 #![tactic(auto)]
 
-ghost use Rattle.std.specs.Prelude.{◌<◌, length};
-ghost use Rattle.record_head.specs.Inner.{Within};
+ghost use Rattle.std.specs.Prelude.{◌<◌, length, IfSome};
+ghost use Rattle.std.specs.Iterator.{at_most};
 
-use record_bytes::numbers::half;
-
-// How many bytes a record begins with: its size, its call, how the call is given.
+// How many bytes a record begins with: the number of those behind them, its call, how the call is given.
 const HEAD_BYTES: usize = 4;
 
-// The call of a record that breaks the layout.
-pub const BROKEN: u8 = 255;
-
-// What a record begins with, and where the rest of it stands.
 #[derive(Clone, Copy)]
-pub struct Head {
+pub struct Record<'a> {
     pub call: u8,
     pub how: u8,
-    pub at: usize,
-    pub end: usize,
+    pub body: &'a [u8],
 }
 
-// The record at a place; nothing where it is cut short.
-pub fn head_run(buf: &[u8], place: usize) -> Head
-    requires { place < length buf.now }
-    ensures { Within buf.now place result }
+// A record's bytes end before it does.
+#[derive(Clone, Copy, PartialEq, Eq)]
+pub struct CutShort;
+
+fn first(file: &[u8]) -> Option<(Record<'_>, &[u8])>
+    ensures { IfSome result (λ x. length x.1.now < length file.now) }
 {
-    let n = buf.len();
-    let mut h = Head {
-        call: BROKEN,
-        how: 0,
-        at: n,
-        end: n,
+    let (head, rest) = file.split_at_checked(HEAD_BYTES)?;
+    let size = u16::from_le_bytes([head[0], head[1]]);
+    let (body, behind) = rest.split_at_checked(usize::from(size))?;
+    let record = Record {
+        call: head[2],
+        how: head[3],
+        body,
     };
-    if n - place < HEAD_BYTES {
-        return h;
+    Some((record, behind))
+}
+
+// The records of a file. One that is cut short is the last.
+#[derive(Clone, Copy)]
+pub struct Records<'a> {
+    pub file: &'a [u8],
+}
+
+impl<'a> Iterator for Records<'a> {
+    type Item = Result<Record<'a>, CutShort>;
+
+    ghost remaining = { λ s. at_most (length s.file.now) };
+
+    fn next(&mut self) -> Option<Result<Record<'a>, CutShort>> {
+        if self.file.is_empty() {
+            return None;
+        }
+        match first(self.file) {
+            Some((record, behind)) => {
+                self.file = behind;
+                Some(Ok(record))
+            }
+            None => {
+                self.file = &[];
+                Some(Err(CutShort))
+            }
+        }
     }
-    let size = half(buf[place], buf[place + 1]);
-    let at = place + HEAD_BYTES;
-    if n - at < size {
-        return h;
-    }
-    h.call = buf[place + 2];
-    h.how = buf[place + 3];
-    h.at = at;
-    h.end = at + size;
-    h
 }

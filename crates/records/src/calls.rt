@@ -1,39 +1,92 @@
-// The numbers of recorded calls (docs/RECORDED.md, "Layout"): each program counts its own from 1.
+// The recorded calls by their numbers (docs/RECORDED.md, "Layout"): each program counts its own from 1.
 
-// ---- of a reader and of a writer
+// The number of none of the program's calls.
+#[derive(Clone, Copy, PartialEq, Eq)]
+pub struct Unknown;
 
-pub const OPEN: u8 = 1;
+// On a reader, which has no call that finishes, and on a writer.
+#[derive(Clone, Copy, PartialEq, Eq)]
+pub enum CoderCall {
+    Open,
+    Account,
+    Bit,
+    Table,
+    Number,
+    Bits,
+    Finish,
+}
 
-pub const ACCOUNT: u8 = 2;
+impl TryFrom<u8> for CoderCall {
+    type Error = Unknown;
 
-pub const BIT: u8 = 3;
+    fn try_from(number: u8) -> Result<CoderCall, Unknown> {
+        match number {
+            1 => Ok(CoderCall::Open),
+            2 => Ok(CoderCall::Account),
+            3 => Ok(CoderCall::Bit),
+            4 => Ok(CoderCall::Table),
+            5 => Ok(CoderCall::Number),
+            6 => Ok(CoderCall::Bits),
+            7 => Ok(CoderCall::Finish),
+            _ => Err(Unknown),
+        }
+    }
+}
 
-pub const TABLE: u8 = 4;
+#[derive(Clone, Copy, PartialEq, Eq)]
+pub enum FrameCall {
+    ReadIndices,
+    ReadPulses,
+    WriteIndices,
+    WritePulses,
+}
 
-pub const NUMBER: u8 = 5;
+impl TryFrom<u8> for FrameCall {
+    type Error = Unknown;
 
-pub const BITS: u8 = 6;
+    fn try_from(number: u8) -> Result<FrameCall, Unknown> {
+        match number {
+            1 => Ok(FrameCall::ReadIndices),
+            2 => Ok(FrameCall::ReadPulses),
+            3 => Ok(FrameCall::WriteIndices),
+            4 => Ok(FrameCall::WritePulses),
+            _ => Err(Unknown),
+        }
+    }
+}
 
-pub const FINISH: u8 = 7;
+#[derive(Clone, Copy, PartialEq, Eq)]
+pub enum SpectraCall {
+    Decode,
+    Stabilise,
+}
 
-// ---- on frames
+impl TryFrom<u8> for SpectraCall {
+    type Error = Unknown;
 
-pub const READ_INDICES: u8 = 1;
+    fn try_from(number: u8) -> Result<SpectraCall, Unknown> {
+        match number {
+            1 => Ok(SpectraCall::Decode),
+            2 => Ok(SpectraCall::Stabilise),
+            _ => Err(Unknown),
+        }
+    }
+}
 
-pub const READ_PULSES: u8 = 2;
+#[derive(Clone, Copy, PartialEq, Eq)]
+pub enum ProgramCall {
+    FrameLister,
+    NlsfStabiliser,
+}
 
-pub const WRITE_INDICES: u8 = 3;
+impl TryFrom<u8> for ProgramCall {
+    type Error = Unknown;
 
-pub const WRITE_PULSES: u8 = 4;
-
-// ---- on line spectra
-
-pub const DECODE: u8 = 1;
-
-pub const STABILISE: u8 = 2;
-
-// ---- of the programs
-
-pub const FRAME_LISTER: u8 = 1;
-
-pub const NLSF_STABILISER: u8 = 2;
+    fn try_from(number: u8) -> Result<ProgramCall, Unknown> {
+        match number {
+            1 => Ok(ProgramCall::FrameLister),
+            2 => Ok(ProgramCall::NlsfStabiliser),
+            _ => Err(Unknown),
+        }
+    }
+}

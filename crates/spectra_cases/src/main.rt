@@ -3,146 +3,76 @@
 // of the first that did not.
 #![tactic(auto)]
 
-ghost use Rattle.std.specs.Prelude.{◌+◌, ◌*◌, ◌≤◌, ◌≡◌, length};
-ghost use Rattle.records.specs.Inner.{Parted};
-
-use record_bytes::numbers::word_run;
-use record_bytes::slices::fill_run;
-use records::calls::DECODE;
-use records::{ANSWER_BYTES, Parts, Place, READER_NUMBERS, STATE_BYTES};
+use record_bytes::numbers::{Unread, fill};
+use record_head::Record;
+use records::calls::SpectraCall;
+use records::{Left, STATE_BYTES};
 use spectrum::{Moves, Spectrum};
 use std::io;
 
 // ---- one call
 
-// The 17 indices.
-fn indices(bytes: &[u8]) -> Spectrum
-    requires { 17 ≤ length bytes.now }
-{
-    let mut index = [0i8; 17];
-    record_bytes::slices::fill_small_run(&mut index, bytes);
-    Spectrum { index: index }
-}
-
-fn stabilise_in(vector: &mut [i16], gaps: &mut [i16], tail: &[u8]) -> Moves
-    requires { 2 * length gaps.old ≤ length tail.now }
-{
-    fill_run(gaps, tail);
-    nlsf_stabilize::silk_NLSF_stabilize(vector, gaps)
-}
-
-fn stabilise(vector: &mut [i16], tail: &[u8]) -> Moves
-    requires { length tail.now ≤ 36 }
-{
-    let mut space = [0i16; 18];
-    let m = tail.len() / 2;
-    stabilise_in(vector, &mut space[0..m], tail)
-}
-
-// Decoding has 17 indices.
-fn ask(call: u8, vector: &mut [i16], khz: u32, tail: &[u8]) -> Moves
-    requires { length tail.now ≤ 36 }
-{
-    if call == DECODE {
-        if tail.len() == 17 {
-            let s = indices(tail);
-            return nlsf_decode::silk_NLSF_decode(vector, s, khz);
-        }
+// By the 17 indices.
+fn decode(vector: &mut [i16], khz: u32, indices: &[u8]) -> Option<Moves> {
+    if indices.len() != 17 {
+        return None;
     }
-    stabilise(vector, tail)
+    let index = Unread { left: indices }.smalls()?;
+    Some(nlsf_decode::silk_NLSF_decode(vector, Spectrum { index }, khz))
 }
 
-// Whether the call on the vector `before` answers what it should, and leaves `after`.
-fn leaves(
-    call: u8,
-    vector: &mut [i16],
-    khz: u32,
-    should: Moves,
-    before: &[u8],
-    after: &[u8],
-    tail: &[u8],
-) -> bool
-    requires tail_len_bound { length tail.now ≤ 36 }
-    requires vector_in_bounds { (2 * length vector.old ≤ length before.now) × (2 * length vector.old ≤ length after.now) }
-{
-    fill_run(vector, before);
-    let a = ask(call, vector, khz, tail);
-    let left = fill_run(vector, after);
-    (a.refusal == should.refusal) & ((a.moves == should.moves) & left)
-}
-
-fn leaves_in(call: u8, khz: u32, should: Moves, before: &[u8], after: &[u8], tail: &[u8]) -> bool
-    requires tail_len_bound { length tail.now ≤ 36 }
-    requires before_len_bound { (length before.now ≤ 34) × (length after.now ≡ length before.now) }
-{
-    let mut space = [0i16; 17];
-    let n = before.len() / 2;
-    leaves(call, &mut space[0..n], khz, should, before, after, tail)
+// By the gaps, of which there are 18 at most.
+fn stabilise(vector: &mut [i16], gaps: &[u8]) -> Option<Moves> {
+    if 36 < gaps.len() {
+        return None;
+    }
+    let mut space = [0i16; 18];
+    let lent = space.get_mut(..gaps.len() / 2)?;
+    fill(lent, gaps);
+    Some(nlsf_stabilize::silk_NLSF_stabilize(vector, lent))
 }
 
 // ---- one record
 
-// The call of a record with vectors of m bytes and at most 36 bytes behind its state.
-fn leaves_at(buf: &[u8], s: Parts, m: usize) -> bool
-    requires at_in_bounds { (s.at + 56 ≤ length buf.now) × (s.state + 44 ≤ length buf.now) × (m ≤ 34) }
-    requires rest_le_end { (s.rest ≤ s.end) × (s.end ≤ length buf.now) × (s.end ≤ s.rest + 36) }
-{
-    let given = s.state + 4;
-    let left = s.at + 12;
-    let rest = s.rest;
-    let end = s.end;
-    let should = Moves {
-        refusal: word_run(buf, s.at),
-        moves: word_run(buf, s.at + 4),
+// The bytes of the vector that stands in a state, of 17 values at most.
+fn vector_of<'a>(state: &mut Unread<'a>) -> Option<&'a [u8]> {
+    let mut vector = Unread {
+        left: state.bytes(STATE_BYTES)?,
     };
-    let khz = word_run(buf, s.at + ANSWER_BYTES);
-    leaves_in(
-        s.call,
-        khz,
-        should,
-        &buf[given..given + m],
-        &buf[left..left + m],
-        &buf[rest..end],
-    )
-}
-
-// Whether the record's call answers and leaves what it should.
-fn agrees(buf: &[u8], s: Parts) -> bool
-    requires { Parted buf.now s }
-{
-    let n = buf.len();
-    if n - s.at < READER_NUMBERS {
-        return false;
-    }
-    if n - s.state < STATE_BYTES {
-        return false;
-    }
-    let count = word_run(buf, s.state);
+    let count = vector.word()?;
     if 17 < count {
-        return false;
+        return None;
     }
-    let size = s.end - s.rest;
-    if 36 < size {
-        return false;
-    }
-    if (word_run(buf, s.at + 8) != count) | ((s.call == DECODE) & (size != 17)) {
-        return false;
-    }
-    leaves_at(buf, s, 2 * (count as usize))
+    vector.bytes(2 * count as usize)
 }
 
-fn report(rt: &impl Print, p: Place) -> io::Result<()> {
-    records::report(rt, b"decode\nstabilise\n", p)
+// What the record's call leaves, where it answers and leaves what it should.
+fn agrees<'a>(record: Record<'a>, before: Left<'a>) -> Option<Left<'a>> {
+    let call = SpectraCall::try_from(record.call).ok()?;
+    let mut numbers = Unread { left: record.body };
+    let should = Moves {
+        refusal: numbers.word()?,
+        moves: numbers.word()?,
+    };
+    let after = vector_of(&mut numbers)?;
+    let khz = numbers.word()?;
+    let mut parts = records::coded(record, numbers, before)?;
+    let given = vector_of(&mut parts.state)?;
+    let mut space = [0i16; 17];
+    let vector = space.get_mut(..given.len() / 2)?;
+    fill(vector, given);
+    let answer = match call {
+        SpectraCall::Decode => decode(vector, khz, parts.besides)?,
+        SpectraCall::Stabilise => stabilise(vector, parts.besides)?,
+    };
+    let mut space = [0i16; 17];
+    let left = space.get_mut(..after.len() / 2)?;
+    fill(left, after);
+    (answer == should && vector[..] == left[..]).then_some(parts.left)
 }
 
-fn replay(rt: &impl Print, buf: &[u8]) -> io::Result<()> {
-    let mut p = records::start();
-    while p.at < buf.len() {
-        let s = records::coded_run(buf, p, records::calls::STABILISE, READER_NUMBERS);
-        let ok = agrees(buf, s);
-        p = records::after_run(buf, p, s, ok);
-    }
-    report(rt, p)
+fn replay(rt: &impl Print, file: &[u8]) -> io::Result<()> {
+    records::replay_run(rt, &["decode", "stabilise"], file, agrees)
 }
 
 fn main(rt: HostRuntime) -> io::Result<()> {

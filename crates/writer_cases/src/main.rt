@@ -3,116 +3,60 @@
 // of the first that did not.
 #![tactic(auto)]
 
-ghost use Rattle.std.specs.Prelude.{◌+◌, ◌≤◌, length};
-ghost use Rattle.record_states.specs.Inner.{state_bytes};
-ghost use Rattle.records.specs.Inner.{Placed, Parted};
-
 use entcode::{Enc, Encoded};
-use record_bytes::numbers::word_run;
-use record_bytes::slices::fill_up;
-use record_states::{encoded_run, writer_run};
-use records::calls::{ACCOUNT, BIT, BITS, FINISH, NUMBER, OPEN, TABLE};
-use records::{ANSWER_BYTES, Parts, Place, STATE_BYTES, WRITER_NUMBERS};
+use record_bytes::numbers::Unread;
+use record_head::Record;
+use record_states::{writer_answer, writer_state};
+use records::Left;
+use records::calls::CoderCall;
 use std::io;
 
-// What is asked, and what it should answer.
+// What a call is asked besides its state and its table.
 #[derive(Clone, Copy)]
-struct Call {
-    call: u8,
+struct Asked {
+    call: CoderCall,
     number: u32,
     value: u32,
-    given: Enc,
-    should: Encoded,
 }
 
-fn ask(c: Call, lent: &mut [u8], table: &[u8]) -> Encoded {
-    let w = c.given;
-    if c.call == OPEN {
-        return tignarops::tg_enc_open(lent);
+fn ask(c: Asked, lent: &mut [u8], w: Enc, table: &[u8]) -> Encoded {
+    match c.call {
+        CoderCall::Open => tignarops::tg_enc_open(lent),
+        CoderCall::Account => tignarops::tg_enc_account(lent, w),
+        CoderCall::Bit => tignarops::tg_enc_bit(lent, w, c.value, c.number),
+        CoderCall::Table => tignarops::tg_enc_icdf(lent, w, c.value, table, c.number),
+        CoderCall::Number => tignarops::tg_enc_uint(lent, w, c.value, c.number),
+        CoderCall::Bits => tignarops::tg_enc_bits(lent, w, c.value, c.number),
+        CoderCall::Finish => tignarops::tg_enc_done(lent, w),
     }
-    if c.call == ACCOUNT {
-        return tignarops::tg_enc_account(lent, w);
-    }
-    if c.call == BIT {
-        return tignarops::tg_enc_bit(lent, w, c.value, c.number);
-    }
-    if c.call == TABLE {
-        return tignarops::tg_enc_icdf(lent, w, c.value, table, c.number);
-    }
-    if c.call == NUMBER {
-        return tignarops::tg_enc_uint(lent, w, c.value, c.number);
-    }
-    if c.call == BITS {
-        return tignarops::tg_enc_bits(lent, w, c.value, c.number);
-    }
-    tignarops::tg_enc_done(lent, w)
 }
 
-// Whether the call on a lent copy of `before` answers what it should, and leaves `after`.
-fn leaves(c: Call, lent: &mut [u8], table: &[u8], before: &[u8], after: &[u8]) -> bool {
-    fill_up(lent, before, 0);
-    let a = ask(c, lent, table);
-    let left = fill_up(lent, after, 0);
-    record_states::same_encoded(a, c.should) & (after.len() == before.len()) & left
-}
-
-fn leaves_in(c: Call, table: &[u8], before: &[u8], after: &[u8]) -> bool {
+// What the record's call leaves, where it answers and leaves what it should.
+fn agrees<'a>(record: Record<'a>, before: Left<'a>) -> Option<Left<'a>> {
+    let call = CoderCall::try_from(record.call).ok()?;
+    let mut numbers = Unread { left: record.body };
+    let should = writer_answer(&mut numbers)?;
+    let number = numbers.word()?;
+    let value = numbers.word()?;
+    let mut parts = records::coded(record, numbers, before)?;
+    let given = writer_state(&mut parts.state)?;
     let mut space = [0u8; 1276];
-    let n = before.len();
-    if 1276 < n {
-        return false;
-    }
-    leaves(c, &mut space[0..n], table, before, after)
+    let lent = space.get_mut(..before.bytes.len())?;
+    lent.copy_from_slice(before.bytes);
+    let asked = Asked {
+        call,
+        number,
+        value,
+    };
+    let answer = ask(asked, lent, given, parts.besides);
+    (answer == should && lent[..] == parts.left.bytes[..]).then_some(parts.left)
 }
 
-// The call of a record.
-fn call_at(buf: &[u8], s: Parts) -> Call
-    requires { (s.at + 60 ≤ length buf.now) × (s.state + state_bytes ≤ length buf.now) }
-{
-    let given = writer_run(buf, s.state);
-    let should = encoded_run(buf, s.at);
-    Call {
-        call: s.call,
-        number: word_run(buf, s.at + ANSWER_BYTES),
-        value: word_run(buf, s.at + ANSWER_BYTES + 4),
-        given: given,
-        should: should,
-    }
-}
-
-// Whether the record's call answers and leaves what it should.
-fn agrees(buf: &[u8], p: Place, s: Parts) -> bool
-    requires { Placed buf.now p × Parted buf.now s }
-{
-    let n = buf.len();
-    if n - s.at < WRITER_NUMBERS {
-        return false;
-    }
-    if n - s.state < STATE_BYTES {
-        return false;
-    }
-    let c = call_at(buf, s);
-    let from = p.from;
-    let to = p.to;
-    let rest = s.rest;
-    let end = s.end;
-    let left = s.from;
-    let right = s.to;
-    leaves_in(c, &buf[rest..end], &buf[from..to], &buf[left..right])
-}
-
-fn report(rt: &impl Print, p: Place) -> io::Result<()> {
-    records::report(rt, b"open\naccount\nbit\ntable\nnumber\nbits\nfinish\n", p)
-}
-
-fn replay(rt: &impl Print, buf: &[u8]) -> io::Result<()> {
-    let mut p = records::start();
-    while p.at < buf.len() {
-        let s = records::coded_run(buf, p, FINISH, WRITER_NUMBERS);
-        let ok = agrees(buf, p, s);
-        p = records::after_run(buf, p, s, ok);
-    }
-    report(rt, p)
+fn replay(rt: &impl Print, file: &[u8]) -> io::Result<()> {
+    let names = [
+        "open", "account", "bit", "table", "number", "bits", "finish",
+    ];
+    records::replay_run(rt, &names, file, agrees)
 }
 
 fn main(rt: HostRuntime) -> io::Result<()> {

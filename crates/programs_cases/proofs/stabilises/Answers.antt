@@ -5,5 +5,5 @@ use Rattle.programs_cases.proofs.stabilises.Goals as goal
 pub slice_bounds-out-end : goal.slice_bounds-out-end
 slice_bounds-out-end c = printed_within _ _ _ _ c.stabiliser_text-n.ensures
 
-pub slice_bounds-same-end : goal.slice_bounds-same-end
-slice_bounds-same-end c = printed_part _ _ _ _ c.stabiliser_text-n.ensures
+pub slice_bounds-eq-end : goal.slice_bounds-eq-end
+slice_bounds-eq-end c = printed_part _ _ _ _ c.stabiliser_text-n.ensures
