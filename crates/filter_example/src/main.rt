@@ -21,40 +21,40 @@ fn sharpness(low: i16, high: i16) -> u32
 fn sharpest(lines: &[i16]) -> u32
     requires { Apart 1 1 1 lines.now }
 {
-    let mut most: u32 = 0;
-    let mut i: usize = 1;
-    while i < lines.len() {
-        let sharp = sharpness(lines[i - 1], lines[i]);
-        if most < sharp {
-            most = sharp;
-        }
-        i += 1;
+    let mut most = 0;
+    for i in 1..lines.len() {
+        most = most.max(sharpness(lines[i - 1], lines[i]));
     }
     most
 }
 
-// Of a frame at 16 kHz, whatever its indices are; 0 where they are refused.
-fn decoded(indices: Spectrum) -> u32 {
+// Of a frame at 16 kHz, whatever its indices are; None where they are refused.
+fn decoded(indices: Spectrum) -> Option<u32> {
     let mut lines = [0i16; 16];
     let decoding: Moves = nlsf_decode::silk_NLSF_decode(&mut lines, indices, 16);
     if decoding.refusal == 0 {
-        return sharpest(&lines);
+        Some(sharpest(&lines))
+    } else {
+        None
     }
-    0
 }
 
-// Of 16 lines from elsewhere, whatever they are, moved apart where they touch; 0 where there are more or fewer.
-fn moved_apart(lines: &mut [i16]) -> u32 {
+// Of 16 lines from elsewhere, whatever they are, moved apart where they touch; None where there are more or fewer.
+fn moved_apart(lines: &mut [i16]) -> Option<u32> {
     let gaps = [1i16; 17];
     let moving: Moves = nlsf_stabilize::silk_NLSF_stabilize(lines, &gaps);
     if moving.refusal == 0 {
-        return sharpest(lines);
+        Some(sharpest(lines))
+    } else {
+        None
     }
-    0
 }
 
-fn show(rt: &impl Print, number: u32) -> io::Result<()> {
-    println!(rt; "{number}")
+fn show(rt: &impl Print, sharp: Option<u32>) -> io::Result<()> {
+    match sharp {
+        Some(number) => println!(rt; "{number}"),
+        None => println!(rt; "refused"),
+    }
 }
 
 fn main(rt: HostRuntime) -> io::Result<()> {
