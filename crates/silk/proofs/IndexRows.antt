@@ -5,14 +5,13 @@ use mathlib.Core.Path.{◌≡◌, refl, ap, ◌∙◌}
 use mathlib.Core.List.{List, flatten}
 use native.Mathlib.Omega.{arith}
 use lib.ListN.{length, take, drop}
-use Rattle.icdf.specs.Rule.{Icdf, Writable}
 use Rattle.sheet.specs.Rows.{index_rows}
 use Rattle.sheet.specs.Directory.{row_of}
 use Rattle.sheet.specs.Inner.{Stands}
 use Rattle.sheet.proofs.Places.{starts, sizes, index_stands, stands_in, lent}
 use Rattle.sheet.proofs.Families.{type_stands, gain_stands, first_index_stands, residual_stands, filter_stands}
 use Rattle.sheet.proofs.SheetRule.{row_good, row_writable}
-use Rattle.silk.specs.Inner.Indices.{Rate, eight, twelve, sixteen, Subframes, two, four, lag_low_start, contour_start, contour_size, IndexRows}
+use Rattle.silk.specs.Inner.Indices.{Rate, eight, twelve, sixteen, Subframes, two, four, lag_low_start, contour_start, contour_size, IndexRows, Row}
 
 -- ---- the numbers of a frame
 
@@ -57,14 +56,7 @@ index_rows_lem l e = record { is = e; size = ap length e }
 
 -- ---- its parts
 
--- a list t that is row k, of n entries; each of its symbols has a probability
-pub record Row (k n : ℕ) (t : List ℕ) : Type 0 where
-  pub is : t ≡ row_of k
-  pub good : Icdf 8 t
-  pub size : length t ≡ n
-  pub writable : (v : ℕ) → v < n → Writable 8 t v
-
-row_at : {l : List ℕ} {k a n : ℕ} (e : ℕ) → IndexRows l → k < 46 → Stands k (flatten index_rows) a n → e ≡ a + n → Row k n (take (e - a) (drop a l))
+row_at : {l : List ℕ} {k a n : ℕ} (e : ℕ) → IndexRows l → k < 46 → Stands k (flatten index_rows) a n → e ≡ a + n → Row (row_of k) n (take (e - a) (drop a l))
 row_at {l} {k} {a} {n} e h p s q =
     let i : take (e - a) (drop a l) ≡ row_of k = lent e (stands_in h.is s) q in
     record {
@@ -75,68 +67,68 @@ row_at {l} {k} {a} {n} e h p s q =
     }
 
 module _ {l : List ℕ} (h : IndexRows l) where
-  pub delta_gain_row : Row 7 41 (take 41 (drop 30 l))
+  pub delta_gain_row : Row (row_of 7) 41 (take 41 (drop 30 l))
   unfolding starts sizes
   delta_gain_row = row_at 71 h (omega arith) (index_stands 7 (omega arith) (omega arith)) refl
 
-  pub gain_low_row : Row 45 8 (take 8 (drop 548 l))
+  pub gain_low_row : Row (row_of 45) 8 (take 8 (drop 548 l))
   unfolding starts sizes
   gain_low_row = row_at 556 h (omega arith) (index_stands 45 (omega arith) (omega arith)) refl
 
-  pub extension_row : Row 28 7 (take 7 (drop 343 l))
+  pub extension_row : Row (row_of 28) 7 (take 7 (drop 343 l))
   unfolding starts sizes
   extension_row = row_at 350 h (omega arith) (index_stands 28 (omega arith) (omega arith)) refl
 
-  pub interpolation_row_lem : Row 29 5 (take 5 (drop 350 l))
+  pub interpolation_row_lem : Row (row_of 29) 5 (take 5 (drop 350 l))
   unfolding starts sizes
   interpolation_row_lem = row_at 355 h (omega arith) (index_stands 29 (omega arith) (omega arith)) refl
 
-  pub lag_row : Row 30 32 (take 32 (drop 355 l))
+  pub lag_row : Row (row_of 30) 32 (take 32 (drop 355 l))
   unfolding starts sizes
   lag_row = row_at 387 h (omega arith) (index_stands 30 (omega arith) (omega arith)) refl
 
-  pub delta_lag_row : Row 31 21 (take 21 (drop 387 l))
+  pub delta_lag_row : Row (row_of 31) 21 (take 21 (drop 387 l))
   unfolding starts sizes
   delta_lag_row = row_at 408 h (omega arith) (index_stands 31 (omega arith) (omega arith)) refl
 
-  pub period_row : Row 36 3 (take 3 (drop 468 l))
+  pub period_row : Row (row_of 36) 3 (take 3 (drop 468 l))
   unfolding starts sizes
   period_row = row_at 471 h (omega arith) (index_stands 36 (omega arith) (omega arith)) refl
 
-  pub scale_row_lem : Row 40 3 (take 3 (drop 527 l))
+  pub scale_row_lem : Row (row_of 40) 3 (take 3 (drop 527 l))
   unfolding starts sizes
   scale_row_lem = row_at 530 h (omega arith) (index_stands 40 (omega arith) (omega arith)) refl
 
-  pub seed_row : Row 42 4 (take 4 (drop 533 l))
+  pub seed_row : Row (row_of 42) 4 (take 4 (drop 533 l))
   unfolding starts sizes
   seed_row = row_at 537 h (omega arith) (index_stands 42 (omega arith) (omega arith)) refl
 
   -- ---- families
 
-  pub type_row : (active : ℕ) → active < 2 → Row (2 + active) (2 + active * 2) (take (active * 2 + (2 + active * 2) - active * 2) (drop (active * 2) l))
+  pub type_row : (active : ℕ) → active < 2 → Row (row_of (2 + active)) (2 + active * 2) (take (active * 2 + (2 + active * 2) - active * 2) (drop (active * 2) l))
   type_row active p = row_at (active * 2 + (2 + active * 2)) h (omega arith) (type_stands active p) refl
 
-  pub gain_row : (signal : ℕ) → signal < 3 → Row (4 + signal) 8 (take (6 + signal * 8 + 8 - (6 + signal * 8)) (drop (6 + signal * 8) l))
+  pub gain_row : (signal : ℕ) → signal < 3 → Row (row_of (4 + signal)) 8 (take (6 + signal * 8 + 8 - (6 + signal * 8)) (drop (6 + signal * 8) l))
   gain_row signal p = row_at (6 + signal * 8 + 8) h (omega arith) (gain_stands signal p) refl
 
-  pub first_index_row : (k : ℕ) → k < 4 → Row (8 + k) 32 (take (71 + k * 32 + 32 - (71 + k * 32)) (drop (71 + k * 32) l))
+  pub first_index_row : (k : ℕ) → k < 4 → Row (row_of (8 + k)) 32 (take (71 + k * 32 + 32 - (71 + k * 32)) (drop (71 + k * 32) l))
   first_index_row k p = row_at (71 + k * 32 + 32) h (omega arith) (first_index_stands k p) refl
 
-  pub residual_row : (k : ℕ) → k < 16 → Row (12 + k) 9 (take (199 + k * 9 + 9 - (199 + k * 9)) (drop (199 + k * 9) l))
+  pub residual_row : (k : ℕ) → k < 16 → Row (row_of (12 + k)) 9 (take (199 + k * 9 + 9 - (199 + k * 9)) (drop (199 + k * 9) l))
   residual_row k p = row_at (199 + k * 9 + 9) h (omega arith) (residual_stands k p) refl
 
   -- the filters of a period start at 463 more than their number n
-  pub filter_row : (period n : ℕ) → period < 3 → n ≡ 8 * 2 ^ period → Row (37 + period) n (take (463 + n + n - (463 + n)) (drop (463 + n) l))
+  pub filter_row : (period n : ℕ) → period < 3 → n ≡ 8 * 2 ^ period → Row (row_of (37 + period)) n (take (463 + n + n - (463 + n)) (drop (463 + n) l))
   filter_row period n p e = rw e (row_at (463 + 8 * 2 ^ period + 8 * 2 ^ period) h (omega arith) (filter_stands period p) refl)
 
-  pub lag_low_row : (khz a : ℕ) → Rate khz → a ≡ lag_low_start khz → Row (38 + khz / 2 - khz / 2 / 8) (khz / 2) (take (a + khz / 2 - a) (drop a l))
+  pub lag_low_row : (khz a : ℕ) → Rate khz → a ≡ lag_low_start khz → Row (row_of (38 + khz / 2 - khz / 2 / 8)) (khz / 2) (take (a + khz / 2 - a) (drop a l))
   unfolding lag_low_start starts sizes
   lag_low_row khz a eight e = rw e (row_at 537 h (omega arith) (index_stands 42 (omega arith) (omega arith)) refl)
   lag_low_row khz a twelve e = rw e (row_at 548 h (omega arith) (index_stands 44 (omega arith) (omega arith)) refl)
   lag_low_row khz a sixteen e = rw e (row_at 556 h (omega arith) (index_stands 45 (omega arith) (omega arith)) refl)
 
   pub contour_row : (khz subframes a n : ℕ) → Rate khz → Subframes subframes → a ≡ contour_start khz subframes → n ≡ contour_size khz subframes
-      → Row (31 + (khz / 12 * 2 + subframes / 2)) n (take (a + n - a) (drop a l))
+      → Row (row_of (31 + (khz / 12 * 2 + subframes / 2))) n (take (a + n - a) (drop a l))
   unfolding contour_start contour_size starts sizes
   contour_row khz subframes a n eight two e f = rw (e, f) (row_at 411 h (omega arith) (index_stands 32 (omega arith) (omega arith)) refl)
   contour_row khz subframes a n eight four e f = rw (e, f) (row_at 422 h (omega arith) (index_stands 33 (omega arith) (omega arith)) refl)

@@ -23,7 +23,7 @@ use Rattle.tree.specs.Inner.Ran.{Ran}
 use Rattle.tree.proofs.Ran.{asked, ran_then, ran_done, ran_ask, ran_within}
 use Rattle.silk.specs.declared.Indices.{Indices}
 use Rattle.silk.specs.Record.{with_gain, with_nlsf, with_filter}
-use Rattle.silk.specs.Inner.Indices.{Reading}
+use Rattle.silk.specs.Inner.Indices.{Row, Reading}
 use Rattle.silk.specs.IndexSyntax.{coded_or, said_at, more_gains, residual_pick, residual, residuals, filters}
 
 -- a number that is not yet reached has a step to it
@@ -34,6 +34,10 @@ less_suc n k h = omega arith
 pub reading_next : {R A : Type 0} {b : List ℕ} {d z : Dec} {t : Asks R A} {y : A} {l : List ℕ} {n m : ℕ} (k : ℕ)
     → Reading b d l n → Ran b d t m y z → n + m ≤ k → Reading b z l k
 reading_next k h p e = record { core = p.core; few = omega (arith, h.few, p.most); rows = h.rows }
+
+-- a symbol of a row of at most 128 entries is its own number of 8 bits
+pub symbol_is : {b t r : List ℕ} {d : Dec} {a : Decoded} {n : ℕ} → Row r n t → Took b (tab 8 t) d a → n ≤ 128 → to_z w8 a.value ≡ pos a.value
+symbol_is {a = a} t h l = to_z_pos w8 {n = a.value} (omega (arith, h.inside, t.size))
 
 -- ---- a field that is coded or fixed
 

@@ -2,6 +2,7 @@
 -- No public contract says it. Assumes nothing.
 use Rattle.std.specs.Prelude.{ℕ, ◌≤◌, ◌+◌, ◌*◌, ◌<◌, ◌-◌, ◌^◌, ◌≡◌, cond, eqb, length, get_or, ℤ, pos, nat_abs}
 use mathlib.Core.List.{List, flatten}
+use Rattle.icdf.specs.Rule.{Icdf, Writable}
 use Rattle.sheet.specs.Rows.{index_rows}
 use Rattle.entcode.specs.declared.Dec.{Dec}
 use Rattle.entcode.specs.Flat.{Out}
@@ -40,6 +41,13 @@ contour_size khz subframes = cond (eqb khz 8) (cond (eqb subframes 2) 3 11) (con
 pub record IndexRows (l : List ℕ) : Type 0 where
   pub is : l ≡ flatten index_rows
   pub size : length l ≡ 556
+
+-- a part of it that is the row r, of n entries; each of its symbols has a probability
+pub record Row (r : List ℕ) (n : ℕ) (t : List ℕ) : Type 0 where
+  pub is : t ≡ r
+  pub good : Icdf 8 t
+  pub size : length t ≡ n
+  pub writable : (v : ℕ) → v < n → Writable 8 t v
 
 -- a reader for the next read, at most n bits on, beside the rows
 pub record Reading (b : List ℕ) (d : Dec) (l : List ℕ) (n : ℕ) : Type 0 where
