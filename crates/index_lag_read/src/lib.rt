@@ -1,5 +1,5 @@
 // Lag and contour of a voiced frame read (RFC 6716, section 4.2.7.6.1), as in the crate's decode_indices.rs. The rows
-// are lent by the caller; the record goes in and out by value.
+// are lent by the caller, and so is the record that is filled.
 #![tactic(auto)]
 
 ghost use Rattle.std.specs.Prelude.{◌≡◌, ◌^◌, ◌<◌};
@@ -10,28 +10,18 @@ ghost use Rattle.silk.specs.IndexSyntax.{absolute_lag, lag_after, lag, contour};
 
 use entcode::Dec;
 use entdec_run::ec_dec_icdf8_run;
-use index_layout::{
-    DELTA_LAG, DELTA_LAG_END, LAG, LAG_END, contour_size, contour_start, lag_low_start,
-};
-use silk::{Indices, IndicesPart};
+use index_layout::{contour_row_run, delta_lag_row_run, lag_low_row_run, lag_row_run};
+use silk::Indices;
 
-fn absolute_lag(packet: &[u8], d: Dec, rows: &[u8], x: Indices, khz: u32) -> IndicesPart
+fn absolute_lag(packet: &[u8], d: Dec, rows: &[u8], x: &mut Indices, khz: u32) -> Dec
     requires reading { Reading packet.now d rows.now (2 ^ 29) }
     requires rate { Rate khz }
-    ensures { Ran packet.now d (absolute_lag khz x) (of_symbols 2) result.indices result.state }
+    ensures { Ran packet.now d (absolute_lag khz x.old) (of_symbols 2) x.new result }
 {
-    let half = khz / 2;
-    let start = lag_low_start(khz);
-    let end = start + (half as usize);
-    let h = ec_dec_icdf8_run(packet, d, &rows[LAG..LAG_END]);
-    let l = ec_dec_icdf8_run(packet, h.state, &rows[start..end]);
-    let mut out = x;
-    out.lag = (h.value * half + l.value) as i16;
-    let state = l.state;
-    IndicesPart {
-        indices: out,
-        state,
-    }
+    let h = ec_dec_icdf8_run(packet, d, lag_row_run(rows));
+    let l = ec_dec_icdf8_run(packet, h.state, lag_low_row_run(rows, khz));
+    x.lag = (h.value * (khz / 2) + l.value) as i16;
+    l.state
 }
 
 // Symbols 1 to 20 mean -8 to 11; the sum is kept in 16 bits.
@@ -48,52 +38,41 @@ pub fn lag_index_run(
     packet: &[u8],
     d: Dec,
     rows: &[u8],
-    x: Indices,
+    x: &mut Indices,
     relative: bool,
     khz: u32,
     before: i16,
-) -> IndicesPart
+) -> Dec
     requires reading { Reading packet.now d rows.now (2 ^ 28) }
     requires rate { Rate khz }
-    ensures { Ran packet.now d (lag relative khz before x) (of_symbols 3) result.indices result.state }
+    ensures { Ran packet.now d (lag relative khz before x.old) (of_symbols 3) x.new result }
 {
     if relative {
-        let a = ec_dec_icdf8_run(packet, d, &rows[DELTA_LAG..DELTA_LAG_END]);
+        let a = ec_dec_icdf8_run(packet, d, delta_lag_row_run(rows));
         if a.value == 0 {
-            return absolute_lag(packet, a.state, rows, x, khz);
+            absolute_lag(packet, a.state, rows, x, khz)
+        } else {
+            x.lag = lag_after(before, a.value);
+            a.state
         }
-        let mut out = x;
-        out.lag = lag_after(before, a.value);
-        let state = a.state;
-        return IndicesPart {
-            indices: out,
-            state,
-        };
+    } else {
+        absolute_lag(packet, d, rows, x, khz)
     }
-    absolute_lag(packet, d, rows, x, khz)
 }
 
 pub fn contour_index_run(
     packet: &[u8],
     d: Dec,
     rows: &[u8],
-    x: Indices,
+    x: &mut Indices,
     khz: u32,
     subframes: u32,
-) -> IndicesPart
+) -> Dec
     requires reading { Reading packet.now d rows.now (2 ^ 29) }
     requires rate { Rate khz × Subframes subframes }
-    ensures { Ran packet.now d (contour khz subframes x) (of_symbols 1) result.indices result.state }
+    ensures { Ran packet.now d (contour khz subframes x.old) (of_symbols 1) x.new result }
 {
-    let start = contour_start(khz, subframes);
-    let size = contour_size(khz, subframes);
-    let end = start + size;
-    let a = ec_dec_icdf8_run(packet, d, &rows[start..end]);
-    let mut out = x;
-    out.contour = a.value as i8;
-    let state = a.state;
-    IndicesPart {
-        indices: out,
-        state,
-    }
+    let a = ec_dec_icdf8_run(packet, d, contour_row_run(rows, khz, subframes));
+    x.contour = a.value as i8;
+    a.state
 }

@@ -1,5 +1,5 @@
 // Type, interpolation and seed of a frame read, a symbol each (RFC 6716, sections 4.2.7.3, 4.2.7.5.5 and 4.2.7.7), as
-// in the crate's decode_indices.rs. The rows are lent by the caller; the record goes in and out by value.
+// in the crate's decode_indices.rs. The rows are lent by the caller, and so is the record that is filled.
 #![tactic(auto)]
 
 ghost use Rattle.std.specs.Prelude.{◌^◌, ◌<◌};
@@ -10,8 +10,8 @@ ghost use Rattle.silk.specs.IndexSyntax.{kind, interpolation, seed};
 
 use entcode::{Dec, Decoded};
 use entdec_run::ec_dec_icdf8_run;
-use index_layout::{INTERPOLATION, INTERPOLATION_END, SEED, SEED_END};
-use silk::{Indices, IndicesPart};
+use index_layout::{interpolation_row_run, seed_row_run, type_row_run};
+use silk::Indices;
 
 // Type and offset as one number.
 pub fn kind_run(packet: &[u8], d: Dec, rows: &[u8], active: u32) -> Decoded
@@ -20,16 +20,11 @@ pub fn kind_run(packet: &[u8], d: Dec, rows: &[u8], active: u32) -> Decoded
     ensures ran { Ran packet.now d (kind active) (of_symbols 1) result.value result.state }
     ensures value_bound { result.value < 6 }
 {
-    let base = active * 2;
-    let start = base as usize;
-    let end = start + (2 + start);
-    let a = ec_dec_icdf8_run(packet, d, &rows[start..end]);
-    let value = a.value + base;
-    let state = a.state;
+    let a = ec_dec_icdf8_run(packet, d, type_row_run(rows, active));
     Decoded {
         refusal: 0,
-        value,
-        state,
+        value: a.value + active * 2,
+        state: a.state,
     }
 }
 
@@ -38,39 +33,27 @@ pub fn interpolation_run(
     packet: &[u8],
     d: Dec,
     rows: &[u8],
-    x: Indices,
+    x: &mut Indices,
     subframes: u32,
-) -> IndicesPart
+) -> Dec
     requires { Reading packet.now d rows.now (2 ^ 29) }
-    ensures { Ran packet.now d (interpolation subframes x) (of_symbols 1) result.indices result.state }
+    ensures { Ran packet.now d (interpolation subframes x.old) (of_symbols 1) x.new result }
 {
-    let mut out = x;
     if subframes == 4 {
-        let a = ec_dec_icdf8_run(packet, d, &rows[INTERPOLATION..INTERPOLATION_END]);
-        out.interp = a.value as i8;
-        let state = a.state;
-        return IndicesPart {
-            indices: out,
-            state,
-        };
-    }
-    out.interp = 4;
-    IndicesPart {
-        indices: out,
-        state: d,
+        let a = ec_dec_icdf8_run(packet, d, interpolation_row_run(rows));
+        x.interp = a.value as i8;
+        a.state
+    } else {
+        x.interp = 4;
+        d
     }
 }
 
-pub fn seed_run(packet: &[u8], d: Dec, rows: &[u8], x: Indices) -> IndicesPart
+pub fn seed_run(packet: &[u8], d: Dec, rows: &[u8], x: &mut Indices) -> Dec
     requires { Reading packet.now d rows.now (2 ^ 29) }
-    ensures { Ran packet.now d (seed x) (of_symbols 1) result.indices result.state }
+    ensures { Ran packet.now d (seed x.old) (of_symbols 1) x.new result }
 {
-    let a = ec_dec_icdf8_run(packet, d, &rows[SEED..SEED_END]);
-    let mut out = x;
-    out.seed = a.value as i8;
-    let state = a.state;
-    IndicesPart {
-        indices: out,
-        state,
-    }
+    let a = ec_dec_icdf8_run(packet, d, seed_row_run(rows));
+    x.seed = a.value as i8;
+    a.state
 }

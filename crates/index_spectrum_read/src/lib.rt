@@ -1,5 +1,5 @@
 // First index and residuals of a frame's line spectrum read (RFC 6716, section 4.2.7.5), as in the crate's
-// decode_indices.rs. The rows are lent by the caller; the record goes in and out by value.
+// decode_indices.rs. The rows are lent by the caller, and so is the record that is filled.
 #![tactic(auto)]
 
 ghost use Rattle.std.specs.Prelude.{◌≡◌, ◌+◌, ◌*◌, ◌^◌, ◌≤◌, ◌<◌, pos, negsuc, ◌-ℤ◌, length};
@@ -11,9 +11,9 @@ ghost use Rattle.silk.specs.IndexSyntax.{residual, residuals, spectrum};
 
 use entcode::Dec;
 use entdec_run::ec_dec_icdf8_run;
-use index_layout::{EXTENSION, EXTENSION_END, FIRST_INDEX, RESIDUAL, order_of};
+use index_layout::{extension_row_run, first_index_row_run, order_of, residual_row_run};
 use nlsf_unpack::{residual_pick_run, selectors_run};
-use silk::{Indices, IndicesPart};
+use silk::Indices;
 
 // ---- one residual
 
@@ -54,24 +54,27 @@ fn residual_index(packet: &[u8], d: Dec, rows: &[u8], k: usize) -> ResidualRead
     requires k_bound { k < 16 }
     ensures { Ran packet.now d (residual (row_of (12 + k))) (of_symbols 2) result.value result.state }
 {
-    let start = RESIDUAL + k * 9;
-    let end = start + 9;
-    let a = ec_dec_icdf8_run(packet, d, &rows[start..end]);
-    if a.value == 0 {
-        let e = ec_dec_icdf8_run(packet, a.state, &rows[EXTENSION..EXTENSION_END]);
-        let value = lowered(e.value);
-        let state = e.state;
-        return ResidualRead { state, value };
+    let a = ec_dec_icdf8_run(packet, d, residual_row_run(rows, k));
+    match a.value {
+        0 => {
+            let e = ec_dec_icdf8_run(packet, a.state, extension_row_run(rows));
+            ResidualRead {
+                state: e.state,
+                value: lowered(e.value),
+            }
+        }
+        8 => {
+            let e = ec_dec_icdf8_run(packet, a.state, extension_row_run(rows));
+            ResidualRead {
+                state: e.state,
+                value: raised(e.value),
+            }
+        }
+        v => ResidualRead {
+            state: a.state,
+            value: centred(v),
+        },
     }
-    if a.value == 8 {
-        let e = ec_dec_icdf8_run(packet, a.state, &rows[EXTENSION..EXTENSION_END]);
-        let value = raised(e.value);
-        let state = e.state;
-        return ResidualRead { state, value };
-    }
-    let value = centred(a.value);
-    let state = a.state;
-    ResidualRead { state, value }
 }
 
 // ---- all of them
@@ -81,51 +84,40 @@ fn residual_indices(
     packet: &[u8],
     d: Dec,
     rows: &[u8],
-    x: Indices,
+    x: &mut Indices,
     selectors: &[u8],
     khz: u32,
     n: usize,
-) -> IndicesPart
+) -> Dec
     requires reading { Reading packet.now d rows.now (2 ^ 28) }
     requires rate { Rate khz × (n ≤ 2 * length selectors.now) × (n ≤ 16) }
-    ensures { Ran packet.now d (residuals khz selectors.now n 0 x) (of_symbols 32) result.indices result.state }
+    ensures { Ran packet.now d (residuals khz selectors.now n 0 x.old) (of_symbols 32) x.new result }
 {
     let base = (khz / 16 * 8) as usize;
-    let mut out = x;
     let mut r = d;
-    let mut i: usize = 0;
-    while i < n {
+    for i in 0..n {
         let k = residual_pick_run(selectors, i);
         let a = residual_index(packet, r, rows, base + k);
-        let value = a.value;
-        out.nlsf[i + 1] = value;
+        x.nlsf[i + 1] = a.value;
         r = a.state;
-        i += 1;
     }
-    IndicesPart {
-        indices: out,
-        state: r,
-    }
+    r
 }
 
 pub fn spectrum_run(
     packet: &[u8],
     d: Dec,
     rows: &[u8],
-    x: Indices,
+    x: &mut Indices,
     khz: u32,
     signal: u32,
-) -> IndicesPart
+) -> Dec
     requires reading { Reading packet.now d rows.now (2 ^ 27) }
     requires rate { Rate khz × (signal < 3) }
-    ensures { Ran packet.now d (spectrum khz signal x) (of_symbols 33) result.indices result.state }
+    ensures { Ran packet.now d (spectrum khz signal x.old) (of_symbols 33) x.new result }
 {
-    let k = (khz / 16 * 2 + signal / 2) as usize;
-    let start = FIRST_INDEX + k * 32;
-    let end = start + 32;
-    let a = ec_dec_icdf8_run(packet, d, &rows[start..end]);
-    let mut out = x;
-    out.nlsf[0] = a.value as i8;
+    let a = ec_dec_icdf8_run(packet, d, first_index_row_run(rows, khz, signal));
+    x.nlsf[0] = a.value as i8;
     let s = selectors_run(khz, a.value);
-    residual_indices(packet, a.state, rows, out, &s, khz, order_of(khz))
+    residual_indices(packet, a.state, rows, x, &s, khz, order_of(khz))
 }
