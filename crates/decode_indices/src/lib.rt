@@ -1,5 +1,5 @@
 // The call that reads a frame's side indices (document 01; RFC 6716, section 4.2.7), as the crate's
-// decode_indices.rs: it tests packet, state and numbers once, and hands the record in and out by value.
+// decode_indices.rs: it tests packet, state and numbers once, and lends the record to each part, which fills it.
 #![tactic(auto)]
 
 ghost use Rattle.std.specs.Prelude.{◌≡◌, ◌^◌, ◌<◌};
@@ -17,7 +17,7 @@ use index_numbers::{next_lag_run, next_type_run, numbers_rule};
 use index_pitch_read::pitch_run;
 use index_single_read::{interpolation_run, kind_run, seed_run};
 use index_spectrum_read::spectrum_run;
-use silk::{Indices, IndicesPart, IndicesRead, Setting};
+use silk::{Indices, IndicesRead, Setting};
 use tables::rows::index_rows;
 
 // ---- reading
@@ -27,40 +27,36 @@ fn voicing_index(
     packet: &[u8],
     d: Dec,
     rows: &[u8],
-    x: Indices,
+    x: &mut Indices,
     signal: u32,
     s: Setting,
-) -> IndicesPart
+) -> Dec
     requires reading { Reading packet.now d rows.now (2 ^ 27) }
     requires rate { Rate s.khz × Subframes s.subframes }
-    ensures { Ran packet.now d (voicing signal s x) (of_symbols 10) result.indices result.state }
+    ensures { Ran packet.now d (voicing signal s x.old) (of_symbols 10) x.new result }
 {
     if signal == 2 {
         pitch_run(packet, d, rows, x, s)
     } else {
-        IndicesPart {
-            indices: x,
-            state: d,
-        }
+        d
     }
 }
 
 // All of them, in order.
-fn all_indices(packet: &[u8], d: Dec, rows: &[u8], x: Indices, s: Setting) -> IndicesPart
+fn all_indices(packet: &[u8], d: Dec, rows: &[u8], x: &mut Indices, s: Setting) -> Dec
     requires reading { Reading packet.now d rows.now (2 ^ 26) }
     requires rate { Rate s.khz × Subframes s.subframes × (s.active < 2) }
-    ensures { Ran packet.now d (indices s x) (of_symbols 51) result.indices result.state }
+    ensures { Ran packet.now d (indices s x.old) (of_symbols 51) x.new result }
 {
     let k = kind_run(packet, d, rows, s.active);
     let signal = k.value / 2;
-    let mut out = x;
-    out.signal = signal as i8;
-    out.offset = (k.value % 2) as i8;
-    let g = gains_run(packet, k.state, rows, out, s.mode, s.subframes, signal);
-    let q = spectrum_run(packet, g.state, rows, g.indices, s.khz, signal);
-    let i = interpolation_run(packet, q.state, rows, q.indices, s.subframes);
-    let v = voicing_index(packet, i.state, rows, i.indices, signal, s);
-    seed_run(packet, v.state, rows, v.indices)
+    x.signal = signal as i8;
+    x.offset = (k.value % 2) as i8;
+    let g = gains_run(packet, k.state, rows, x, s.mode, s.subframes, signal);
+    let q = spectrum_run(packet, g, rows, x, s.khz, signal);
+    let i = interpolation_run(packet, q, rows, x, s.subframes);
+    let v = voicing_index(packet, i, rows, x, signal, s);
+    seed_run(packet, v, rows, x)
 }
 
 // ---- the call
@@ -85,8 +81,9 @@ pub fn silk_decode_indices(packet: &[u8], d: Dec, record: Indices, s: Setting) -
     match gate(packet, d).and(numbers_rule(s)) {
         Ok(()) => {
             let rows = index_rows();
-            let a = all_indices(packet, d, &rows, record, s);
-            accepted(a.state, a.indices, s.prevlag)
+            let mut x = record;
+            let q = all_indices(packet, d, &rows, &mut x, s);
+            accepted(q, x, s.prevlag)
         }
         Err(refusal) => IndicesRead {
             refusal: u32::from(refusal),

@@ -4,7 +4,8 @@
 
 use entcode::{Dec, Enc};
 
-// Side indices: the crate's SideInfoIndices, in the order of the C interface.
+// Side indices: the crate's SideInfoIndices, in the order of the C interface. Its kinds, and those of a setting, stay
+// numbers: the C interface has them as such, and the definitions (`indices`, `setting_ok`) are over these numbers.
 #[repr(C)]
 #[derive(Clone, Copy, PartialEq, Eq)]
 pub struct Indices {
@@ -31,13 +32,6 @@ pub struct Setting {
     pub mode: u32,
     pub prevtype: u32,
     pub prevlag: i16,
-}
-
-// A record with some of its fields read, and the reader behind them.
-#[derive(Clone, Copy)]
-pub struct IndicesPart {
-    pub indices: Indices,
-    pub state: Dec,
 }
 
 // What reading side indices answers.

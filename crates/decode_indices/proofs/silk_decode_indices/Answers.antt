@@ -15,8 +15,8 @@ use Rattle.silk.specs.FrameCalls.{indices_rule, indices_got}
 use Rattle.silk.proofs.IndexCalls.{Accepts, rule_accepts, indices_ended, indices_runs, indices_refused}
 use Rattle.decode_indices.proofs.silk_decode_indices.Goals as goal
 
-pub all_indices-a-requires : goal.all_indices-a-requires
-all_indices-a-requires c =
+pub all_indices-q-requires : goal.all_indices-q-requires
+all_indices-q-requires c =
     let z = sym (ap refusal_of c.in-Ok.is)
     ∙ and_refuses c.gate.result c.numbers_rule.result c.and.ensures c.gate.ensures c.numbers_rule.ensures in
     let a = rule_accepts c.args.packet.now c.args.d c.args.s (sym z) in
@@ -32,12 +32,8 @@ accepted-requires c =
     ∙ and_refuses c.gate.result c.numbers_rule.result c.and.ensures c.gate.ensures c.numbers_rule.ensures in
     let a = rule_accepts c.args.packet.now c.args.d c.args.s (sym z) in
     let y : Bytes c.args.packet.now = λ i. omega (arith, c.type_inv.packet i) in
-    let h : Shape c.args.«record» = record {
-      gains = search (rules, c.well_formed.1.1.0);
-      ltp = search (rules, c.well_formed.1.1.0);
-      nlsf = search (rules, c.well_formed.1.1.0);
-    } in
-    subst (λ (q : Got Indices). Upto 2 q.value.signal) c.all_indices-a.ensures.is
+    let h : Shape c.args.«record» = record { gains = search rules; ltp = search rules; nlsf = search rules } in
+    subst (λ (q : Got Indices). Upto 2 q.value.signal) c.all_indices-q.ensures.is
     (indices_ended _ _ _ _ y a h).holds.range.signal
 
 pub returns-in-Ok : goal.returns-in-Ok
@@ -46,7 +42,7 @@ returns-in-Ok c =
     ∙ and_refuses c.gate.result c.numbers_rule.result c.and.ensures c.gate.ensures c.numbers_rule.ensures in
     let f : SFits w16 c.args.s.prevlag = search rules in
     (rw (to_z-of_z f) at c.accepted.ensures)
-    ∙ ap (λ (q : Got Indices). indices_got c.args.s.prevlag q) (sym c.all_indices-a.ensures.is)
+    ∙ ap (λ (q : Got Indices). indices_got c.args.s.prevlag q) (sym c.all_indices-q.ensures.is)
     ∙ indices_runs c.args.packet.now c.args.d c.args.«record» c.args.s (sym z)
 
 pub returns-in-Err : goal.returns-in-Err
