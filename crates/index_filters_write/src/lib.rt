@@ -11,23 +11,19 @@ ghost use Rattle.silk.specs.IndexSyntax.{filters, period, scale};
 
 use entcode::Enc;
 use entenc_run::ec_enc_icdf8_run;
-use index_layout::{FILTERS, PERIOD, PERIOD_END, SCALE, SCALE_END};
+use index_layout::{filter_row_run, period_row_run, scale_row_run};
 use silk::Indices;
 
-// The filter of each of n subframes, by the row of this period: 8, 16 or 32 entries.
+// The filter of each of n subframes, by the row of period p.
 fn filters_tell(buf: &mut [u8], w: Enc, rows: &[u8], x: Indices, p: u32, n: usize) -> Enc
     requires writing { Writing (out buf.old w) rows.now (2 ^ 29) }
     requires p_bound { (p < 3) × Subframes n × ((k : ℕ) → k < n → Upto (8 * 2 ^ p - 1) (get_or x.ltp k (pos 0))) }
     ensures { Told (out buf.old w) x (filters p n 0 x) (of_symbols 4) (out buf.new result) }
 {
-    let size = 8usize << p;
-    let start = FILTERS + size;
-    let end = start + size;
+    let row = filter_row_run(rows, p);
     let mut q = w;
-    let mut k: usize = 0;
-    while k < n {
-        q = ec_enc_icdf8_run(buf, q, x.ltp[k] as u32, &rows[start..end]);
-        k += 1;
+    for k in 0..n {
+        q = ec_enc_icdf8_run(buf, q, x.ltp[k] as u32, row);
     }
     q
 }
@@ -39,7 +35,7 @@ pub fn period_tell_run(buf: &mut [u8], w: Enc, rows: &[u8], x: Indices, subframe
     ensures { Told (out buf.old w) x (period subframes x) (of_symbols 5) (out buf.new result) }
 {
     let p = x.period as u32;
-    let q = ec_enc_icdf8_run(buf, w, p, &rows[PERIOD..PERIOD_END]);
+    let q = ec_enc_icdf8_run(buf, w, p, period_row_run(rows));
     filters_tell(buf, q, rows, x, p, subframes as usize)
 }
 
@@ -50,7 +46,8 @@ pub fn scale_tell_run(buf: &mut [u8], w: Enc, rows: &[u8], x: Indices, mode: u32
     ensures { Told (out buf.old w) x (scale mode x) (of_symbols 1) (out buf.new result) }
 {
     if mode == 0 {
-        return ec_enc_icdf8_run(buf, w, x.scale as u32, &rows[SCALE..SCALE_END]);
+        ec_enc_icdf8_run(buf, w, x.scale as u32, scale_row_run(rows))
+    } else {
+        w
     }
-    w
 }

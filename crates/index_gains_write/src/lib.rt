@@ -11,7 +11,7 @@ ghost use Rattle.silk.specs.IndexSyntax.{first_gain, more_gains, gains};
 
 use entcode::Enc;
 use entenc_run::ec_enc_icdf8_run;
-use index_layout::{DELTA_GAIN, DELTA_GAIN_END, GAIN, GAIN_LOW, GAIN_LOW_END};
+use index_layout::{delta_gain_row_run, gain_low_row_run, gain_row_run};
 use silk::Indices;
 
 // The first gain.
@@ -22,12 +22,11 @@ fn first_gain_tell(buf: &mut [u8], w: Enc, rows: &[u8], x: Indices, mode: u32, s
 {
     let gain = x.gains[0] as u32;
     if mode == 2 {
-        return ec_enc_icdf8_run(buf, w, gain, &rows[DELTA_GAIN..DELTA_GAIN_END]);
+        ec_enc_icdf8_run(buf, w, gain, delta_gain_row_run(rows))
+    } else {
+        let h = ec_enc_icdf8_run(buf, w, gain / 8, gain_row_run(rows, signal));
+        ec_enc_icdf8_run(buf, h, gain % 8, gain_low_row_run(rows))
     }
-    let start = GAIN + (signal as usize) * 8;
-    let end = start + 8;
-    let h = ec_enc_icdf8_run(buf, w, gain / 8, &rows[start..end]);
-    ec_enc_icdf8_run(buf, h, gain % 8, &rows[GAIN_LOW..GAIN_LOW_END])
 }
 
 // The gains past the first.
@@ -37,10 +36,8 @@ fn more_gains_tell(buf: &mut [u8], w: Enc, rows: &[u8], x: Indices, n: usize) ->
     ensures { Told (out buf.old w) x (more_gains (n - 1) 1 x) (of_symbols 3) (out buf.new result) }
 {
     let mut q = w;
-    let mut k: usize = 1;
-    while k < n {
-        q = ec_enc_icdf8_run(buf, q, x.gains[k] as u32, &rows[DELTA_GAIN..DELTA_GAIN_END]);
-        k += 1;
+    for k in 1..n {
+        q = ec_enc_icdf8_run(buf, q, x.gains[k] as u32, delta_gain_row_run(rows));
     }
     q
 }

@@ -11,9 +11,7 @@ ghost use Rattle.silk.specs.IndexSyntax.{absolute_lag, lag, contour};
 
 use entcode::Enc;
 use entenc_run::ec_enc_icdf8_run;
-use index_layout::{
-    DELTA_LAG, DELTA_LAG_END, LAG, LAG_END, contour_size, contour_start, lag_low_start,
-};
+use index_layout::{contour_row_run, delta_lag_row_run, lag_low_row_run, lag_row_run};
 use silk::Indices;
 
 // How often half the rate goes into it, and what is left.
@@ -23,11 +21,9 @@ fn absolute_lag_tell(buf: &mut [u8], w: Enc, rows: &[u8], x: Indices, khz: u32) 
     ensures { Told (out buf.old w) x (absolute_lag khz x) (of_symbols 2) (out buf.new result) }
 {
     let half = khz / 2;
-    let start = lag_low_start(khz);
-    let end = start + (half as usize);
     let value = x.lag as u32;
-    let h = ec_enc_icdf8_run(buf, w, value / half, &rows[LAG..LAG_END]);
-    ec_enc_icdf8_run(buf, h, value % half, &rows[start..end])
+    let h = ec_enc_icdf8_run(buf, w, value / half, lag_row_run(rows));
+    ec_enc_icdf8_run(buf, h, value % half, lag_low_row_run(rows, khz))
 }
 
 // Delta symbol 0 where a delta is due: what is left to say of the lag is then absolute.
@@ -37,9 +33,10 @@ fn delta_tell(buf: &mut [u8], w: Enc, rows: &[u8], relative: bool) -> Enc
         Midway (out buf.old w) x (lag relative khz before x) (of_symbols 1) (out buf.new result) x (absolute_lag khz x) }
 {
     if relative {
-        return ec_enc_icdf8_run(buf, w, 0, &rows[DELTA_LAG..DELTA_LAG_END]);
+        ec_enc_icdf8_run(buf, w, 0, delta_lag_row_run(rows))
+    } else {
+        w
     }
-    w
 }
 
 // Always absolute, by one call after a delta or without: with two it is not inlined, and the state goes through memory.
@@ -71,8 +68,5 @@ pub fn contour_tell_run(
     requires rate { Rate khz × Subframes subframes × Upto (contour_size khz subframes - 1) x.contour }
     ensures { Told (out buf.old w) x (contour khz subframes x) (of_symbols 1) (out buf.new result) }
 {
-    let start = contour_start(khz, subframes);
-    let size = contour_size(khz, subframes);
-    let end = start + size;
-    ec_enc_icdf8_run(buf, w, x.contour as u32, &rows[start..end])
+    ec_enc_icdf8_run(buf, w, x.contour as u32, contour_row_run(rows, khz, subframes))
 }

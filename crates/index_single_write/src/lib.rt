@@ -12,7 +12,7 @@ ghost use Rattle.silk.specs.IndexSyntax.{kind_of, kind, interpolation, seed};
 
 use entcode::Enc;
 use entenc_run::ec_enc_icdf8_run;
-use index_layout::{INTERPOLATION, INTERPOLATION_END, SEED, SEED_END};
+use index_layout::{interpolation_row_run, seed_row_run, type_row_run};
 use silk::Indices;
 
 // Type and offset as one number.
@@ -23,10 +23,8 @@ pub fn kind_tell_run(buf: &mut [u8], w: Enc, rows: &[u8], x: Indices, active: u3
     ensures { Told (out buf.old w) x (kind active) (of_symbols 1) (out buf.new result) }
 {
     let base = active * 2;
-    let start = base as usize;
-    let end = start + (2 + start);
     let kind = (x.signal as u32) * 2 + (x.offset as u32);
-    ec_enc_icdf8_run(buf, w, kind - base, &rows[start..end])
+    ec_enc_icdf8_run(buf, w, kind - base, type_row_run(rows, active))
 }
 
 // Nothing for 2 subframes.
@@ -42,14 +40,10 @@ pub fn interpolation_tell_run(
     ensures { Told (out buf.old w) x (interpolation subframes x) (of_symbols 1) (out buf.new result) }
 {
     if subframes == 4 {
-        return ec_enc_icdf8_run(
-            buf,
-            w,
-            x.interp as u32,
-            &rows[INTERPOLATION..INTERPOLATION_END],
-        );
+        ec_enc_icdf8_run(buf, w, x.interp as u32, interpolation_row_run(rows))
+    } else {
+        w
     }
-    w
 }
 
 pub fn seed_tell_run(buf: &mut [u8], w: Enc, rows: &[u8], x: Indices) -> Enc
@@ -57,5 +51,5 @@ pub fn seed_tell_run(buf: &mut [u8], w: Enc, rows: &[u8], x: Indices) -> Enc
     requires upto { Upto 3 x.seed }
     ensures { Told (out buf.old w) x (seed x) (of_symbols 1) (out buf.new result) }
 {
-    ec_enc_icdf8_run(buf, w, x.seed as u32, &rows[SEED..SEED_END])
+    ec_enc_icdf8_run(buf, w, x.seed as u32, seed_row_run(rows))
 }
