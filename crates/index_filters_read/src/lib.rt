@@ -29,13 +29,7 @@ fn filter_indices(packet: &[u8], d: Dec, rows: &[u8], x: &mut Indices, p: u32, n
     r
 }
 
-pub fn period_index_run(
-    packet: &[u8],
-    d: Dec,
-    rows: &[u8],
-    x: &mut Indices,
-    subframes: u32,
-) -> Dec
+pub fn period_index_run(packet: &[u8], d: Dec, rows: &[u8], x: &mut Indices, subframes: u32) -> Dec
     requires reading { Reading packet.now d rows.now (2 ^ 28) }
     requires subframes { Subframes subframes }
     ensures { Ran packet.now d (period subframes x.old) (of_symbols 5) x.new result }

@@ -14,14 +14,7 @@ use index_layout::{delta_gain_row_run, gain_low_row_run, gain_row_run};
 use silk::Indices;
 
 // The first gain.
-fn first_gain(
-    packet: &[u8],
-    d: Dec,
-    rows: &[u8],
-    x: &mut Indices,
-    mode: u32,
-    signal: u32,
-) -> Dec
+fn first_gain(packet: &[u8], d: Dec, rows: &[u8], x: &mut Indices, mode: u32, signal: u32) -> Dec
     requires reading { Reading packet.now d rows.now (2 ^ 29) }
     requires signal_bound { signal < 3 }
     ensures { Ran packet.now d (first_gain mode signal x.old) (of_symbols 2) x.new result }

@@ -68,5 +68,10 @@ pub fn contour_tell_run(
     requires rate { Rate khz × Subframes subframes × Upto (contour_size khz subframes - 1) x.contour }
     ensures { Told (out buf.old w) x (contour khz subframes x) (of_symbols 1) (out buf.new result) }
 {
-    ec_enc_icdf8_run(buf, w, x.contour as u32, contour_row_run(rows, khz, subframes))
+    ec_enc_icdf8_run(
+        buf,
+        w,
+        x.contour as u32,
+        contour_row_run(rows, khz, subframes),
+    )
 }

@@ -1,13 +1,6 @@
 // The lent rows that the fields of a frame's side indices are coded by, and the number of its spectrum's places, for
 // reader and writer alike (RFC 6716, sections 4.2.7.3 to 4.2.7.7).
-#![tactic(
-    auto,
-    unfolding(
-        silk::specs::Inner::Indices::lag_low_start,
-        silk::specs::Inner::Indices::contour_start,
-        silk::specs::Inner::Indices::contour_size
-    )
-)]
+#![tactic(auto, unfolding(silk::specs::Inner::Indices::lag_low_start, silk::specs::Inner::Indices::contour_start, silk::specs::Inner::Indices::contour_size))]
 
 ghost use Rattle.std.specs.Prelude.{◌≡◌, ◌+◌, ◌*◌, ◌/◌, ◌^◌, ◌<◌};
 ghost use Rattle.sheet.specs.Directory.{row_of, type_row, gain_row, gain_low_row, delta_gain_row, first_index_row};

@@ -29,13 +29,7 @@ pub fn kind_run(packet: &[u8], d: Dec, rows: &[u8], active: u32) -> Decoded
 }
 
 // 4 for 2 subframes.
-pub fn interpolation_run(
-    packet: &[u8],
-    d: Dec,
-    rows: &[u8],
-    x: &mut Indices,
-    subframes: u32,
-) -> Dec
+pub fn interpolation_run(packet: &[u8], d: Dec, rows: &[u8], x: &mut Indices, subframes: u32) -> Dec
     requires { Reading packet.now d rows.now (2 ^ 29) }
     ensures { Ran packet.now d (interpolation subframes x.old) (of_symbols 1) x.new result }
 {

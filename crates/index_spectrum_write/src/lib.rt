@@ -13,7 +13,7 @@ ghost use Rattle.silk.specs.IndexSyntax.{extension_said, residual, residuals, sp
 
 use entcode::Enc;
 use entenc_run::ec_enc_icdf8_run;
-use index_layout::{EXTENSION, EXTENSION_END, FIRST_INDEX, RESIDUAL, order_of};
+use index_layout::{extension_row_run, first_index_row_run, order_of, residual_row_run};
 use nlsf_unpack::{residual_pick_run, selectors_run};
 use silk::Indices;
 
@@ -24,11 +24,7 @@ fn extension_said(z: i8) -> u32
     requires { (4 ≤ nat_abs z) × (nat_abs z ≤ 10) }
     ensures { result ≡ extension_said z }
 {
-    if z < 0 {
-        (-4 - z) as u32
-    } else {
-        (z - 4) as u32
-    }
+    (z.unsigned_abs() as u32) - 4
 }
 
 // The symbol of a residual between the ends.
@@ -45,17 +41,16 @@ fn residual_tell(buf: &mut [u8], w: Enc, rows: &[u8], z: i8, k: usize) -> Enc
     requires k_bound { (k < 16) × (nat_abs z ≤ 10) }
     ensures { Told (out buf.old w) z (residual (row_of (12 + k))) (of_symbols 2) (out buf.new result) }
 {
-    let start = RESIDUAL + k * 9;
-    let end = start + 9;
+    let row = residual_row_run(rows, k);
     if z <= -4 {
-        let q = ec_enc_icdf8_run(buf, w, 0, &rows[start..end]);
-        return ec_enc_icdf8_run(buf, q, extension_said(z), &rows[EXTENSION..EXTENSION_END]);
+        let q = ec_enc_icdf8_run(buf, w, 0, row);
+        ec_enc_icdf8_run(buf, q, extension_said(z), extension_row_run(rows))
+    } else if 4 <= z {
+        let q = ec_enc_icdf8_run(buf, w, 8, row);
+        ec_enc_icdf8_run(buf, q, extension_said(z), extension_row_run(rows))
+    } else {
+        ec_enc_icdf8_run(buf, w, centred_said(z), row)
     }
-    if 4 <= z {
-        let q = ec_enc_icdf8_run(buf, w, 8, &rows[start..end]);
-        return ec_enc_icdf8_run(buf, q, extension_said(z), &rows[EXTENSION..EXTENSION_END]);
-    }
-    ec_enc_icdf8_run(buf, w, centred_said(z), &rows[start..end])
 }
 
 // ---- all of them
@@ -77,11 +72,9 @@ fn residuals_tell(
 {
     let base = (khz / 16 * 8) as usize;
     let mut q = w;
-    let mut i: usize = 0;
-    while i < n {
+    for i in 0..n {
         let k = residual_pick_run(selectors, i);
         q = residual_tell(buf, q, rows, x.nlsf[i + 1], base + k);
-        i += 1;
     }
     q
 }
@@ -98,11 +91,8 @@ pub fn spectrum_tell_run(
     requires rate { Rate khz × (signal < 3) × WritesSpectrum khz x }
     ensures { Told (out buf.old w) x (spectrum khz signal x) (of_symbols 33) (out buf.new result) }
 {
-    let k = (khz / 16 * 2 + signal / 2) as usize;
-    let start = FIRST_INDEX + k * 32;
-    let end = start + 32;
     let v = x.nlsf[0] as u32;
-    let q = ec_enc_icdf8_run(buf, w, v, &rows[start..end]);
+    let q = ec_enc_icdf8_run(buf, w, v, first_index_row_run(rows, khz, signal));
     let s = selectors_run(khz, v);
     residuals_tell(buf, q, rows, x, &s, khz, order_of(khz))
 }

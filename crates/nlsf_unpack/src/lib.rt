@@ -14,10 +14,11 @@ pub fn selectors_run(khz: u32, v: u32) -> [u8; 8]
     ensures { (i : ℕ) → i < (book_of khz).order → residual_pick result i ≡ residual_pick (selectors_of khz v) i }
 {
     if khz == 16 {
-        return Wide::selectors_run(v as usize);
+        Wide::selectors_run(v as usize)
+    } else {
+        let t = Narrow::selectors_run(v as usize);
+        [t[0], t[1], t[2], t[3], t[4], 0, 0, 0]
     }
-    let t = Narrow::selectors_run(v as usize);
-    [t[0], t[1], t[2], t[3], t[4], 0, 0, 0]
 }
 
 // The residual row of place i.
@@ -25,6 +26,6 @@ pub fn residual_pick_run(selectors: &[u8], i: usize) -> usize
     requires { i / 2 < length selectors.now }
     ensures { result ≡ residual_pick selectors.now i }
 {
-    let s = selectors[i / 2] as usize;
+    let s = usize::from(selectors[i / 2]);
     if i % 2 == 0 { s / 2 % 8 } else { s / 32 % 8 }
 }

@@ -1,17 +1,9 @@
 -- `nlsf_unpack::selectors_run` meets its contract: the bytes behind a narrow row serve places past its order. Assumes nothing.
-use borrow.Author.Rules.{rules}
-use Prim.Native.Nat.{ℕ, zero, suc, ◌/◌, ◌%◌, ◌<◌}
-use mathlib.Core.Path.{◌≡◌, refl, ap}
-use mathlib.Core.Bool.{cond}
-use mathlib.Core.List.{List, [], ◌∷◌}
-use native.Mathlib.Omega.{arith}
+use Rattle.std.proofs.Common.{ℕ, zero, suc, ◌≡◌, ◌/◌, ◌%◌, ◌<◌, cond, eqb, List, [], ◌∷◌, get_or, refl, ap, arith}
 use borrow.Author.Tests.{eq-eqb, ne_eqb}
-use lib.Dec.{eqb}
-use lib.ListN.{get_or}
 use Rattle.sheet.specs.Books.{narrow_book}
 use Rattle.sheet.proofs.BooksLaws.{narrow_shaped}
-use Rattle.nlsf_unpack.proofs.selectors_run.Statement.{statement}
-use Rattle.nlsf_unpack.proofs.selectors_run.Tie as tie
+use Rattle.nlsf_unpack.proofs.selectors_run.Goals as goal
 
 -- a row's first five bytes, with others behind them
 first_five : (l m : List ℕ) (j : ℕ) → j < 5
@@ -23,25 +15,11 @@ first_five l m (suc (suc (suc zero))) h = refl
 first_five l m (suc (suc (suc (suc zero)))) h = refl
 first_five l m (suc (suc (suc (suc (suc j))))) h = absurd (omega arith)
 
-returns : tie.Need-returns-then-khz-eq16
-returns c = rw (eq-eqb _ _ c.if-khz-eq16.true, c.selectors_run.ensures) (λ i l. refl)
+pub returns-then-khz-eq16 : goal.returns-then-khz-eq16
+returns-then-khz-eq16 c = rw (eq-eqb _ _ c.if-khz-eq16.true, c.selectors_run.ensures) (λ i l. refl)
 
-returns_2 : tie.Need-returns
-returns_2 c =
+pub returns-else-khz-eq16 : goal.returns-else-khz-eq16
+returns-else-khz-eq16 c =
     let l = get_or narrow_book.selectors c.args.v [] in
     rw (ne_eqb _ _ c.if-khz-eq16.false, c.selectors_run-t.ensures)
     (λ i h. ap (λ (b : ℕ). b / cond (eqb (i % 2) 0) 2 32 % 8) (first_five l (0 ∷ 0 ∷ 0 ∷ []) (i / 2) (omega (arith, narrow_shaped.order))))
-
-pub selectors_run_spec : {M : Type 1} → statement M
-selectors_run_spec =
-    tie.close
-    (tie.spec
-    (λ c κs. search rules)
-    returns
-    (λ c κs. search rules)
-    (λ c. search rules)
-    (λ c. search rules)
-    (λ c. search rules)
-    (λ c. search rules)
-    (λ c. search rules)
-    returns_2)
