@@ -16,9 +16,10 @@ fn voicing_ok(x: Indices, s: Setting) -> bool
     ensures { Decides result (x.signal ≡ pos 2 → WritesPitch s x) }
 {
     if x.signal == 2 {
-        return pitch_ok_run(x, s);
+        pitch_ok_run(x, s)
+    } else {
+        true
     }
-    true
 }
 
 pub fn fields_ok_run(x: Indices, s: Setting) -> bool

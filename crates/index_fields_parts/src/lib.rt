@@ -1,5 +1,6 @@
 // Whether type, gains, line spectrum and interpolation of a record lie in their ranges, so that a frame may be
-// written (document 01, "Side indices", refusal 8). A field that this frame does not code is not looked at.
+// written (document 01, "Side indices", refusal 8). A field that this frame does not code is not looked at. Bounds are
+// tested by `&`, which has no jump: `contains` of a range has a way out in its middle.
 #![tactic(auto)]
 
 ghost use Rattle.std.specs.Prelude.{◌≡◌, ℕ, ◌≤◌, ◌<◌, pos, nat_abs, get_or};
@@ -32,22 +33,21 @@ pub fn gains_ok_run(x: Indices, mode: u32, subframes: u32) -> bool
     requires { Subframes subframes }
     ensures { Decides result (WritesGains mode subframes x) }
 {
-    let gains = x.gains;
-    let first = gains[0];
+    let first = x.gains[0];
     let most = first_most(mode);
     let n = subframes as usize;
-    ((0 <= first) & (first <= most)) & all_in_range(&gains[1..n], 0, 40)
+    ((0 <= first) & (first <= most)) & all_in_range(&x.gains[1..n], 0, 40)
 }
 
-// Residuals from -10 to 10: 16 of them at 16 kHz, else 10.
+// Residuals from -10 to 10: 16 of them at 16 kHz, else 10. Two calls, as either loop's number of turns is then a constant.
 fn residuals_ok(x: Indices, khz: u32) -> bool
     ensures { Decides result ((k : ℕ) → 1 ≤ k → k ≤ (book_of khz).order → nat_abs (get_or x.nlsf k (pos 0)) ≤ 10) }
 {
-    let nlsf = x.nlsf;
     if khz == 16 {
-        return all_in_range(&nlsf[1..17], -10, 10);
+        all_in_range(&x.nlsf[1..17], -10, 10)
+    } else {
+        all_in_range(&x.nlsf[1..11], -10, 10)
     }
-    all_in_range(&nlsf[1..11], -10, 10)
 }
 
 pub fn spectrum_ok(x: Indices, khz: u32) -> bool

@@ -1,5 +1,6 @@
 // Whether the pitch of a voiced frame lies in its ranges, so that it may be written (document 01, "Side indices",
-// refusal 8; RFC 6716, section 4.2.7.6).
+// refusal 8; RFC 6716, section 4.2.7.6). Bounds are tested by `&`, which has no jump: `contains` of a range has a way out
+// in its middle.
 #![tactic(auto)]
 
 ghost use Rattle.std.specs.Prelude.{◌≡◌, ℕ, ◌-◌, ◌*◌, ◌^◌, ◌<◌, pos, nat_abs, get_or};
@@ -30,12 +31,10 @@ fn contour_ok(contour: i8, khz: u32, subframes: u32) -> bool
 fn filter_most(period: i8) -> i8
     ensures { Upto 2 period → result ≡ pos (8 * 2 ^ nat_abs period - 1) }
 {
-    if period == 0 {
-        7
-    } else if period == 1 {
-        15
-    } else {
-        31
+    match period {
+        0 => 7,
+        1 => 15,
+        _ => 31,
     }
 }
 
@@ -60,8 +59,7 @@ pub fn pitch_ok_run(x: Indices, s: Setting) -> bool
     requires { Rate s.khz × Subframes s.subframes }
     ensures { Decides result (WritesPitch s x) }
 {
-    let ltp = x.ltp;
-    let filters = filters_ok(ltp, x.period, s.subframes);
+    let filters = filters_ok(x.ltp, x.period, s.subframes);
     lag_ok(x.lag, s.khz)
         & (contour_ok(x.contour, s.khz, s.subframes) & (filters & scale_ok(x.scale, s.mode)))
 }

@@ -1,6 +1,6 @@
 // The lent rows that the fields of a frame's side indices are coded by, and the number of its spectrum's places, for
 // reader and writer alike (RFC 6716, sections 4.2.7.3 to 4.2.7.7).
-#![tactic(auto, unfolding(silk::specs::Inner::Indices::lag_low_start, silk::specs::Inner::Indices::contour_start, silk::specs::Inner::Indices::contour_size))]
+#![tactic(auto)]
 
 ghost use Rattle.std.specs.Prelude.{◌≡◌, ◌+◌, ◌*◌, ◌/◌, ◌^◌, ◌<◌};
 ghost use Rattle.sheet.specs.Directory.{row_of, type_row, gain_row, gain_low_row, delta_gain_row, first_index_row};
@@ -144,6 +144,7 @@ pub fn lag_row_run(rows: &[u8]) -> &[u8]
     &rows[LAG..LAG + 32]
 }
 
+#[tactic(auto, unfolding(silk::specs::Inner::Indices::lag_low_start))]
 fn lag_low_start(khz: u32) -> usize
     ensures { result ≡ lag_low_start khz }
 {
@@ -171,6 +172,7 @@ pub fn delta_lag_row_run(rows: &[u8]) -> &[u8]
     &rows[DELTA_LAG..DELTA_LAG + 21]
 }
 
+#[tactic(auto, unfolding(silk::specs::Inner::Indices::contour_start))]
 fn contour_start(khz: u32, subframes: u32) -> usize
     ensures { result ≡ contour_start khz subframes }
 {
@@ -183,6 +185,7 @@ fn contour_start(khz: u32, subframes: u32) -> usize
 }
 
 // How many contours there are.
+#[tactic(auto, unfolding(silk::specs::Inner::Indices::contour_size))]
 pub fn contour_size(khz: u32, subframes: u32) -> usize
     ensures { result ≡ contour_size khz subframes }
 {
