@@ -1,5 +1,5 @@
 -- `index_filters_read::scale_index_run` meets its contract. Assumes nothing.
-use Rattle.std.proofs.Common.{◌≡◌, arith}
+use Rattle.std.proofs.Common.{arith}
 use Rattle.sheet.specs.Directory.{scale_row}
 use Rattle.silk.specs.Record.{put_scale}
 use Rattle.silk.specs.IndexSyntax.{said, scale}

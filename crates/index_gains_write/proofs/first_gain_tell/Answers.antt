@@ -31,7 +31,8 @@ returns-then-mode-eq2 c =
     let a = c.ec_enc_icdf8_run in
     rw (eq-eqb _ _ c.if-mode-eq2.true)
     (told_within {n = 16} {m = 32} (omega arith)
-    (told_ask c.delta_gain_row_run.ensures.is (ap nat_abs (kept c.args.mode c.requires.signal_bound.1)) a.ensures (told_done a.ensures.core)))
+    (told_ask c.delta_gain_row_run.ensures.is (ap nat_abs (kept c.args.mode c.requires.signal_bound.1)) a.ensures
+    (told_done a.ensures.core)))
 
 pub ec_enc_icdf8_run-h-requires-clause-icdf : goal.ec_enc_icdf8_run-h-requires-clause-icdf
 ec_enc_icdf8_run-h-requires-clause-icdf c =

@@ -1,5 +1,5 @@
 -- `index_pitch_read::pitch_run` meets its contract: lag, contour, filters, scale. Assumes nothing.
-use Rattle.std.proofs.Common.{ℕ, ℤ, ◌≡◌, List, Bool, refl, to_z, of_z, arith}
+use Rattle.std.proofs.Common.{ℕ, ℤ, ◌≡◌, List, Bool, refl}
 use borrow.Author.Rules.{rules}
 use mir.Syntax.{w16}
 use mir.Val.{SFits}

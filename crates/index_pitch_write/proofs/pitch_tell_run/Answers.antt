@@ -14,7 +14,8 @@ use Rattle.silk.proofs.IndexTold.{writing_next}
 use Rattle.index_pitch_write.proofs.pitch_tell_run.Goals as goal
 
 pub contour_tell_run-c-requires-clause-writing : goal.contour_tell_run-c-requires-clause-writing
-contour_tell_run-c-requires-clause-writing c = writing_next (2 ^ 29) c.requires.writing (c.lag_tell_run-l.ensures c.args.s.prevlag) (omega arith)
+contour_tell_run-c-requires-clause-writing c =
+    writing_next (2 ^ 29) c.requires.writing (c.lag_tell_run-l.ensures c.args.s.prevlag) (omega arith)
 
 pub period_tell_run-p-requires-clause-writing : goal.period_tell_run-p-requires-clause-writing
 period_tell_run-p-requires-clause-writing c =

@@ -16,4 +16,5 @@ returns-then-subframes-eq4 c =
 pub returns-else-subframes-eq4 : goal.returns-else-subframes-eq4
 unfolding interpolation
 returns-else-subframes-eq4 c =
-    fixed_read c.args.subframes 4 interpolation_row (λ y. said y.interp) (put_interp c.args.x.now) 4 c.if-subframes-eq4.false c.requires.core
+    fixed_read c.args.subframes 4 interpolation_row (λ y. said y.interp) (put_interp c.args.x.now) 4
+    c.if-subframes-eq4.false c.requires.core

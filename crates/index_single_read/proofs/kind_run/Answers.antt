@@ -1,5 +1,4 @@
 -- `index_single_read::kind_run` meets its contract. Assumes nothing.
-use Rattle.std.proofs.Common.{arith}
 use Rattle.tree.proofs.Ran.{ran_done, ran_ask}
 use Rattle.silk.specs.IndexSyntax.{kind}
 use Rattle.index_single_read.proofs.kind_run.Goals as goal

@@ -19,10 +19,14 @@ pub overflow_cast-kind-2 : goal.overflow_cast-kind-2
 overflow_cast-kind-2 c = let u = c.requires.upto in rw (kept u.1 (omega arith)) (upto_fits c.args.x.offset (omega arith) u.1)
 
 pub overflow_add-kind : goal.overflow_add-kind
-overflow_add-kind c = let u = c.requires.upto in rw (kept u.0 (omega arith), kept u.1 (omega arith)) (omega (arith, u.0.most, u.1.most))
+overflow_add-kind c =
+    let u = c.requires.upto in
+    rw (kept u.0 (omega arith), kept u.1 (omega arith)) (omega (arith, u.0.most, u.1.most))
 
 pub overflow_sub-kind : goal.overflow_sub-kind
-overflow_sub-kind c = let u = c.requires.upto in rw (kept u.0 (omega arith), kept u.1 (omega arith)) (omega (arith, c.requires.active_bound.1.least))
+overflow_sub-kind c =
+    let u = c.requires.upto in
+    rw (kept u.0 (omega arith), kept u.1 (omega arith)) (omega (arith, c.requires.active_bound.1.least))
 
 pub ec_enc_icdf8_run-requires-clause-icdf : goal.ec_enc_icdf8_run-requires-clause-icdf
 ec_enc_icdf8_run-requires-clause-icdf c =
@@ -37,4 +41,5 @@ returns c =
     let u = c.requires.upto in
     let a = c.ec_enc_icdf8_run in
     told_ask c.type_row_run.ensures.is
-    (ap₂ (λ (s o : ℤ). nat_abs s * 2 + nat_abs o - c.args.active * 2) (kept u.0 (omega arith)) (kept u.1 (omega arith))) a.ensures (told_done a.ensures.core)
+    (ap₂ (λ (s o : ℤ). nat_abs s * 2 + nat_abs o - c.args.active * 2) (kept u.0 (omega arith)) (kept u.1 (omega arith)))
+    a.ensures (told_done a.ensures.core)

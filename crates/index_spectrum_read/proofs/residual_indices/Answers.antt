@@ -17,7 +17,9 @@ overflow_mul-base c = omega (arith, rate_most c.requires.rate.0)
 pub loop-i-init : goal.loop-i-init
 loop-i-init c =
     record {
-      rest = ap (λ (m : ℕ). run c.args.packet.now c.args.d (residuals c.args.khz c.args.selectors.now m 0 c.args.x.now)) (sub-zero c.args.n);
+      rest =
+          ap (λ (m : ℕ). run c.args.packet.now c.args.d (residuals c.args.khz c.args.selectors.now m 0 c.args.x.now))
+          (sub-zero c.args.n);
       core = c.requires.reading.core;
       least = omega arith;
       most = omega arith;
@@ -36,7 +38,8 @@ pub loop-i-preserved : goal.loop-i-preserved
 loop-i-preserved c =
     let l = c.loop-i in
     let a = c.residual_index-a in
-    let e : run c.args.packet.now l.r (residual (residual_row c.args.khz (residual_pick c.args.selectors.now l.i))) ≡ got a.result.value a.result.state =
+    let t = residual (residual_row c.args.khz (residual_pick c.args.selectors.now l.i)) in
+    let e : run c.args.packet.now l.r t ≡ got a.result.value a.result.state =
     rw c.residual_pick_run-k.ensures at a.ensures.is in
     let f : SFits w8 a.result.value = search rules in
     rw (to_z-of_z f)

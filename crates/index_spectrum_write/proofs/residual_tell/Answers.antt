@@ -1,5 +1,5 @@
 -- `index_spectrum_write::residual_tell` meets its contract: a symbol, with an extension at either end. Assumes nothing.
-use Rattle.std.proofs.Common.{ℕ, ℤ, ◌≡◌, Bool, true, false, pos, negsuc, nat_abs, ◌+ℤ◌, arith}
+use Rattle.std.proofs.Common.{◌≡◌, true, false, pos, negsuc, nat_abs, ◌+ℤ◌, arith}
 use borrow.Author.Tests.{ne_eqb}
 use mir.Facts.{to_z-of_z}
 use lib.Signed.{le_z}
@@ -10,7 +10,8 @@ use Rattle.index_spectrum_write.proofs.residual_tell.Goals as goal
 pub ec_enc_icdf8_run-requires-then-z-ge4-clause-icdf : goal.ec_enc_icdf8_run-requires-then-z-ge4-clause-icdf
 ec_enc_icdf8_run-requires-then-z-ge4-clause-icdf c =
     let t = c.extension_row_run-then-z-ge4.ensures in
-    let e : c.extension_said-then-z-ge4.result ≡ extension_said c.args.z = rw (to_z-of_z c.ranges.z) at c.extension_said-then-z-ge4.ensures in
+    let x = c.extension_said-then-z-ge4 in
+    let e : x.result ≡ extension_said c.args.z = rw (to_z-of_z c.ranges.z) at x.ensures in
     (t.good, t.writable _ (omega (arith, e, c.requires.k_bound.1)))
 
 pub returns-then-z-leminus4 : goal.returns-then-z-leminus4

@@ -1,12 +1,12 @@
 -- `index_spectrum_write::residuals_tell` meets its contract. Assumes nothing.
-use Rattle.std.proofs.Common.{ℕ, ◌≡◌, ◌≤◌, ◌+◌, ◌-◌, ◌*◌, ◌^◌, length, pos, nat_abs, get_or, w8, arith}
+use Rattle.std.proofs.Common.{◌≡◌, ◌≤◌, ◌+◌, ◌^◌, length, pos, get_or, w8, arith}
 use borrow.Author.Rules.{rules}
 use native.Mathlib.Nat.{sub-zero}
 use Rattle.entcode.specs.Flat.{out}
 use Rattle.sheet.specs.Directory.{residual_row}
 use Rattle.tree.specs.Inner.Told.{Told}
 use Rattle.tree.proofs.Told.{midway_start, midway_next, midway_end, told_within}
-use Rattle.silk.specs.IndexSyntax.{residual_pick, residual, residuals}
+use Rattle.silk.specs.IndexSyntax.{residual_pick, residual}
 use Rattle.silk.proofs.IndexRows.{rate_most}
 use Rattle.silk.proofs.IndexParts.{abs_kept}
 use Rattle.silk.proofs.IndexTold.{residuals_told_end, residuals_told_next}

@@ -1,5 +1,5 @@
 -- `index_spectrum_write::spectrum_tell_run` meets its contract. Assumes nothing.
-use Rattle.std.proofs.Common.{ℤ, ◌≡◌, ◌<◌, ap, length, pos, nat_abs, get_or, to_z, of_z, w8, arith}
+use Rattle.std.proofs.Common.{ℤ, ◌≡◌, ap, length, pos, nat_abs, get_or, to_z, of_z, w8, arith}
 use borrow.Author.Rules.{rules}
 use Rattle.silk.specs.Inner.Indices.{Upto}
 use Rattle.silk.specs.IndexSyntax.{book_of}
