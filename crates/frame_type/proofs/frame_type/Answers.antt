@@ -4,7 +4,9 @@ use Rattle.entcode.specs.declared.Decoded.{Decoded}
 use Rattle.entcode.specs.Reader.{Bytes}
 use Rattle.refusals.specs.Numbers.{number_of, refusal_of}
 use Rattle.refusals.proofs.RefusalLaws.{number_refuses}
-use Rattle.silk.proofs.IndexRows.{Row, index_rows_lem, type_row}
+use Rattle.sheet.specs.Directory.{row_of}
+use Rattle.silk.specs.Inner.Indices.{Row}
+use Rattle.silk.proofs.IndexRows.{index_rows_lem, type_row}
 use Rattle.frame_type.specs.Kind.{types_of}
 use Rattle.frame_type.proofs.KindLaws.{type_accepts, Types, first_types, refused_types}
 use Rattle.frame_type.proofs.frame_type.Goals as goal
@@ -26,7 +28,7 @@ overflow_add-kind c =
     let z = sym c.type_rule.ensures ∙ ap refusal_of c.in-Ok.is in
     let l = (type_accepts c.args.packet.now c.args.active z).1 in
     let rows = c.index_rows-rows in
-    let row : Row (2 + c.args.active) (2 + c.args.active * 2) (lent rows.result c.args.active) =
+    let row : Row (row_of (2 + c.args.active)) (2 + c.args.active * 2) (lent rows.result c.args.active) =
     type_row (index_rows_lem rows.result rows.ensures) c.args.active l in
     let y : Bytes c.args.packet.now = λ i. omega (arith, c.type_inv.packet i) in
     let t = first_types c.args.packet.now c.args.active (lent rows.result c.args.active) y row.good row.is z in
@@ -37,7 +39,7 @@ returns-in-Ok c =
     let z = sym c.type_rule.ensures ∙ ap refusal_of c.in-Ok.is in
     let l = (type_accepts c.args.packet.now c.args.active z).1 in
     let rows = c.index_rows-rows in
-    let row : Row (2 + c.args.active) (2 + c.args.active * 2) (lent rows.result c.args.active) =
+    let row : Row (row_of (2 + c.args.active)) (2 + c.args.active * 2) (lent rows.result c.args.active) =
     type_row (index_rows_lem rows.result rows.ensures) c.args.active l in
     let y : Bytes c.args.packet.now = λ i. omega (arith, c.type_inv.packet i) in
     let t = first_types c.args.packet.now c.args.active (lent rows.result c.args.active) y row.good row.is z in
