@@ -7,7 +7,7 @@ use record_states::{writer_answer, writer_state};
 use records::Left;
 use silk::{Indices, IndicesWritten};
 
-// What is asked of a buffer, and what it should answer and leave.
+// What is asked of a buffer, and what it should answer and leave. A twin of `Reading`: the C interface has `Enc` and `Dec` apart.
 #[derive(Clone, Copy)]
 struct Writing<'a> {
     buffer: &'a [u8],

@@ -25,7 +25,7 @@ pub fn reader_state(bytes: &mut Unread<'_>) -> Option<Dec>
     })
 }
 
-// The last two have a sign.
+// The last two have a sign. Twins of the reader's: the C interface has `Dec` and `Enc`, `Decoded` and `Encoded` apart.
 pub fn writer_state(bytes: &mut Unread<'_>) -> Option<Enc>
     ensures { IfSome result (λ _. length bytes.new.left.now + 44 ≡ length bytes.old.left.now) }
 {

@@ -36,7 +36,8 @@ pub struct Parts<'a> {
     pub left: Left<'a>,
 }
 
-// None where the record breaks the layout. The bytes after a call that changes them, as long as before, stand last.
+// None where the record breaks the layout, which has `how` as bits. The bytes after a call that changes them, as long as
+// before, stand last.
 pub fn coded<'a>(record: Record<'a>, numbers: Unread<'a>, before: Left<'a>) -> Option<Parts<'a>>
     ensures { IfSome result (λ s. length s.left.bytes.now ≡ length before.entry.bytes.now) }
 {
