@@ -6,6 +6,7 @@ ghost use Rattle.std.specs.Prelude.{◌≡◌};
 ghost use Rattle.silk.specs.FrameCalls.{pulsed, decode_pulses};
 
 use entcode::{Dec, Decoded};
+use symbol_reader::Reader;
 
 pub fn silk_decode_pulses(
     packet: &[u8],
@@ -23,10 +24,11 @@ pub fn silk_decode_pulses(
         Ok(()) => {
             let rows = tables::rows::pulse_rows();
             let blocks = pulse_numbers::blocks_of_run(khz, subframes);
-            let state = decode_pulses_run::silk_decode_pulses_run(
-                packet, d, &rows, pulses, blocks, signal, offset,
+            let mut r = Reader { packet, state: d };
+            decode_pulses_run::silk_decode_pulses_run(
+                &mut r, &rows, pulses, blocks, signal, offset,
             );
-            Decoded::of(0, state)
+            Decoded::of(0, r.state)
         }
         Err(refusal) => Decoded::refused(refusal, d),
     }

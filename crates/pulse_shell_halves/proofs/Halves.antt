@@ -10,11 +10,12 @@ use lib.ListN.{length, take, drop, length-append, length-drop, take-append-drop,
 use lib.Seq.{drop-drop, length-take-le}
 use Rattle.lists.proofs.Parts.{replaced}
 use Rattle.entcode.specs.declared.Dec.{Dec}
-use Rattle.entcode.specs.Inner.Reading.{Core}
-use Rattle.tree.specs.Inner.Ran.{Ran}
 use Rattle.silk.specs.PulseSyntax.{split, shell}
 use Rattle.silk.specs.Inner.Pulses.{Placed}
 use Rattle.silk.proofs.PulseSteps.{halves}
+use Rattle.symbol_reader.specs.declared.Reader.{Reader}
+use Rattle.symbol_reader.specs.Inner.{Along}
+use Rattle.symbol_reader.proofs.AlongLaws.{along_ran}
 
 -- how many of p pulses lie in half h, where `left` lie in the first
 abbrev half_count : ℕ → ℕ → ℕ → ℕ
@@ -59,21 +60,26 @@ module _ (b : List ℕ) (k w n left p : ℕ) (d₀ : Dec) (s₀ : List ℤ) wher
   both_read (suc zero) f q l r = absurd (omega arith)
   both_read (suc (suc h)) f q l r = r
 
-  pub record Halving (s : List ℤ) (q : Dec) (h : ℕ) : Type 0 where
-    front : List ℤ
-    is : s ≡ front ++ drop (h * w) s₀
-    size : length front ≡ h * w
-    read : Read h front q
-    wide : length s₀ ≡ w + w
-    to : h ≤ 2
-    pub core : Core b q
-    pub most : q.total ≤ d₀.total + h * n
-    pub fewer : left ≤ p
+-- the same on a reader that is lent
+pub record Halving (k w n left p : ℕ) (r₀ : Reader) (s₀ : List ℤ) (r : Reader) (s : List ℤ) (h : ℕ) : Type 0 where
+  front : List ℤ
+  is : s ≡ front ++ drop (h * w) s₀
+  size : length front ≡ h * w
+  read : Read r₀.packet.now k w n left p r₀.state s₀ h front r.state
+  wide : length s₀ ≡ w + w
+  to : h ≤ 2
+  pub packet : r.packet ≡ r₀.packet
+  pub most : r.state.total ≤ r₀.state.total + h * n
+  pub fewer : left ≤ p
 
-module _ {b : List ℕ} {k w n left p : ℕ} {d₀ : Dec} {s₀ : List ℤ} where
-  pub halving_start : Core b d₀ → left ≤ p → length s₀ ≡ w + w → Halving b k w n left p d₀ s₀ s₀ d₀ 0
+same_packet : (r z : Reader) (k c : ℕ) {d q : Dec} {n : ℕ} {s : List ℤ} → z.packet ≡ r.packet → Placed z.packet.now d (shell k c) n s q
+    → Placed r.packet.now d (shell k c) n s q
+same_packet r z k c e a = rw e at a
+
+module _ {k w n left p : ℕ} {r₀ : Reader} {s₀ : List ℤ} where
+  pub halving_start : left ≤ p → length s₀ ≡ w + w → Halving k w n left p r₀ s₀ r₀ s₀ 0
   unfolding Read
-  halving_start c l e =
+  halving_start l e =
       let z : 0 * w ≡ 0 = omega arith in
       record {
         front = [];
@@ -82,12 +88,12 @@ module _ {b : List ℕ} {k w n left p : ℕ} {d₀ : Dec} {s₀ : List ℤ} wher
         read = (refl, refl);
         wide = e;
         to = omega arith;
-        core = c;
+        packet = refl;
         most = omega arith;
         fewer = l;
       }
 
-  module _ {s : List ℤ} {q : Dec} {h : ℕ} (g : Halving b k w n left p d₀ s₀ s q h) where
+  module _ {r : Reader} {s : List ℤ} {h : ℕ} (g : Halving k w n left p r₀ s₀ r s h) where
     sized : length s ≡ h * w + (w + w - h * w)
     sized = ap length g.is ∙ length-append g.front (drop (h * w) s₀) ∙ rw (g.size, length-drop (h * w) s₀, g.wide)
 
@@ -95,13 +101,15 @@ module _ {b : List ℕ} {k w n left p : ℕ} {d₀ : Dec} {s₀ : List ℤ} wher
     halving_kept = omega (arith, sized, within w h g.to, g.wide)
 
     -- both are read, behind their split
-    pub halving_end : {d : Dec} → 2 ≤ h → Ran b d (split k p) 16 left d₀ → Placed b d (shell (suc k) p) (16 + (n + (n + 0))) s q
-    halving_end l r =
-        let t = both_read b k w n left p d₀ s₀ h g.front q l g.read in
+    pub halving_end : {r₋ : Reader} → 2 ≤ h → Along r₋ (split k p) 16 left r₀
+        → Placed r₋.packet.now r₋.state (shell (suc k) p) (16 + (n + (n + 0))) s r.state
+    halving_end {r₋ = r₋} l a =
+        let t = both_read r₀.packet.now k w n left p r₀.state s₀ h g.front r.state l g.read in
         let two : h ≡ 2 = omega (arith, g.to) in
         let all : length s₀ ≤ h * w = omega (arith, g.wide, ap (λ (i : ℕ). i * w) two) in
         let e : s ≡ t.one ++ t.two = g.is ∙ rw (drop_of_length-le s₀ {i = h * w} all) (append-nil g.front ∙ t.is) in
-        rw e (halves k p r t.first t.second)
+        rw e (halves k p (along_ran a) (same_packet r₋ r₀ k left a.packet t.first)
+        (same_packet r₋ r₀ k (p - left) a.packet t.second))
 
     module _ (l : h < 2) where
       halving_fits : h * w + w ≤ length s
@@ -125,17 +133,19 @@ module _ {b : List ℕ} {k w n left p : ℕ} {d₀ : Dec} {s₀ : List ℤ} wher
           ∙ ap (λ (t : List ℤ). (g.front ++ y) ++ t) (drop-drop w (h * w) s₀ ∙ ap (λ (i : ℕ). drop i s₀) (one_more w h l))
 
       -- it is read
-      pub halving_next : {c : ℕ} {y : List ℤ} {z : Dec} → c ≡ half_count left p h → length y ≡ length (take (h * w + w - h * w) (drop (h * w) s))
-          → Placed b q (shell k c) n y z → Halving b k w n left p d₀ s₀ (take (h * w) s ++ (y ++ drop (h * w + w - h * w) (drop (h * w) s))) z (h + 1)
-      halving_next {y = y} {z = z} c e r =
+      pub halving_next : {c : ℕ} {y : List ℤ} {z : Reader} → c ≡ half_count left p h → length y ≡ length (take (h * w + w - h * w) (drop (h * w) s))
+          → z.packet ≡ r.packet → Placed r.packet.now r.state (shell k c) n y z.state
+          → Halving k w n left p r₀ s₀ z (take (h * w) s ++ (y ++ drop (h * w + w - h * w) (drop (h * w) s))) (h + 1)
+      halving_next {c = c} {y = y} {z = z} f e q a =
+          let at = rw g.packet at a in
           record {
             front = g.front ++ y;
             is = stored y;
             size = length-append g.front y ∙ omega (arith, g.size, e, part, one_more w h l);
-            read = next_read b k w n left p d₀ s₀ h g.front y q z l g.read (rw c at r);
+            read = next_read r₀.packet.now k w n left p r₀.state s₀ h g.front y r.state z.state l g.read (rw f at at);
             wide = g.wide;
             to = omega arith;
-            core = r.ran.core;
-            most = omega (arith, r.ran.most, g.most, one_more n h l);
+            packet = q ∙ g.packet;
+            most = omega (arith, a.ran.most, g.most, one_more n h l);
             fewer = g.fewer;
           }

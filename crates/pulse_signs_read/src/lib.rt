@@ -4,37 +4,23 @@
 
 ghost use Rattle.std.specs.Prelude.{◌≡◌, true, ◌^◌, ◌<◌, ◌≤◌, pos, nat_abs, length, replicate};
 ghost use Rattle.icdf.specs.Rule.{Icdf};
-ghost use Rattle.entcode.specs.Inner.Reading.{Core};
 ghost use Rattle.tree.specs.Inner.Growth.{of_symbols};
-ghost use Rattle.tree.specs.Inner.Ran.{Ran};
 ghost use Rattle.silk.specs.PulseSyntax.{each, sign};
 ghost use Rattle.silk.specs.Inner.Pulses.{mags, Natural};
+ghost use Rattle.symbol_reader.specs.Inner.{Along};
 ghost use Rattle.pulse_signs_read.specs.Inner.{Gathered};
 
-use entcode::Dec;
-
-// A pulse with its sign, and the reader behind it.
-#[derive(Clone, Copy)]
-pub struct SignRead {
-    pub pulse: i16,
-    pub state: Dec,
-}
+use symbol_reader::Reader;
 
 // The pulse of magnitude m, which is not 0.
-fn decode_sign(packet: &[u8], d: Dec, row: &[u8], m: i16) -> SignRead
-    requires core { Core packet.now d }
-    requires total_bound { d.total ≤ 2 ^ 30 }
+fn decode_sign(r: &mut Reader, row: &[u8], m: i16) -> i16
+    requires total_bound { r.old.state.total ≤ 2 ^ 30 }
     requires icdf { Icdf 8 row.now }
     requires m_value { (m ≡ pos (nat_abs m)) × (1 ≤ nat_abs m) }
-    ensures { Ran packet.now d (sign row.now (nat_abs m)) (of_symbols 1) result.pulse result.state }
+    ensures { Along r.old (sign row.now (nat_abs m)) (of_symbols 1) result r.new }
 {
-    let a = entdec_run::ec_dec_icdf8_run(packet, d, row);
-    let minus = a.value == 0;
-    let pulse = if minus { -m } else { m };
-    SignRead {
-        pulse,
-        state: a.state,
-    }
+    let minus = r.symbol_run(row) == 0;
+    if minus { -m } else { m }
 }
 
 // The places that have a pulse, in their order, and how many. Each place is stored, and the next one takes its place
@@ -52,24 +38,18 @@ fn pulse_places(places: &[i16], at: &mut [u8; 16]) -> usize
 }
 
 // The pulses of a block, from their magnitudes.
-fn all_signs(packet: &[u8], from: Dec, row: &[u8], places: &mut [i16]) -> Dec
-    requires core { Core packet.now from }
-    requires total_bound { from.total ≤ 2 ^ 29 }
+fn all_signs(r: &mut Reader, row: &[u8], places: &mut [i16])
+    requires total_bound { r.old.state.total ≤ 2 ^ 29 }
     requires icdf { Icdf 8 row.now }
     requires natural { Natural places.old × (length places.old ≡ 16) }
-    ensures { Ran packet.now from (each (pos 0) (sign row.now) (mags places.old)) 256
-        places.new result }
+    ensures { Along r.old (each (pos 0) (sign row.now) (mags places.old)) (of_symbols 16) places.new r.new }
 {
     let mut at = [0u8; 16];
     let n = pulse_places(places, &mut at);
-    let mut d = from;
     for k in &at[..n] {
         let k = usize::from(*k);
-        let a = decode_sign(packet, d, row, places[k]);
-        places[k] = a.pulse;
-        d = a.state;
+        places[k] = decode_sign(r, row, places[k]);
     }
-    d
 }
 
 // Whether no place has a pulse: all are looked at, so that no jump depends on them. From the end: upward, a frame's pulses
@@ -85,23 +65,14 @@ fn no_pulse(places: &[i16]) -> bool
 }
 
 // The same. Where the counts say that the block is empty, its places are looked at side by side, and no sign is asked for.
-pub fn silk_decode_signs_run(
-    packet: &[u8],
-    from: Dec,
-    row: &[u8],
-    places: &mut [i16],
-    empty: bool,
-) -> Dec
-    requires core { Core packet.now from }
-    requires total_bound { from.total ≤ 2 ^ 29 }
+pub fn silk_decode_signs_run(r: &mut Reader, row: &[u8], places: &mut [i16], empty: bool)
+    requires total_bound { r.old.state.total ≤ 2 ^ 29 }
     requires icdf { Icdf 8 row.now }
     requires natural { Natural places.old × (length places.old ≡ 16) }
-    ensures { Ran packet.now from (each (pos 0) (sign row.now) (mags places.old)) 256
-        places.new result }
+    ensures { Along r.old (each (pos 0) (sign row.now) (mags places.old)) (of_symbols 16) places.new r.new }
 {
     if empty && no_pulse(places) {
-        from
-    } else {
-        all_signs(packet, from, row, places)
+        return;
     }
+    all_signs(r, row, places);
 }

@@ -40,3 +40,8 @@ along_within l p = record { is = p.is; packet = p.packet; least = p.least; most 
 -- the promise of a part whose state goes by value
 pub along_ran : {R A : Type 0} {r z : Reader} {t : Asks R A} {n : ℕ} {x : A} → Along r t n x z → Ran r.packet.now r.state t n x z.state
 along_ran {z = z} p = record { is = p.is; core = rw p.packet at z.core; least = p.least; most = p.most }
+
+-- a run of the states, where the packet stays
+pub ran_along : {R A : Type 0} {r z : Reader} {t : Asks R A} {n : ℕ} {x : A} → z.packet ≡ r.packet → Ran r.packet.now r.state t n x z.state
+    → Along r t n x z
+ran_along e p = record { is = p.is; packet = e; least = p.least; most = p.most }

@@ -20,8 +20,16 @@ blocks_of_run-blocks-requires c =
     let o = (pulse_open (length a.pulses.now) a.khz a.subframes a.signal a.offset f.1).numbers in
     (o.khz16, o.subframes4)
 
-pub silk_decode_pulses_run-state-requires : goal.silk_decode_pulses_run-state-requires
-silk_decode_pulses_run-state-requires c =
+pub invariant_of-r : goal.invariant_of-r
+invariant_of-r c =
+    let a = c.args in
+    let z = sym (ap refusal_of c.in-Ok.is)
+    ∙ and_refuses c.gate.result c.pulse_rule-rule.result c.and.ensures c.gate.ensures c.pulse_rule-rule.ensures in
+    let f = first_none _ _ (sym z) in
+    record { core = (gate_open a.packet.now a.d f.0).sound.core }
+
+pub silk_decode_pulses_run-requires : goal.silk_decode_pulses_run-requires
+silk_decode_pulses_run-requires c =
     let a = c.args in
     let z = sym (ap refusal_of c.in-Ok.is)
     ∙ and_refuses c.gate.result c.pulse_rule-rule.result c.and.ensures c.gate.ensures c.pulse_rule-rule.ensures in
@@ -31,7 +39,6 @@ silk_decode_pulses_run-state-requires c =
     let o = k.numbers in
     let e = c.blocks_of_run-blocks.ensures in
     record {
-      core = g.sound.core;
       total_bound = omega (arith, g.low);
       pulse_rows = pulse_rows_lem _ c.pulse_rows-rows.ensures;
       n_bound = (omega (arith, e, blocks_most a.khz a.subframes o.khz16 o.subframes4), omega (arith, e, k.length16), o.signal2, o.offset1);
@@ -42,10 +49,7 @@ returns-in-Ok c =
     let a = c.args in
     let z = sym (ap refusal_of c.in-Ok.is)
     ∙ and_refuses c.gate.result c.pulse_rule-rule.result c.and.ensures c.gate.ensures c.pulse_rule-rule.ensures in
-    let r = c.silk_decode_pulses_run-state in
-    let s = r.new.pulses in
-    let x : Excited a.packet.now a.d a.signal a.offset _ s r.result =
-    subst (λ (k : ℕ). Excited a.packet.now a.d a.signal a.offset k s r.result) c.blocks_of_run-blocks.ensures r.ensures in
+    let x = rw c.blocks_of_run-blocks.ensures at c.silk_decode_pulses_run.ensures.excited in
     rw c.of.ensures
     (pulses_read a.packet.now a.d a.pulses.now a.khz a.subframes a.signal a.offset 0 z refl _ _ x.value x.ran.is x.is)
 

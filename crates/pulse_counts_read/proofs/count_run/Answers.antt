@@ -12,13 +12,13 @@ use Rattle.pulse_counts_read.proofs.count_run.Goals as goal
 not_tenth : (j v : ℕ) → j ≤ 10 → (j ≡ 10 → v < 17) → v ≡ 17 → j < 10
 not_tenth j v h f e = grind arith
 
-pub ec_dec_icdf8_run-a-requires-clause-icdf : goal.ec_dec_icdf8_run-a-requires-clause-icdf
-ec_dec_icdf8_run-a-requires-clause-icdf c =
+pub symbol_run-v-requires-clause-icdf : goal.symbol_run-v-requires-clause-icdf
+symbol_run-v-requires-clause-icdf c =
     let e = count_in c.args.rows.now c.args.level c.requires.pulse_rows (omega arith) in
     rw e (row_good (48 + c.args.level) (omega arith))
 
-pub ec_dec_icdf8_run-b-requires-clause-icdf : goal.ec_dec_icdf8_run-b-requires-clause-icdf
-ec_dec_icdf8_run-b-requires-clause-icdf c =
+pub symbol_run-v-requires-in-loop-v-clause-icdf : goal.symbol_run-v-requires-in-loop-v-clause-icdf
+symbol_run-v-requires-in-loop-v-clause-icdf c =
     let j = c.loop-v.j + 1 in
     let e = later_in c.args.rows.now j c.later_at-at.result c.requires.pulse_rows c.later_at-at.ensures in
     rw e (later j).good
@@ -30,31 +30,31 @@ loop-v-preserved c =
     let t = c.loop-v-test.true in
     let p : l.j < 10 = not_tenth l.j l.v i.to i.tenth t in
     let e = later_in c.args.rows.now (l.j + 1) c.later_at-at.result c.requires.pulse_rows c.later_at-at.ensures in
-    let b = c.ec_dec_icdf8_run-b in
+    let b = rw i.packet at c.symbol_run-v-in-loop-v.ensures.took in
     let g = later (l.j + 1) in
     record {
-      rest = lows_next _ l.d _ 10 l.j l.v b.result e b.ensures p t ∙ i.rest;
-      core = b.ensures.core;
+      rest = lows_next _ l.r.state _ 10 l.j l.v _ e b p t ∙ i.rest;
+      packet = c.symbol_run-v-in-loop-v.ensures.packet ∙ i.packet;
       to = omega arith;
-      most17 = omega (arith, b.ensures.inside, ap length e, g.most);
-      tenth = λ q. omega (arith, b.ensures.inside, ap length e, g.tenth q);
-      least = omega (arith, b.ensures.least);
-      most = omega (arith, b.ensures.most);
+      most17 = omega (arith, b.inside, ap length e, g.most);
+      tenth = λ q. omega (arith, b.inside, ap length e, g.tenth q);
+      least = omega (arith, b.least);
+      most = omega (arith, b.most);
     }
 
-pub returns-clause-ran : goal.returns-clause-ran
+pub returns-clause-along : goal.returns-clause-along
 unfolding count
-returns-clause-ran c =
+returns-clause-along c =
     let l = c.loop-v in
     let i = l.invariant in
-    let a = c.ec_dec_icdf8_run-a in
+    let a = c.symbol_run-v.ensures.took in
     let level = c.args.level in
     let e = count_in c.args.rows.now c.args.level c.requires.pulse_rows (omega arith) in
     record {
-      is = sym (asked _ c.args.from _ (count_row level) (count_said 0) (λ v. low_counts 10 0 v) a.result e a.ensures)
+      is = sym (asked _ c.args.r.now.state _ (count_row level) (count_said 0) (λ v. low_counts 10 0 v) _ e a)
           ∙ sym i.rest
-          ∙ lows_end _ l.d (10 - l.j) l.j l.v c.loop-v-test.false;
-      core = i.core;
-      least = omega (arith, a.ensures.least);
-      most = omega (arith, a.ensures.most);
+          ∙ lows_end _ l.r.state (10 - l.j) l.j l.v c.loop-v-test.false;
+      packet = i.packet;
+      least = omega (arith, a.least);
+      most = omega (arith, a.most);
     }

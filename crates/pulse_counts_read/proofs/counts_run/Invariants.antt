@@ -8,7 +8,9 @@ use Rattle.pulse_counts_read.proofs.counts_run.Given as goal
 
 abbrev pub invariant-loop-i : goal.invariant-loop-i
 invariant-loop-i l = record {
-  through : Through l.packet l.fn.from (counts l.level l.n) (176 * l.i) (blocks_from l.counts l.lows 0 l.i) l.d (counts l.level (l.n - l.i));
+  through : Through l.fn.r.packet.now l.fn.r.state (counts l.level l.n) (176 * l.i) (blocks_from l.counts l.lows 0 l.i) l.r.state
+      (counts l.level (l.n - l.i));
+  packet : l.r.packet ≡ l.fn.r.packet;
   size : length l.counts ≡ 20;
   size_lows : length l.lows ≡ 20;
   most : AtMost 16 l.counts;

@@ -12,6 +12,7 @@ use Rattle.entcode.specs.declared.Dec.{Dec}
 use Rattle.lists.specs.AtMost.{AtMost}
 use Rattle.silk.specs.PulseSyntax.{each, low_bits}
 use Rattle.silk.specs.Inner.Pulses.{Placed, mags}
+use Rattle.symbol_reader.proofs.AlongLaws.{along_ran}
 use Rattle.silk.proofs.PulsePlaces.{Going, going_natural, going_value, going_next, Ended, going_ended}
 use Rattle.pulse_lows_read.proofs.all_lows.Goals as goal
 
@@ -42,34 +43,35 @@ overflow_cast-places c =
     let r = c.requires.natural in
     let s = c.args.places.now in
     rw (to_z-of_z f)
-    (natural_fits (get_or l.places l.k (pos 0)) (natural _ _ s _ l.places l.d l.k l.invariant.going t r.1)
-    (small _ _ s _ l.places l.d l.k l.invariant.going t r.1 r.2))
+    (natural_fits (get_or l.places l.k (pos 0)) (natural _ _ s _ l.places l.r.state l.k l.invariant.going t r.1)
+    (small _ _ s _ l.places l.r.state l.k l.invariant.going t r.1 r.2))
 
-pub low_bits-a-requires-clause-m_bound : goal.low_bits-a-requires-clause-m_bound
-low_bits-a-requires-clause-m_bound c =
+pub low_bits-requires-clause-m_bound : goal.low_bits-requires-clause-m_bound
+low_bits-requires-clause-m_bound c =
     let l = c.loop-k in
     let f : SFits w16 (get_or c.loop-k.places c.loop-k.k (pos 0)) = search rules in
     let r = c.requires.natural in (
-      rw (to_z-of_z f) (small _ _ c.args.places.now _ l.places l.d l.k l.invariant.going c.loop-k-test.true r.1 r.2),
+      rw (to_z-of_z f) (small _ _ c.args.places.now _ l.places l.r.state l.k l.invariant.going c.loop-k-test.true r.1 r.2),
       c.requires.row_value.1,
     )
 
 pub loop-k-preserved : goal.loop-k-preserved
 loop-k-preserved c =
     let l = c.loop-k in
-    let a = c.low_bits-a in
+    let a = c.low_bits in
     let f : SFits w16 (get_or c.loop-k.places c.loop-k.k (pos 0)) = search rules in
     let h = counted c.args.places.now c.requires.natural.1 in
-    rw (to_z_pos w16 {n = a.result.value} (omega (arith, a.ensures.value_bound)))
+    let q = along_ran a.ensures.along in
+    let ran = rw (l.invariant.packet, to_z-of_z f) at q in
+    rw (to_z_pos w16 {n = a.result} (omega (arith, a.ensures.value_bound)))
     (record {
-      going =
-          going_next _ _ _ _ _ _ _ l.places l.d l.k l.invariant.going (omega arith) a.result.value a.result.state 160 (omega arith)
-          (rw (to_z-of_z f) at a.ensures.ran);
-      size = length-set l.places l.k (pos a.result.value) ∙ l.invariant.size;
+      going = going_next _ _ _ _ _ _ _ l.places l.r.state l.k l.invariant.going (omega arith) a.result a.new.r.state 160 (omega arith) ran;
+      packet = a.ensures.along.packet ∙ l.invariant.packet;
+      size = length-set l.places l.k (pos a.result) ∙ l.invariant.size;
     })
 
-pub returns : goal.returns
-returns c =
+pub returns-clause-placed : goal.returns-clause-placed
+returns-clause-placed c =
     let l = c.loop-k in
     let h = counted c.args.places.now c.requires.natural.1 in
-    finish _ _ c.args.places.now _ _ _ (going_ended _ _ _ _ _ _ _ l.places l.d l.k l.invariant.going (omega arith)) h
+    finish _ _ c.args.places.now _ _ _ (going_ended _ _ _ _ _ _ _ l.places l.r.state l.k l.invariant.going (omega arith)) h

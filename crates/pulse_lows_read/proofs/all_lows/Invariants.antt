@@ -7,6 +7,7 @@ use Rattle.pulse_lows_read.proofs.all_lows.Given as goal
 
 abbrev pub invariant-loop-k : goal.invariant-loop-k
 invariant-loop-k l = record {
-  going : Going pos 0 (low_bits l.n) 160 l.packet l.fn.from (mags l.fn.places) l.places l.d l.k;
+  going : Going pos 0 (low_bits l.n) 160 l.fn.r.packet.now l.fn.r.state (mags l.fn.places) l.places l.r.state l.k;
+  packet : l.r.packet ≡ l.fn.r.packet;
   size : length l.places ≡ 16;
 }

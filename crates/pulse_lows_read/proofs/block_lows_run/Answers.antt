@@ -17,5 +17,5 @@ none b d n s e c h =
       is = h;
     }
 
-pub returns-then-n-eq0 : goal.returns-then-n-eq0
-returns-then-n-eq0 c = none _ _ c.args.n c.args.places.now c.if-n-eq0.true c.requires.core c.requires.natural.0
+pub returns-else-n-ne0-clause-placed : goal.returns-else-n-ne0-clause-placed
+returns-else-n-ne0-clause-placed c = none _ _ c.args.n c.args.places.now (omega arith) c.args.r.now.core c.requires.natural.0

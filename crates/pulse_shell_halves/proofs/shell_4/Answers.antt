@@ -1,14 +1,18 @@
 -- A split, then each half.
+use Rattle.std.proofs.Common.{◌∙◌}
 use Rattle.pulse_shell_halves.proofs.Halves.{halving_start, halving_next, halving_end}
 use Rattle.pulse_shell_halves.proofs.shell_4.Goals as goal
 
 pub loop-h-init : goal.loop-h-init
-loop-h-init c = let a = c.decode_split_run-a.ensures in halving_start a.ran.core a.value_le_p c.requires.p_bound.1
+loop-h-init c = halving_start c.decode_split_run-left.ensures.value_le_p c.requires.p_bound.1
 
 pub loop-h-preserved : goal.loop-h-preserved
 loop-h-preserved c =
-    let r = c.shell_2-q in
-    halving_next c.loop-h.invariant c.loop-h-test.true c.half_count_run-c.ensures r.auto.places r.ensures
+    let a = c.shell_2 in
+    halving_next c.loop-h.invariant c.loop-h-test.true c.half_count_run-c.ensures a.auto.places a.ensures.packet a.ensures.placed
 
-pub returns : goal.returns
-returns c = halving_end c.loop-h.invariant c.loop-h-test.false c.decode_split_run-a.ensures.ran
+pub returns-clause-placed : goal.returns-clause-placed
+returns-clause-placed c = halving_end c.loop-h.invariant c.loop-h-test.false c.decode_split_run-left.ensures.along
+
+pub returns-clause-packet : goal.returns-clause-packet
+returns-clause-packet c = c.loop-h.invariant.packet ∙ c.decode_split_run-left.ensures.along.packet

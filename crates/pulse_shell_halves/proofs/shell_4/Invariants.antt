@@ -3,4 +3,4 @@ use Rattle.pulse_shell_halves.proofs.Halves.{Halving}
 use Rattle.pulse_shell_halves.proofs.shell_4.Given as goal
 
 abbrev pub invariant-loop-h : goal.invariant-loop-h
-invariant-loop-h l = Halving l.packet 1 2 16 l.left l.p l.initial.q l.fn.places l.places l.q l.h
+invariant-loop-h l = Halving 1 2 16 l.left l.p l.initial.r l.fn.places l.r l.places l.h

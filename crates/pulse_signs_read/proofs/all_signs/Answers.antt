@@ -1,5 +1,5 @@
 -- Up to the next place that has a pulse nothing is asked, and there its sign.
-use Rattle.std.proofs.Common.{◌≡◌, ◌+◌, ◌<◌, ◌≤◌, ℕ, length, get_or, pos, rules, arith, add-one}
+use Rattle.std.proofs.Common.{◌≡◌, ◌+◌, ◌<◌, ◌≤◌, ◌∙◌, ℕ, length, get_or, pos, rules, arith, add-one}
 use mathlib.Core.List.{List}
 use lib.IntN.{ℤ, nat_abs}
 use lib.ListN.{set, length-map}
@@ -11,6 +11,7 @@ use Rattle.tree.specs.Inner.Ran.{Ran}
 use Rattle.silk.specs.PulseSyntax.{sign}
 use Rattle.silk.specs.Inner.Pulses.{mags}
 use Rattle.silk.proofs.PulsePlaces.{going_next}
+use Rattle.symbol_reader.proofs.AlongLaws.{along_ran, ran_along}
 use Rattle.pulse_signs_read.specs.Inner.{mag, behind, Gathered}
 use Rattle.pulse_signs_read.proofs.Signing.{Signing, signing_mag, signing_natural, signing_bare, signing_ended}
 use Rattle.pulse_signs_read.proofs.all_signs.Goals as goal
@@ -36,30 +37,32 @@ module _ (packet row : List ℕ) (s₀ : List ℤ) (at : List ℕ) (n : ℕ) (d�
       let m : get_or at t 0 < length (mags s₀) = omega (arith, r.below t l, length-map s₀ nat_abs) in
       rw (add-one t) (rw add-one at (going_next _ _ _ _ _ _ _ s d (get_or at t 0) reached m x e 16 (omega arith) q))
 
-pub decode_sign-a-requires-clause-m_value : goal.decode_sign-a-requires-clause-m_value
-decode_sign-a-requires-clause-m_value c =
+pub decode_sign-requires-clause-m_value : goal.decode_sign-requires-clause-m_value
+decode_sign-requires-clause-m_value c =
     let l = c.loop-k in
     let i = l.invariant in
     let f : SFits w16 (get_or c.loop-k.places c.from-k.result (pos 0)) = search rules in
     let h : c.loop-k.k-index < c.pulse_places-n.result = omega arith in
     rw (to_z-of_z f, c.from-k.ensures)
-    (asked _ _ c.args.places.now _ c.pulse_places-n.result c.args.from l.places l.d l.k-index i.gathered i.going h c.requires.natural.1)
+    (asked _ _ c.args.places.now _ c.pulse_places-n.result c.args.r.now.state l.places l.r.state l.k-index i.gathered i.going h c.requires.natural.1)
 
 pub loop-k-preserved : goal.loop-k-preserved
 loop-k-preserved c =
     let l = c.loop-k in
     let i = l.invariant in
     let f : SFits w16 (get_or c.loop-k.places c.from-k.result (pos 0)) = search rules in
-    let p : SFits w16 c.decode_sign-a.result.pulse = search rules in
+    let p : SFits w16 c.decode_sign.result = search rules in
     let h : c.loop-k.k-index < c.pulse_places-n.result = omega arith in
-    let a = c.decode_sign-a in
-    let q = rw (to_z-of_z f, c.from-k.ensures) at a.ensures in
+    let a = c.decode_sign in
+    let ran = along_ran a.ensures in
+    let q = rw (i.packet, to_z-of_z f, c.from-k.ensures) at ran in
     record {
       gathered = i.gathered;
       going =
           rw (to_z-of_z p, c.from-k.ensures)
-          (answered _ _ c.args.places.now _ c.pulse_places-n.result c.args.from l.places l.d l.k-index i.gathered i.going h
-          c.requires.natural.1 a.result.pulse a.result.state q);
+          (answered _ _ c.args.places.now _ c.pulse_places-n.result c.args.r.now.state l.places l.r.state l.k-index i.gathered i.going h
+          c.requires.natural.1 a.result a.new.r.state q);
+      packet = a.ensures.packet ∙ i.packet;
       size = search rules;
       count = i.count;
     }
@@ -73,4 +76,5 @@ returns c =
     let n = c.requires.natural.1 in
     let e : c.loop-k.k-index ≡ c.pulse_places-n.result = omega arith in
     let g = rw e at i.going in
-    signing_ended _ _ s _ l.places l.d (signing_bare _ _ s _ l.places l.d _ 16 r.to (omega (arith, n)) r.rest g) n
+    ran_along i.packet
+    (signing_ended _ _ s _ l.places l.r.state (signing_bare _ _ s _ l.places l.r.state _ 16 r.to (omega (arith, n)) r.rest g) n)

@@ -7,7 +7,8 @@ use Rattle.pulse_signs_read.proofs.all_signs.Given as goal
 abbrev pub invariant-loop-k : goal.invariant-loop-k
 invariant-loop-k l = record {
   gathered : Gathered l.fn.places l.k-items l.n 16;
-  going : Signing l.packet l.row l.fn.places l.fn.from l.places l.d (behind l.k-items l.k-index);
+  going : Signing l.fn.r.packet.now l.row l.fn.places l.fn.r.state l.places l.r.state (behind l.k-items l.k-index);
+  packet : l.r.packet ≡ l.fn.r.packet;
   size : length l.places ≡ 16;
   count : length l.k-items ≡ l.n;
 }

@@ -12,6 +12,7 @@ use Rattle.tree.proofs.Through.{before}
 use Rattle.silk.specs.PulseSyntax.{each, sign}
 use Rattle.silk.proofs.PulseSteps.{each_next}
 use Rattle.silk.specs.Inner.Pulses.{mags}
+use Rattle.symbol_reader.proofs.AlongLaws.{ran_along}
 use Rattle.pulse_signs_read.proofs.silk_decode_signs_run.Goals as goal
 
 no_signs : (b : List ℕ) (d : Dec) (r : List ℕ) (n : ℕ) → run b d (each (pos 0) (sign r) (mags (replicate n (pos 0)))) ≡ got (replicate n (pos 0)) d
@@ -24,4 +25,4 @@ none : (b : List ℕ) (d : Dec) (r : List ℕ) (s : List ℤ) → s ≡ replicat
 none b d r s e c = rw e (record { is = no_signs b d r (length s); core = c; least = omega arith; most = omega arith })
 
 pub returns-then-no_pulse : goal.returns-then-no_pulse
-returns-then-no_pulse c = none _ _ _ c.args.places.now (c.no_pulse.ensures c.if-no_pulse.true) c.requires.core
+returns-then-no_pulse c = ran_along refl (none _ _ _ c.args.places.now (c.no_pulse.ensures c.if-no_pulse.true) c.args.r.now.core)
