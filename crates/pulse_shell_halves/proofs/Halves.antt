@@ -60,7 +60,7 @@ module _ (b : List ℕ) (k w n left p : ℕ) (d₀ : Dec) (s₀ : List ℤ) wher
   both_read (suc zero) f q l r = absurd (omega arith)
   both_read (suc (suc h)) f q l r = r
 
--- the same on a reader that is lent
+-- h halves are read, from the reader r₀ on
 pub record Halving (k w n left p : ℕ) (r₀ : Reader) (s₀ : List ℤ) (r : Reader) (s : List ℤ) (h : ℕ) : Type 0 where
   front : List ℤ
   is : s ≡ front ++ drop (h * w) s₀
@@ -72,6 +72,7 @@ pub record Halving (k w n left p : ℕ) (r₀ : Reader) (s₀ : List ℤ) (r : R
   pub most : r.state.total ≤ r₀.state.total + h * n
   pub fewer : left ≤ p
 
+-- a half read behind the split, as read from the packet before it
 same_packet : (r z : Reader) (k c : ℕ) {d q : Dec} {n : ℕ} {s : List ℤ} → z.packet ≡ r.packet → Placed z.packet.now d (shell k c) n s q
     → Placed r.packet.now d (shell k c) n s q
 same_packet r z k c e a = rw e at a

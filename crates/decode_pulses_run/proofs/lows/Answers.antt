@@ -7,9 +7,6 @@ use Rattle.decode_pulses_run.proofs.lows.Goals as goal
 pub loop-i-init : goal.loop-i-init
 loop-i-init c = record { going = round_start c.requires.n_bound.2 c.args.r.now.core; packet = refl }
 
-pub block_lows_run-requires-clause-total_bound : goal.block_lows_run-requires-clause-total_bound
-block_lows_run-requires-clause-total_bound c = omega (arith, c.loop-i.invariant.going.turning.through.most)
-
 pub block_lows_run-requires-clause-row_value : goal.block_lows_run-requires-clause-row_value
 block_lows_run-requires-clause-row_value c =
     (low_bit_in c.args.rows.now c.requires.pulse_rows, omega (arith, c.from.ensures, c.requires.n_bound.1 c.loop-i.i))

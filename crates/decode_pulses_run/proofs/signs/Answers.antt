@@ -1,5 +1,5 @@
 -- The signs of one more block, by the row of its count before low bits.
-use Rattle.std.proofs.Common.{◌∙◌, get_or, refl, sym, arith}
+use Rattle.std.proofs.Common.{◌∙◌, get_or, refl, sym}
 use mathlib.Core.List.{map-id}
 use Rattle.silk.proofs.PulseRowLaws.{sign_good, sign_lent}
 use Rattle.symbol_reader.proofs.AlongLaws.{along_ran}
@@ -8,9 +8,6 @@ use Rattle.decode_pulses_run.proofs.signs.Goals as goal
 
 pub loop-i-init : goal.loop-i-init
 loop-i-init c = record { going = round_start c.requires.blocks_bound.3 c.args.r.now.core; packet = refl }
-
-pub silk_decode_signs_run-requires-clause-total_bound : goal.silk_decode_signs_run-requires-clause-total_bound
-silk_decode_signs_run-requires-clause-total_bound c = omega (arith, c.loop-i.invariant.going.turning.through.most, c.requires.blocks_bound.0)
 
 pub silk_decode_signs_run-requires-clause-icdf : goal.silk_decode_signs_run-requires-clause-icdf
 silk_decode_signs_run-requires-clause-icdf c =

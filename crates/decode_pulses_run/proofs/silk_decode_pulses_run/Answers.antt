@@ -57,8 +57,3 @@ returns-clause-excited c =
     let signed = rw last at c.signs.ensures.signed in
     chain _ _ _ _ c.args.signal c.args.offset c.args.n f.result.counts f.result.lows c.shells.new.pulses c.lows.new.pulses _ _ _ _ _
     c.requires.n_bound.0 (rate_in c.args.rows.now k c.requires.pulse_rows h) a.took counts split lowered signed
-
-pub returns-clause-packet : goal.returns-clause-packet
-returns-clause-packet c =
-    c.signs.ensures.packet ∙ c.lows.ensures.packet ∙ c.shells.ensures.packet ∙ c.counts_run-x.ensures.along.packet
-    ∙ c.symbol_run-level.ensures.packet

@@ -1,5 +1,4 @@
 -- A split, then each half.
-use Rattle.std.proofs.Common.{◌∙◌}
 use Rattle.pulse_shell_halves.proofs.Halves.{halving_start, halving_next, halving_end}
 use Rattle.pulse_shell_halves.proofs.shell_8_run.Goals as goal
 
@@ -13,6 +12,3 @@ loop-h-preserved c =
 
 pub returns-clause-placed : goal.returns-clause-placed
 returns-clause-placed c = halving_end c.loop-h.invariant c.loop-h-test.false c.decode_split_run-left.ensures.along
-
-pub returns-clause-packet : goal.returns-clause-packet
-returns-clause-packet c = c.loop-h.invariant.packet ∙ c.decode_split_run-left.ensures.along.packet

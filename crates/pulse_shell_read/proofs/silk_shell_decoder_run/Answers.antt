@@ -1,5 +1,5 @@
 -- Nothing for no pulses, else a split, then each half.
-use Rattle.std.proofs.Common.{◌∙◌, length}
+use Rattle.std.proofs.Common.{length}
 use Rattle.pulse_shell_empty.proofs.Empty.{no_pulses}
 use Rattle.pulse_shell_halves.proofs.Halves.{halving_start, halving_next, halving_end}
 use Rattle.pulse_shell_read.proofs.silk_shell_decoder_run.Goals as goal
@@ -18,6 +18,3 @@ loop-h-preserved c =
 
 pub returns-clause-placed : goal.returns-clause-placed
 returns-clause-placed c = halving_end c.loop-h.invariant c.loop-h-test.false c.decode_split_run-left.ensures.along
-
-pub returns-clause-packet : goal.returns-clause-packet
-returns-clause-packet c = c.loop-h.invariant.packet ∙ c.decode_split_run-left.ensures.along.packet
