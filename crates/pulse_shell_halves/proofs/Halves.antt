@@ -32,8 +32,8 @@ one_more w zero l = omega arith
 one_more w (suc zero) l = omega arith
 one_more w (suc (suc h)) l = absurd (omega arith)
 
--- 2 x w places, each half of 2^k, with `left` of p pulses in the first; a half has at most n bits
-module _ (b : List ℕ) (k w n left p : ℕ) (d₀ : Dec) (s₀ : List ℤ) where
+-- each half of 2^k places, with `left` of p pulses in the first; a half has at most n bits
+module _ (b : List ℕ) (k n left p : ℕ) (d₀ : Dec) where
   record Both (s : List ℤ) (q : Dec) : Type 0 where
     pub one : List ℤ
     pub two : List ℤ
@@ -60,12 +60,12 @@ module _ (b : List ℕ) (k w n left p : ℕ) (d₀ : Dec) (s₀ : List ℤ) wher
   both_read (suc zero) f q l r = absurd (omega arith)
   both_read (suc (suc h)) f q l r = r
 
--- h halves are read, from the reader r₀ on
+-- h halves of 2 x w places are read, from the reader r₀ on
 pub record Halving (k w n left p : ℕ) (r₀ : Reader) (s₀ : List ℤ) (r : Reader) (s : List ℤ) (h : ℕ) : Type 0 where
   front : List ℤ
   is : s ≡ front ++ drop (h * w) s₀
   size : length front ≡ h * w
-  read : Read r₀.packet.now k w n left p r₀.state s₀ h front r.state
+  read : Read r₀.packet.now k n left p r₀.state h front r.state
   wide : length s₀ ≡ w + w
   to : h ≤ 2
   pub packet : r.packet ≡ r₀.packet
@@ -105,7 +105,7 @@ module _ {k w n left p : ℕ} {r₀ : Reader} {s₀ : List ℤ} where
     pub halving_end : {r₋ : Reader} → 2 ≤ h → Along r₋ (split k p) 16 left r₀
         → Placed r₋.packet.now r₋.state (shell (suc k) p) (16 + (n + (n + 0))) s r.state
     halving_end {r₋ = r₋} l a =
-        let t = both_read r₀.packet.now k w n left p r₀.state s₀ h g.front r.state l g.read in
+        let t = both_read r₀.packet.now k n left p r₀.state h g.front r.state l g.read in
         let two : h ≡ 2 = omega (arith, g.to) in
         let all : length s₀ ≤ h * w = omega (arith, g.wide, ap (λ (i : ℕ). i * w) two) in
         let e : s ≡ t.one ++ t.two = g.is ∙ rw (drop_of_length-le s₀ {i = h * w} all) (append-nil g.front ∙ t.is) in
@@ -143,7 +143,7 @@ module _ {k w n left p : ℕ} {r₀ : Reader} {s₀ : List ℤ} where
             front = g.front ++ y;
             is = stored y;
             size = length-append g.front y ∙ omega (arith, g.size, e, part, one_more w h l);
-            read = next_read r₀.packet.now k w n left p r₀.state s₀ h g.front y r.state z.state l g.read (rw f at at);
+            read = next_read r₀.packet.now k n left p r₀.state h g.front y r.state z.state l g.read (rw f at at);
             wide = g.wide;
             to = omega arith;
             packet = q ∙ g.packet;
