@@ -1,5 +1,5 @@
 -- A byte at the buffer's front or back, and what placing keeps. Assumes nothing.
-use Prim.Native.Nat.{ℕ, zero, suc, ◌+◌, ◌-◌, ◌≤◌, ◌<◌}
+use Prim.Native.Nat.{ℕ, suc, ◌+◌, ◌-◌, ◌≤◌, ◌<◌}
 use mathlib.Core.Path.{◌≡◌, refl, sym, ap, ◌∙◌}
 use mathlib.Core.List.{List, [], ◌∷◌}
 use native.Mathlib.Omega.{arith}
@@ -44,16 +44,17 @@ put_full o b h l =
     (record { kept = h.fair.kept; rem = h.fair.rem; error = refl })
     (rw (le-ltb (o.state.offs + o.state.endoffs) (length o.buf) l))
 
--- the same byte n times: one and the others, or none
-pub many_one : (n : ℕ) (o : Out) (b : ℕ) → 0 < n → put_all (put_all o (b ∷ [])) (replicate (n - 1) b) ≡ put_all o (replicate n b)
-many_one zero o b h = absurd (omega arith)
-many_one (suc n) o b h =
-    let e : suc n - 1 ≡ n = omega arith in
-    ap (λ (k : ℕ). put_all (put_all o (b ∷ [])) (replicate k b)) e ∙ put_more o b (replicate n b)
+-- the same byte for the turns from k to n: one and the others, or none
+pub many_one : (n k : ℕ) (o : Out) (b : ℕ) → k < n
+    → put_all (put_all o (b ∷ [])) (replicate (n - (k + 1)) b) ≡ put_all o (replicate (n - k) b)
+many_one n k o b h =
+    let e : n - k ≡ suc (n - (k + 1)) = omega arith in
+    put_more o b (replicate (n - (k + 1)) b) ∙ ap (λ (j : ℕ). put_all o (replicate j b)) (sym e)
 
-pub many_none : (n : ℕ) (o : Out) (b : ℕ) → Fair o → n ≤ 0 → put_all o (replicate n b) ≡ o
-many_none zero o b f h = put_none o f
-many_none (suc n) o b f h = absurd (omega arith)
+pub many_none : (n k : ℕ) (o : Out) (b : ℕ) → Fair o → n ≤ k → put_all o (replicate (n - k) b) ≡ o
+many_none n k o b f h =
+    let e : n - k ≡ 0 = omega arith in
+    ap (λ (j : ℕ). put_all o (replicate j b)) e ∙ put_none o f
 
 -- ---- the back
 

@@ -34,10 +34,8 @@ fn put_many(buf: &mut [u8], from: Enc, b: u8, count: u32) -> Enc
     ensures { out buf.new result ≡ put_all (out buf.old from) (replicate count b) }
 {
     let mut w = from;
-    let mut n = count;
-    while 0 < n {
+    for _ in 0..count {
         w = put_byte(buf, w, b);
-        n -= 1;
     }
     w
 }

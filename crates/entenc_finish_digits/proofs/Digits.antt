@@ -58,17 +58,18 @@ held_gone (negsuc n) e = refl
 
 -- ---- digits
 
-pub digits_more : (o : Out) (v n : ℕ) → 0 < n → digits_out (carried o (v / 2 ^ 23)) (256 * (v % 2 ^ 23)) (n - 1) ≡ digits_out o v n
+-- the digits of the turns from k to n: one and the others, or none
+pub digits_more : (o : Out) (v n k : ℕ) → k < n
+    → digits_out (carried o (v / 2 ^ 23)) (256 * (v % 2 ^ 23)) (n - (k + 1)) ≡ digits_out o v (n - k)
 unfolding digits_out carried
-digits_more o v zero h = absurd (omega arith)
-digits_more o v (suc n) h =
-    let e : suc n - 1 ≡ n = omega arith in
-    ap₂ (λ (k : ℕ) (w : Writer). flat (digits_w k (256 * (v % 2 ^ 23)) w)) e (as_flat (carry_w (as_writer o) (v / 2 ^ 23)))
+digits_more o v n k h =
+    let e : n - k ≡ suc (n - (k + 1)) = omega arith in
+    rw e
+    (ap (λ (w : Writer). flat (digits_w (n - (k + 1)) (256 * (v % 2 ^ 23)) w)) (as_flat (carry_w (as_writer o) (v / 2 ^ 23))))
 
-pub digits_none : (o : Out) (v n : ℕ) → n ≤ 0 → rested o ≡ digits_out o v n
+pub digits_none : (o : Out) (v n k : ℕ) → n ≤ k → rested o ≡ digits_out o v (n - k)
 unfolding digits_out rested
-digits_none o v zero h = refl
-digits_none o v (suc n) h = absurd (omega arith)
+digits_none o v n k h = let e : n - k ≡ 0 = omega arith in rw e refl
 
 -- what a digit keeps
 pub record Carried (o q : Out) : Type 0 where

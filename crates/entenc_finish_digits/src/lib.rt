@@ -58,11 +58,9 @@ pub fn put_digits_run(buf: &mut [u8], from: Enc, end: u32, count: u32) -> Enc
 {
     let mut w = from;
     let mut v = end;
-    let mut n = count;
-    while 0 < n {
+    for _ in 0..count {
         w = carry_out_run(buf, w, v / 0x80_0000);
         v = 256 * (v % 0x80_0000);
-        n -= 1;
     }
     put_rest(buf, w)
 }
