@@ -1,4 +1,5 @@
 -- Both lists of predictors in one row, as code has them: place by place, with a 0 for the last of either. Assumes nothing.
+pub mod BookLaws
 use Rattle.std.specs.Prelude.{ℕ, List, [], ◌∷◌, get_or}
 use Rattle.sheet.specs.Books.{Book}
 

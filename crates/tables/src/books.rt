@@ -4,7 +4,7 @@
 ghost use Rattle.std.specs.Prelude.{◌≡◌, ◌<◌, ℕ, ℤ, [], map, pos, get_or};
 ghost use Rattle.sheet.specs.Books.{narrow_book, wide_book};
 ghost use Rattle.tables.specs.Inner.{predictor_row};
-ghost use Rattle.tables.specs.BookLaws.{Lists, BookLaws, narrow_laws, wide_laws};
+ghost use Rattle.tables.specs.Inner.BookLaws.{Lists, BookLaws, narrow_laws, wide_laws};
 
 use nlsf_weights::weights_run;
 

@@ -5,7 +5,7 @@ use mir.Syntax.{w32}
 use mir.Val.{SFits}
 use mir.Facts.{to_z-of_z}
 use Rattle.sheet.specs.Books.{Book}
-use Rattle.tables.specs.BookLaws.{BookLaws}
+use Rattle.tables.specs.Inner.BookLaws.{BookLaws}
 use Rattle.tables.specs.Inner.{predictor_row}
 use Rattle.tables.proofs.VectorLaws.{vector_weighed}
 use Rattle.nlsf_stabilize_stays.proofs.StayLaws.{stays_still}
