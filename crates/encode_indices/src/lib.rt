@@ -6,7 +6,7 @@ ghost use Rattle.std.specs.Prelude.{◌≡◌, ◌^◌, ◌<◌, nat_abs};
 ghost use Rattle.entcode.specs.Flat.{out};
 ghost use Rattle.tree.specs.Inner.Growth.{of_symbols};
 ghost use Rattle.tree.specs.Inner.Told.{Told};
-ghost use Rattle.refusals.specs.Numbers.{refusal_of};
+ghost use Rattle.refusals.specs.Inner.{refusal_of};
 ghost use Rattle.silk.specs.Inner.Indices.{Writing, Rate, Subframes, Upto, WritesPitch, Writes};
 ghost use Rattle.silk.specs.IndexSyntax.{voicing, indices};
 ghost use Rattle.silk.specs.FrameCalls.{next_lag};

@@ -6,7 +6,7 @@
 ghost use Rattle.std.specs.Prelude.{◌≡◌};
 ghost use Rattle.entcode.specs.Flat.{out};
 ghost use Rattle.entcode.specs.Writing.{sent};
-ghost use Rattle.refusals.specs.Numbers.{refusal_of};
+ghost use Rattle.refusals.specs.Inner.{refusal_of};
 ghost use Rattle.silk.specs.PulseWriting.{write_numbers, encode_pulses};
 
 use entcode::{Enc, Encoded};

@@ -9,7 +9,7 @@ ghost use Rattle.entcode.specs.Cuts.{upper};
 ghost use Rattle.entcode.specs.Reading.{gives, nought as noughtR, refuses};
 ghost use Rattle.entcode.specs.Sound.{gate, window_ok};
 ghost use Rattle.entcode.specs.Writing.{nought as noughtW};
-ghost use Rattle.refusals.specs.Numbers.{number_of, refusal_of};
+ghost use Rattle.refusals.specs.Inner.{number_of, refusal_of};
 
 use refusals::Refusal;
 

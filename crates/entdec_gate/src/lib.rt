@@ -3,7 +3,7 @@
 
 ghost use Rattle.std.specs.Prelude.{◌≡◌};
 ghost use Rattle.entcode.specs.Sound.{sound_r, gate_r};
-ghost use Rattle.refusals.specs.Numbers.{refusal_of};
+ghost use Rattle.refusals.specs.Inner.{refusal_of};
 
 use entcode::{Dec, window_ok};
 use entdec_sound::{places_ok, range_ok, small_ok, total_ok};

@@ -3,7 +3,7 @@
 
 ghost use Rattle.std.specs.Prelude.{◌≡◌};
 ghost use Rattle.entcode.specs.Sound.{sound_w, gate_w};
-ghost use Rattle.refusals.specs.Numbers.{refusal_of};
+ghost use Rattle.refusals.specs.Inner.{refusal_of};
 
 use entcode::{Enc, window_ok};
 use entenc_sound::{counts_ok, places_ok, range_ok, signs_ok};

@@ -5,7 +5,7 @@
 ghost use Rattle.std.specs.Prelude.{◌≡◌};
 ghost use Rattle.entcode.specs.Models.{bit, raw, num};
 ghost use Rattle.entcode.specs.Rules.{say_rule};
-ghost use Rattle.refusals.specs.Numbers.{refusal_of};
+ghost use Rattle.refusals.specs.Inner.{refusal_of};
 
 use refusals::Refusal;
 

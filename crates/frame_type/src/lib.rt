@@ -5,7 +5,7 @@
 ghost use Rattle.std.specs.Prelude.{◌≡◌, cond, leb};
 ghost use Rattle.entcode.specs.Reading.{dec_open};
 ghost use Rattle.frame_type.specs.Kind.{type_rule, frame_type};
-ghost use Rattle.refusals.specs.Numbers.{refusal_of};
+ghost use Rattle.refusals.specs.Inner.{refusal_of};
 
 use refusals::Refusal;
 use tables::rows::index_rows;

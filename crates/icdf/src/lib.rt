@@ -4,7 +4,7 @@
 
 ghost use Rattle.std.specs.Prelude.{◌≡◌, ◌≤◌, length};
 ghost use Rattle.icdf.specs.Test.{falls_ok, scale_ok, icdf_ok, symbol_ok, icdf_rule, symbol_rule};
-ghost use Rattle.refusals.specs.Numbers.{refusal_of};
+ghost use Rattle.refusals.specs.Inner.{refusal_of};
 
 use refusals::Refusal;
 

@@ -3,7 +3,7 @@
 #![tactic(auto)]
 
 ghost use Rattle.std.specs.Prelude.{◌≡◌, cond, nat_abs};
-ghost use Rattle.refusals.specs.Numbers.{refusal_of};
+ghost use Rattle.refusals.specs.Inner.{refusal_of};
 ghost use Rattle.silk.specs.Inner.Indices.{Upto};
 ghost use Rattle.silk.specs.FrameCalls.{setting_ok, next_lag};
 

@@ -5,7 +5,7 @@
 ghost use Rattle.std.specs.Prelude.{◌≡◌, pos, negsuc};
 ghost use Rattle.lists.specs.Every.{every};
 ghost use Rattle.ranges.specs.InRange.{in_range};
-ghost use Rattle.refusals.specs.Numbers.{refusal_of};
+ghost use Rattle.refusals.specs.Inner.{refusal_of};
 ghost use Rattle.spectrum.specs.Calls.{book_of, place_indices, numbers_ok, decode_refusal, decoded, decode_call};
 
 use book::spectrum_run;

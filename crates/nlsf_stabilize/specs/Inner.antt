@@ -1,6 +1,6 @@
 -- What stabilising asks, and the sum of gaps with the gap set's rule in one number. Assumes nothing.
 use Rattle.std.specs.Prelude.{ℕ, suc, ◌≤◌, ◌<◌, ◌≡◌, cond, List, ℤ, pos, negsuc, Option, None, Some, Result, Ok, Err, length}
-use Rattle.refusals.specs.Numbers.{number_of}
+use Rattle.refusals.specs.Inner.{number_of}
 use Rattle.refusals.specs.declared.Refusal.{Refusal}
 use Rattle.spectrum.specs.declared.Moves.{Moves}
 use Rattle.spectrum.specs.Gaps.{good_gaps, Ruled}

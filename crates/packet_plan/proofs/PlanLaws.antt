@@ -8,7 +8,7 @@ use lib.Dec.{eqb, ltb}
 use Rattle.std.specs.Prelude.{Option, Some, IfSome, Err}
 use Rattle.refusals.specs.declared.Refusal.{Refusal}
 use Rattle.refusals.specs.declared.Refusal.TheVariants.{Value}
-use Rattle.refusals.specs.Numbers.{number_of}
+use Rattle.refusals.specs.Inner.{number_of}
 use Rattle.framing.specs.Lengths.{total}
 use Rattle.framing.specs.Writing.{alike, shortest_code, bare, shortest, length_for, write_rule}
 use Rattle.framing.proofs.Kept.{by_bool}

@@ -1,7 +1,7 @@
 -- What is known of a packet before it is written: no public contract speaks of it. Assumes nothing.
 use Rattle.std.specs.Prelude.{ℕ, ◌≡◌, Result, List, IfOk}
 use Rattle.refusals.specs.declared.Refusal.{Refusal}
-use Rattle.refusals.specs.Numbers.{refusal_of}
+use Rattle.refusals.specs.Inner.{refusal_of}
 use Rattle.framing.specs.Writing.{alike, shortest_code, bare as bareOf, length_for, write_rule}
 use Rattle.packet_plan.specs.declared.Plan.{Plan}
 

@@ -3,7 +3,7 @@
 #![tactic(auto)]
 
 ghost use Rattle.std.specs.Prelude.{◌≤◌, ◌<◌, ◌≡◌, get_or};
-ghost use Rattle.refusals.specs.Numbers.{number_of};
+ghost use Rattle.refusals.specs.Inner.{number_of};
 ghost use Rattle.framing.specs.Reading.{refused as refusedOf, accepted as acceptedOf, packet_read};
 ghost use Rattle.packet_form.specs.Inner.{Bounded};
 ghost use Rattle.packet_places.specs.Inner.{Spanned};

@@ -4,7 +4,7 @@
 
 ghost use Rattle.std.specs.Prelude.{◌≡◌, eqb};
 ghost use Rattle.lists.specs.Every.{every};
-ghost use Rattle.refusals.specs.Numbers.{refusal_of};
+ghost use Rattle.refusals.specs.Inner.{refusal_of};
 ghost use Rattle.framing.specs.Lengths.{total};
 ghost use Rattle.framing.specs.Rules.{fits_frame};
 ghost use Rattle.framing.specs.Writing.{alike, frames_rule};

@@ -13,7 +13,7 @@ use Rattle.lists.specs.Every.{every}
 use Rattle.lists.proofs.EveryLaws.{every_at}
 use Rattle.lists.specs.AtMost.{AtMost}
 use Rattle.refusals.specs.declared.Refusal.{Refusal}
-use Rattle.refusals.specs.Numbers.{number_of}
+use Rattle.refusals.specs.Inner.{number_of}
 use Rattle.refusals.proofs.RefusalLaws.{number_refuses}
 use Rattle.framing.specs.Rules.{fits_frame}
 use Rattle.framing.specs.Inner.{Writable}

@@ -2,7 +2,7 @@
 #![tactic(auto)]
 
 ghost use Rattle.std.specs.Prelude.{◌≡◌, ◌≤◌};
-ghost use Rattle.refusals.specs.Numbers.{refusal_of};
+ghost use Rattle.refusals.specs.Inner.{refusal_of};
 ghost use Rattle.silk.specs.FrameCalls.{pulse_numbers_ok, blocks_of, pulse_rule};
 
 use refusals::Refusal;

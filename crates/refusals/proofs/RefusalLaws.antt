@@ -1,11 +1,11 @@
--- Laws of `specs/Numbers`: a refusal's number is not 0, and of two checks `and` is the first that refuses. Assumes nothing.
+-- Laws of `specs/Inner`: a refusal's number is not 0, and of two checks `and` is the first that refuses. Assumes nothing.
 use Rattle.std.proofs.Common.{ℕ, ◌≡◌, ◌∙◌, refl, sym, ap, arith, Result, Ok, Err}
 use mathlib.Core.Path.{ap₂}
 use Rattle.std.specs.Result.{result_and}
 use Rattle.refusals.specs.declared.Refusal.{Refusal}
 use Rattle.refusals.specs.declared.Refusal.TheVariants.{TooLong, Unsound, Total, Number, Table, Length, Gaps, Value, Input, Framing, NotSpeech}
 use Rattle.refusals.specs.First.{first_of}
-use Rattle.refusals.specs.Numbers.{number_of, refusal_of}
+use Rattle.refusals.specs.Inner.{number_of, refusal_of}
 
 pub number_refuses : (refusal : Refusal) → number_of refusal ≡ 0 → ⊥
 number_refuses TooLong e = omega (arith, e)

@@ -3,7 +3,7 @@
 
 ghost use Rattle.std.specs.Prelude.{◌≡◌};
 ghost use Rattle.refusals.specs.First.{first_of};
-ghost use Rattle.refusals.specs.Numbers.{number_of};
+ghost use Rattle.refusals.specs.Inner.{number_of};
 
 // By their numbers in the table.
 #[derive(Clone, Copy, PartialEq, Eq)]

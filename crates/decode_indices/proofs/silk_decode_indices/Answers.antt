@@ -3,7 +3,7 @@ use Rattle.std.proofs.Common.{◌≡◌, ◌∙◌, sym, ap, subst, arith, rules
 use mir.Syntax.{w16}
 use mir.Val.{SFits}
 use mir.Facts.{to_z-of_z}
-use Rattle.refusals.specs.Numbers.{number_of, refusal_of}
+use Rattle.refusals.specs.Inner.{number_of, refusal_of}
 use Rattle.refusals.proofs.RefusalLaws.{number_refuses, and_refuses}
 use Rattle.entcode.specs.Reader.{Bytes}
 use Rattle.tree.specs.Asks.{Got}

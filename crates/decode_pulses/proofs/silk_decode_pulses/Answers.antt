@@ -1,6 +1,6 @@
 -- The first refusal, or the excitation. Assumes nothing.
 use Rattle.std.proofs.Common.{ℕ, ◌≡◌, ◌∙◌, refl, sym, ap, subst, arith, rules, length}
-use Rattle.refusals.specs.Numbers.{number_of, refusal_of}
+use Rattle.refusals.specs.Inner.{number_of, refusal_of}
 use Rattle.refusals.proofs.FirstLaws.{first_none}
 use Rattle.refusals.proofs.RefusalLaws.{number_refuses, and_refuses}
 use Rattle.entcode.specs.Sound.{gate_r}

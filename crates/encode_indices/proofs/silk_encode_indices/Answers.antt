@@ -3,7 +3,7 @@ use Rattle.std.proofs.Common.{◌≡◌, ◌∙◌, refl, sym, ap, arith, rules}
 use mir.Syntax.{w16}
 use mir.Val.{SFits}
 use mir.Facts.{to_z-of_z}
-use Rattle.refusals.specs.Numbers.{number_of, refusal_of}
+use Rattle.refusals.specs.Inner.{number_of, refusal_of}
 use Rattle.refusals.proofs.RefusalLaws.{number_refuses}
 use Rattle.entcode.specs.Flat.{Out, out}
 use Rattle.silk.specs.declared.IndicesWritten.{IndicesWritten}

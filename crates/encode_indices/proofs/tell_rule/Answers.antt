@@ -1,7 +1,7 @@
 -- Gate and numbers, then the fields. Assumes nothing.
 use Rattle.std.proofs.Common.{◌≡◌, ◌∙◌, refl, sym, ap, rules}
 use mathlib.Core.Bool.{Bool, cond}
-use Rattle.refusals.specs.Numbers.{number_of, refusal_of}
+use Rattle.refusals.specs.Inner.{number_of, refusal_of}
 use Rattle.refusals.proofs.RefusalLaws.{number_refuses, and_refuses}
 use Rattle.entcode.specs.Flat.{out}
 use Rattle.silk.specs.Record.{Shape}

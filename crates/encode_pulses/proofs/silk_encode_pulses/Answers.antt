@@ -1,6 +1,6 @@
 -- The first refusal, a block without a shift, or the excitation. Assumes nothing.
 use Rattle.std.proofs.Common.{◌≡◌, ◌≤◌, ◌∙◌, refl, sym, ap, arith, rules, length, true, false}
-use Rattle.refusals.specs.Numbers.{number_of, refusal_of}
+use Rattle.refusals.specs.Inner.{number_of, refusal_of}
 use Rattle.refusals.proofs.RefusalLaws.{number_refuses, and_refuses}
 use Rattle.entcode.specs.Flat.{out}
 use Rattle.silk.proofs.PulseRowLaws.{pulse_rows_lem}

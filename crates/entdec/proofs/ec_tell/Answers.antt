@@ -1,7 +1,7 @@
 -- A sound total is at least the range's bit length. Assumes nothing.
 use Rattle.std.proofs.Common.{ℕ, ◌-◌, ◌∙◌, sym, ap, arith}
 use Rattle.bitlen.proofs.LengthLaws.{length_most}
-use Rattle.refusals.specs.Numbers.{number_of, refusal_of}
+use Rattle.refusals.specs.Inner.{number_of, refusal_of}
 use Rattle.refusals.proofs.RefusalLaws.{number_refuses}
 use Rattle.entcode.specs.Cuts.{account}
 use Rattle.entcode.specs.Reading.{gives, refuses, dec_tell}

@@ -1,6 +1,6 @@
 -- The state decides the refusal, and without one it is finished. Assumes nothing.
 use Rattle.std.proofs.Common.{◌∙◌, refl, sym, ap}
-use Rattle.refusals.specs.Numbers.{number_of, refusal_of}
+use Rattle.refusals.specs.Inner.{number_of, refusal_of}
 use Rattle.refusals.proofs.RefusalLaws.{number_refuses}
 use Rattle.entcode.specs.Flat.{out}
 use Rattle.entcode.proofs.WritingLaws.{gate_runs, done_takes, done_refuses}

@@ -1,7 +1,7 @@
 -- A sound state's total is at least the bit length of its range. Assumes nothing.
 use Rattle.std.proofs.Common.{ℕ, ◌-◌, ◌∙◌, refl, sym, ap, arith}
 use Rattle.bitlen.proofs.LengthLaws.{length_most}
-use Rattle.refusals.specs.Numbers.{number_of, refusal_of}
+use Rattle.refusals.specs.Inner.{number_of, refusal_of}
 use Rattle.refusals.proofs.RefusalLaws.{number_refuses}
 use Rattle.entcode.specs.Cuts.{account}
 use Rattle.entcode.specs.Flat.{out}

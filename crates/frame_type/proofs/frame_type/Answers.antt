@@ -2,7 +2,7 @@
 use Rattle.std.proofs.Common.{ℕ, ◌≡◌, ◌∙◌, ◌+◌, ◌*◌, ◌-◌, sym, ap, arith, rules, List, take, drop, refl}
 use Rattle.entcode.specs.declared.Decoded.{Decoded}
 use Rattle.entcode.specs.Reader.{Bytes}
-use Rattle.refusals.specs.Numbers.{number_of, refusal_of}
+use Rattle.refusals.specs.Inner.{number_of, refusal_of}
 use Rattle.refusals.proofs.RefusalLaws.{number_refuses}
 use Rattle.sheet.specs.Directory.{row_of}
 use Rattle.silk.specs.Inner.Indices.{Row}
