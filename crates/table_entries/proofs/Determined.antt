@@ -1,5 +1,5 @@
--- Any two entries that the contract of `tg_table_entry` admits for one table and place coincide. `Post` is the contract itself, as the toolchain reads
--- it from the call's `ensures`. Assumes nothing.
+-- Any two entries that the contract of `tg_table_entry` admits for one table and place coincide. `Post` is the contract itself, as the
+-- toolchain reads it from the call's `ensures`. Assumes nothing.
 use mathlib.Core.Path.{◌≡◌, sym, ◌∙◌}
 use Rattle.table_entries.proofs.tg_table_entry.Reads as table-entry
 

@@ -1,115 +1,109 @@
-// Entries of a book, table by table: of the wide one, or of the narrow one. The rows of a table are as long as a
-// constant of its arm.
-ghost use Rattle.std.specs.Prelude.{◌≡◌, ◌<◌, get_or};
+// Entries of a book, table by table, none past a table's end.
+ghost use Rattle.std.specs.Prelude.{◌≡◌, get_or};
+ghost use Rattle.std.specs.List.{slice_get};
 ghost use mathlib.Core.List.{[], flatten};
-ghost use Rattle.table_entries.specs.Entries.{no_entry, book_tables};
-ghost use Rattle.table_entries.specs.Inner.{book_by};
+ghost use Rattle.table_entries.specs.Entries.{book_tables};
 
-use crate::entry::{NO_ENTRY, byte, gap, word};
-use tables::books::{Book, Narrow, Wide, book_weights_run};
+use tables::books::{Book, book_weights_run};
 
-fn vectors_entry(wide: bool, place: usize) -> u32
-    ensures { result ≡ get_or (flatten (book_by wide).vectors) place no_entry }
+fn vectors_entry<
+    const N: usize,
+    const H: usize,
+    const P: usize,
+    const G: usize,
+    B: Book<N, H, P, G>,
+>(place: usize) -> Option<u32>
+    ensures { result ≡ slice_get (flatten B.lists.vectors) place }
 {
-    if wide {
-        if place >= 512 {
-            return NO_ENTRY;
-        }
-        let t = Wide::vector_run(place / 16);
-        return byte(t[place % 16]);
+    let v = place / N;
+    if v < 32 {
+        Some(u32::from(B::vector_run(v)[place % N]))
+    } else {
+        None
     }
-    if place >= 320 {
-        return NO_ENTRY;
-    }
-    let u = Narrow::vector_run(place / 10);
-    byte(u[place % 10])
 }
 
-fn weights_entry(wide: bool, place: usize) -> u32
-    ensures { result ≡ get_or (flatten (book_by wide).weights) place no_entry }
+fn weights_entry<
+    const N: usize,
+    const H: usize,
+    const P: usize,
+    const G: usize,
+    B: Book<N, H, P, G>,
+>(place: usize) -> Option<u32>
+    ensures { result ≡ slice_get (flatten B.lists.weights) place }
 {
-    if wide {
-        if place >= 512 {
-            return NO_ENTRY;
-        }
-        let t = book_weights_run::<16, 8, 32, 17, Wide>(place / 16);
-        return word(t[place % 16]);
+    let v = place / N;
+    if v < 32 {
+        let weights = book_weights_run::<N, H, P, G, B>(v);
+        Some(u32::from(weights[place % N]))
+    } else {
+        None
     }
-    if place >= 320 {
-        return NO_ENTRY;
-    }
-    let u = book_weights_run::<10, 5, 20, 11, Narrow>(place / 10);
-    word(u[place % 10])
 }
 
-fn selectors_entry(wide: bool, place: usize) -> u32
-    ensures { result ≡ get_or (flatten (book_by wide).selectors) place no_entry }
+fn selectors_entry<
+    const N: usize,
+    const H: usize,
+    const P: usize,
+    const G: usize,
+    B: Book<N, H, P, G>,
+>(place: usize) -> Option<u32>
+    ensures { result ≡ slice_get (flatten B.lists.selectors) place }
 {
-    if wide {
-        if place >= 256 {
-            return NO_ENTRY;
-        }
-        let t = Wide::selectors_run(place / 8);
-        return byte(t[place % 8]);
+    let width = N / 2;
+    let v = place / width;
+    if v < 32 {
+        Some(u32::from(B::selectors_run(v)[place % width]))
+    } else {
+        None
     }
-    if place >= 160 {
-        return NO_ENTRY;
-    }
-    let u = Narrow::selectors_run(place / 5);
-    byte(u[place % 5])
 }
 
 // The 0 for the last place is no entry.
-fn predictors_entry(wide: bool, place: usize) -> u32
-    ensures { result ≡ get_or (flatten (book_by wide).predictors) place no_entry }
+fn predictors_entry<
+    const N: usize,
+    const H: usize,
+    const P: usize,
+    const G: usize,
+    B: Book<N, H, P, G>,
+>(place: usize) -> Option<u32>
+    ensures { result ≡ slice_get (flatten B.lists.predictors) place }
 {
-    if wide {
-        if place >= 30 {
-            return NO_ENTRY;
-        }
-        let t = Wide::predictors();
-        return byte(t[2 * (place % 15) + place / 15]);
+    let width = N - 1;
+    if place < 2 * width {
+        let pairs = B::predictors();
+        Some(u32::from(pairs[2 * (place % width) + place / width]))
+    } else {
+        None
     }
-    if place >= 18 {
-        return NO_ENTRY;
-    }
-    let u = Narrow::predictors();
-    byte(u[2 * (place % 9) + place / 9])
 }
 
-fn gaps_entry(wide: bool, place: usize) -> u32
-    ensures { result ≡ get_or (book_by wide).gaps place no_entry }
+// A gap is never below 0.
+fn gaps_entry<const N: usize, const H: usize, const P: usize, const G: usize, B: Book<N, H, P, G>>(
+    place: usize,
+) -> Option<u32>
+    ensures { result ≡ slice_get B.lists.gaps place }
 {
-    if wide {
-        if place >= 17 {
-            return NO_ENTRY;
-        }
-        let t = Wide::gaps();
-        return gap(t[place]);
-    }
-    if place >= 11 {
-        return NO_ENTRY;
-    }
-    let u = Narrow::gaps();
-    gap(u[place])
+    let gaps = B::gaps();
+    Some(u32::from(gaps.get(place)?.unsigned_abs()))
 }
 
-// Table 0 to 4 of a book.
-pub fn book_entry_run(wide: bool, table: u32, place: usize) -> u32
-    requires { table < 5 }
-    ensures { result ≡ get_or (get_or (book_tables (book_by wide)) table []) place no_entry }
+// Table 0 to 4 of a book; no other has entries.
+pub fn book_entry<
+    const N: usize,
+    const H: usize,
+    const P: usize,
+    const G: usize,
+    B: Book<N, H, P, G>,
+>(table: u32, place: usize) -> Option<u32>
+    ensures { result ≡ slice_get (get_or (book_tables B.lists) table []) place }
 {
-    if table == 0 {
-        return vectors_entry(wide, place);
+    match table {
+        0 => vectors_entry::<N, H, P, G, B>(place),
+        1 => weights_entry::<N, H, P, G, B>(place),
+        2 => selectors_entry::<N, H, P, G, B>(place),
+        3 => predictors_entry::<N, H, P, G, B>(place),
+        4 => gaps_entry::<N, H, P, G, B>(place),
+        _ => None,
     }
-    if table == 1 {
-        return weights_entry(wide, place);
-    }
-    if table == 2 {
-        return selectors_entry(wide, place);
-    }
-    if table == 3 {
-        return predictors_entry(wide, place);
-    }
-    gaps_entry(wide, place)
 }

@@ -1,30 +1,35 @@
 // One exported lookup: any entry of any constant, for a comparison from outside.
 #![tactic(auto)]
 
-ghost use Rattle.std.specs.Prelude.{◌≡◌, [], ◌<◌, get_or};
-ghost use Rattle.table_entries.specs.Entries.{entry_of, no_entry, row_tables};
+ghost use Rattle.std.specs.Prelude.{◌≡◌, [], get_or};
+ghost use Rattle.std.specs.List.{slice_get};
+ghost use Rattle.table_entries.specs.Entries.{entry_of, row_tables};
 
-use book::book_entry_run;
-use entry::{NO_ENTRY, byte_at};
+use book::book_entry;
+use tables::books::{Narrow, Wide};
 use tables::rows::{header_rows, index_rows, pulse_rows};
 
 mod book; // book.rt: entries of a book
-mod entry; // entry.rt: an entry of a list
 
-fn row_entry(table: u32, place: usize) -> u32
-    requires { table < 3 }
-    ensures { result ≡ get_or (get_or row_tables table []) place no_entry }
+// What tells C that there is no such entry.
+const NO_ENTRY: u32 = 65536;
+
+fn byte_at(t: &[u8], place: usize) -> Option<u32>
+    ensures { result ≡ slice_get t.now place }
 {
-    if table == 0 {
-        let t = header_rows();
-        return byte_at(&t, place);
+    Some(u32::from(*t.get(place)?))
+}
+
+// Table 0 to 2 of the rows; no other has entries.
+fn row_entry(table: u32, place: usize) -> Option<u32>
+    ensures { result ≡ slice_get (get_or row_tables table []) place }
+{
+    match table {
+        0 => byte_at(&header_rows(), place),
+        1 => byte_at(&index_rows(), place),
+        2 => byte_at(&pulse_rows(), place),
+        _ => None,
     }
-    if table == 1 {
-        let t = index_rows();
-        return byte_at(&t, place);
-    }
-    let t = pulse_rows();
-    byte_at(&t, place)
 }
 
 // The entry of a table by its number: 0 to 2 the rows of header, indices and pulses; 3 to 7 the narrow book's
@@ -34,14 +39,10 @@ fn row_entry(table: u32, place: usize) -> u32
 pub extern "C" fn tg_table_entry(table: u32, place: usize) -> u32
     ensures { result ≡ entry_of table place }
 {
-    if table < 3 {
-        return row_entry(table, place);
-    }
-    if table < 8 {
-        return book_entry_run(false, table - 3, place);
-    }
-    if table < 13 {
-        return book_entry_run(true, table - 8, place);
-    }
-    NO_ENTRY
+    let entry = match table {
+        0..=2 => row_entry(table, place),
+        3..=7 => book_entry::<10, 5, 20, 11, Narrow>(table - 3, place),
+        _ => book_entry::<16, 8, 32, 17, Wide>(table - 8, place),
+    };
+    entry.unwrap_or(NO_ENTRY)
 }

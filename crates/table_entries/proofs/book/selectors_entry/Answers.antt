@@ -1,0 +1,13 @@
+-- The rows of selectors follow each other. Assumes nothing.
+use Rattle.std.proofs.Common.{arith}
+use Rattle.table_entries.proofs.GridLaws.{past, inside, some, shaped}
+use Rattle.table_entries.proofs.book.selectors_entry.Goals as goal
+
+pub returns-then-v-lt32 : goal.returns-then-v-lt32
+returns-then-v-lt32 g c =
+    let k = g.met.B.Book.laws in
+    inside (shaped k).selectors (omega (arith, some k)) c.args.place c.if-v-lt32.true c.selectors_run.ensures c.from.ensures
+
+pub returns-else-v-lt32 : goal.returns-else-v-lt32
+returns-else-v-lt32 g c =
+    let k = g.met.B.Book.laws in past (shaped k).selectors (omega (arith, some k)) c.args.place c.if-v-lt32.false
