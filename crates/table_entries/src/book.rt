@@ -34,13 +34,13 @@ fn weights_entry<
 {
     let v = place / N;
     if v < 32 {
-        let weights = book_weights_run::<N, H, P, G, B>(v);
-        Some(u32::from(weights[place % N]))
+        Some(u32::from(book_weights_run::<N, H, P, G, B>(v)[place % N]))
     } else {
         None
     }
 }
 
+// A byte serves two places.
 fn selectors_entry<
     const N: usize,
     const H: usize,
