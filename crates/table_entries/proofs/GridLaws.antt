@@ -12,7 +12,7 @@ use Rattle.std.proofs.lemmas.Option.{slice_get-get_or, slice_get_past}
 use Rattle.lists.proofs.Rows.{Grid, grid_length, grid_at}
 use Rattle.sheet.specs.Books.{Book}
 use Rattle.sheet.proofs.BooksLaws.{Shaped}
-use Rattle.tables.specs.BookLaws.{BookLaws}
+use Rattle.tables.specs.Inner.BookLaws.{BookLaws}
 use Rattle.tables.specs.Inner.{predictor_row}
 use Rattle.tables.proofs.PredictorRow.{predictor_row_at, predictor_row_length}
 
