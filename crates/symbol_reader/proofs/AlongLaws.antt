@@ -2,11 +2,13 @@
 -- front, a tree in front of a tree. Assumes nothing.
 use Rattle.std.proofs.Common.{ℕ, ◌+◌, ◌≤◌, ◌≡◌, refl, sym, ◌∙◌, List, arith}
 use Rattle.entcode.specs.Models.{tab}
-use Rattle.tree.specs.Asks.{Asks, done, ask, then, run}
+use Rattle.entcode.specs.Reading.{gives}
+use Rattle.entcode.specs.Inner.Reading.{Took}
+use Rattle.tree.specs.Asks.{Asks, done, ask, then, got, run}
 use Rattle.tree.specs.Inner.Ran.{Ran}
 use Rattle.tree.proofs.Ran.{asked, ran_then}
 use Rattle.symbol_reader.specs.declared.Reader.{Reader}
-use Rattle.symbol_reader.specs.Inner.{Reads, Along}
+use Rattle.symbol_reader.specs.Inner.{Reads, Along, Midway}
 
 pub along_done : {R A : Type 0} (r : Reader) (x : A) → Along {R = R} r (done x) 0 x r
 unfolding run
@@ -45,3 +47,23 @@ along_ran {z = z} p = record { is = p.is; core = rw p.packet at z.core; least = 
 pub ran_along : {R A : Type 0} {r z : Reader} {t : Asks R A} {n : ℕ} {x : A} → z.packet ≡ r.packet → Ran r.packet.now r.state t n x z.state
     → Along r t n x z
 ran_along e p = record { is = p.is; packet = e; least = p.least; most = p.most }
+
+-- ---- loops
+
+-- one more symbol
+pub midway_next : {R P Q A : Type 0} {r z y : Reader} {whole : Asks R A} {left : Asks P A} {next : Asks Q A} {l : List ℕ} {v n k : ℕ}
+    → Midway r whole n z left → Reads z (tab 8 l) v y
+    → (Took r.packet.now (tab 8 l) z.state (gives v y.state) → run r.packet.now y.state next ≡ run r.packet.now z.state left)
+    → n + 16 ≤ k → Midway r whole k y next
+midway_next m h f e =
+    let t = rw m.packet at h.took in
+    record {
+      rest = f t ∙ m.rest;
+      packet = h.packet ∙ m.packet;
+      least = omega (arith, m.least, t.least);
+      most = omega (arith, m.most, t.most);
+    }
+
+pub midway_end : {R Q A : Type 0} {r z : Reader} {whole : Asks R A} {left : Asks Q A} {n k : ℕ} {x : A}
+    → Midway r whole n z left → run r.packet.now z.state left ≡ got x z.state → n ≤ k → Along r whole k x z
+midway_end m e l = record { is = sym m.rest ∙ e; packet = m.packet; least = m.least; most = omega (arith, m.most) }

@@ -17,3 +17,10 @@ pub record Along {R A : Type 0} (r : Reader) (t : Asks R A) (n : ℕ) (x : A) (z
   pub packet : z.packet ≡ r.packet
   pub least : r.state.total ≤ z.state.total
   pub most : z.state.total ≤ r.state.total + n
+
+-- a loop on the way through the tree whole: what is left of it, run from the reader z on, gives what the whole gives from r on
+pub record Midway {R Q A : Type 0} (r : Reader) (whole : Asks R A) (n : ℕ) (z : Reader) (left : Asks Q A) : Type 0 where
+  pub rest : run r.packet.now z.state left ≡ run r.packet.now r.state whole
+  pub packet : z.packet ≡ r.packet
+  pub least : r.state.total ≤ z.state.total
+  pub most : z.state.total ≤ r.state.total + n

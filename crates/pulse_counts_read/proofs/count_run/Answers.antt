@@ -1,9 +1,8 @@
 -- 17 asks for one more low bit and a fresh count, of which the tenth is never 17.
-use Rattle.std.proofs.Common.{◌≡◌, ◌+◌, ◌-◌, ◌≤◌, ◌<◌, ◌∙◌, ℕ, length, ap, sym, arith}
-use Rattle.sheet.specs.Directory.{count_row}
+use Rattle.std.proofs.Common.{◌≡◌, ◌+◌, ◌-◌, ◌≤◌, ◌<◌, ℕ, length, ap, arith}
 use Rattle.sheet.proofs.SheetRule.{row_good}
-use Rattle.tree.proofs.Ran.{asked}
-use Rattle.silk.specs.PulseSyntax.{count_said, low_counts, count}
+use Rattle.symbol_reader.proofs.AlongLaws.{along_ask, midway_next, midway_end}
+use Rattle.silk.specs.PulseSyntax.{count}
 use Rattle.silk.proofs.PulseSteps.{lows_end, lows_next}
 use Rattle.silk.proofs.PulseRowLaws.{count_in, later_in, later}
 use Rattle.pulse_counts_read.proofs.count_run.Goals as goal
@@ -30,31 +29,19 @@ loop-v-preserved c =
     let t = c.loop-v-test.true in
     let p : l.j < 10 = not_tenth l.j l.v i.to i.tenth t in
     let e = later_in c.args.rows.now (l.j + 1) c.later_at-at.result c.requires.pulse_rows c.later_at-at.ensures in
-    let b = rw i.packet at c.symbol_run-v-in-loop-v.ensures.took in
+    let b = c.symbol_run-v-in-loop-v.ensures in
     let g = later (l.j + 1) in
     record {
-      rest = lows_next _ l.r.state _ 10 l.j l.v _ e b p t ∙ i.rest;
-      packet = c.symbol_run-v-in-loop-v.ensures.packet ∙ i.packet;
+      midway = midway_next i.midway b (λ h. lows_next _ l.r.state _ 10 l.j l.v _ e h p t) (omega arith);
       to = omega arith;
-      most17 = omega (arith, b.inside, ap length e, g.most);
-      tenth = λ q. omega (arith, b.inside, ap length e, g.tenth q);
-      least = omega (arith, b.least);
-      most = omega (arith, b.most);
+      most17 = omega (arith, b.took.inside, ap length e, g.most);
+      tenth = λ q. omega (arith, b.took.inside, ap length e, g.tenth q);
     }
 
 pub returns-clause-along : goal.returns-clause-along
 unfolding count
 returns-clause-along c =
     let l = c.loop-v in
-    let i = l.invariant in
-    let a = c.symbol_run-v.ensures.took in
-    let level = c.args.level in
     let e = count_in c.args.rows.now c.args.level c.requires.pulse_rows (omega arith) in
-    record {
-      is = sym (asked _ c.args.r.now.state _ (count_row level) (count_said 0) (λ v. low_counts 10 0 v) _ e a)
-          ∙ sym i.rest
-          ∙ lows_end _ l.r.state (10 - l.j) l.j l.v c.loop-v-test.false;
-      packet = i.packet;
-      least = omega (arith, a.least);
-      most = omega (arith, a.most);
-    }
+    along_ask {n = 160} e c.symbol_run-v.ensures
+    (midway_end l.invariant.midway (lows_end _ l.r.state (10 - l.j) l.j l.v c.loop-v-test.false) (omega arith))

@@ -1,7 +1,8 @@
 -- One more low bit behind those read so far.
-use Rattle.std.proofs.Common.{◌≡◌, ◌+◌, ◌*◌, ◌^◌, ◌≤◌, ◌<◌, ◌∙◌, ℕ, length, sym, ap, arith}
+use Rattle.std.proofs.Common.{◌≡◌, ◌+◌, ◌*◌, ◌^◌, ◌≤◌, ◌<◌, ℕ, length, ap, arith}
 use lib.Pow.{pow_mono, pow-add}
 use Rattle.sheet.proofs.SheetRule.{row_good}
+use Rattle.symbol_reader.proofs.AlongLaws.{midway_next, midway_end}
 use Rattle.silk.proofs.PulseSteps.{bits_end, bits_next}
 use Rattle.silk.proofs.PulseRowLaws.{low_bit_size}
 use Rattle.pulse_lows_read.proofs.low_bits.Goals as goal
@@ -22,26 +23,18 @@ overflow_add-v c =
 pub loop-preserved : goal.loop-preserved
 loop-preserved c =
     let l = c.loop in
-    let a = rw l.invariant.packet at c.symbol_run.ensures.took in
+    let a = c.symbol_run.ensures in
+    let row = c.requires.row_value in
     let q : 2 ^ (c.loop.counter + 1) ≡ 2 ^ c.loop.counter * 2 = pow-add 2 c.loop.counter 1 in
     record {
-      rest = bits_next _ l.r.state _ c.args.n l.counter l.v _ c.requires.row_value a (omega arith) ∙ l.invariant.rest;
-      packet = c.symbol_run.ensures.packet ∙ l.invariant.packet;
-      small = omega (arith, l.invariant.small, a.inside, ap length c.requires.row_value, low_bit_size);
-      least = omega (arith, a.least);
-      most = omega (arith, a.most);
+      midway = midway_next l.invariant.midway a (λ t. bits_next _ l.r.state _ c.args.n l.counter l.v _ row t (omega arith)) (omega arith);
+      small = omega (arith, l.invariant.small, a.took.inside, ap length row, low_bit_size);
     }
 
 pub returns-clause-along : goal.returns-clause-along
 returns-clause-along c =
     let l = c.loop in
-    let i = l.invariant in
-    record {
-      is = sym i.rest ∙ bits_end _ l.r.state c.args.n l.counter l.v (omega arith);
-      packet = i.packet;
-      least = i.least;
-      most = omega (arith, i.most, c.requires.m_bound.1);
-    }
+    midway_end l.invariant.midway (bits_end _ l.r.state c.args.n l.counter l.v (omega arith)) (omega (arith, c.requires.m_bound.1))
 
 pub returns-clause-value_bound : goal.returns-clause-value_bound
 returns-clause-value_bound c = within c.loop.v c.loop.counter c.loop.invariant.small (omega arith)
