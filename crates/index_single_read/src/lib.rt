@@ -1,53 +1,45 @@
 // Type, interpolation and seed of a frame read, a symbol each (RFC 6716, sections 4.2.7.3, 4.2.7.5.5 and 4.2.7.7), as
-// in the crate's decode_indices.rs. The rows are lent by the caller, and so is the record that is filled.
+// in the crate's decode_indices.rs. The rows are lent by the caller, and so are the reader and the record that is filled.
 #![tactic(auto)]
 
-ghost use Rattle.std.specs.Prelude.{◌^◌, ◌<◌};
+ghost use Rattle.std.specs.Prelude.{◌^◌, ◌<◌, ◌≤◌};
+ghost use Rattle.symbol_reader.specs.Inner.{Along};
 ghost use Rattle.tree.specs.Inner.Growth.{of_symbols};
-ghost use Rattle.tree.specs.Inner.Ran.{Ran};
-ghost use Rattle.silk.specs.Inner.Indices.{Reading};
+ghost use Rattle.silk.specs.Inner.Indices.{IndexRows};
 ghost use Rattle.silk.specs.IndexSyntax.{kind, interpolation, seed};
 
-use entcode::{Dec, Decoded};
-use entdec_run::ec_dec_icdf8_run;
 use index_layout::{interpolation_row_run, seed_row_run, type_row_run};
 use silk::Indices;
+use symbol_reader::Reader;
 
 // Type and offset as one number.
-pub fn kind_run(packet: &[u8], d: Dec, rows: &[u8], active: u32) -> Decoded
-    requires reading { Reading packet.now d rows.now (2 ^ 29) }
+pub fn kind_run(r: &mut Reader, rows: &[u8], active: u32) -> u32
+    requires few { r.old.state.total ≤ 2 ^ 29 }
+    requires rows { IndexRows rows.now }
     requires active_bound { active < 2 }
-    ensures ran { Ran packet.now d (kind active) (of_symbols 1) result.value result.state }
-    ensures value_bound { result.value < 6 }
+    ensures ran { Along r.old (kind active) (of_symbols 1) result r.new }
+    ensures value_bound { result < 6 }
 {
-    let a = ec_dec_icdf8_run(packet, d, type_row_run(rows, active));
-    Decoded {
-        refusal: 0,
-        value: a.value + active * 2,
-        state: a.state,
-    }
+    r.symbol_run(type_row_run(rows, active)) + active * 2
 }
 
 // 4 for 2 subframes.
-pub fn interpolation_run(packet: &[u8], d: Dec, rows: &[u8], x: &mut Indices, subframes: u32) -> Dec
-    requires { Reading packet.now d rows.now (2 ^ 29) }
-    ensures { Ran packet.now d (interpolation subframes x.old) (of_symbols 1) x.new result }
+pub fn interpolation_run(r: &mut Reader, rows: &[u8], x: &mut Indices, subframes: u32)
+    requires few { r.old.state.total ≤ 2 ^ 29 }
+    requires rows { IndexRows rows.now }
+    ensures { Along r.old (interpolation subframes x.old) (of_symbols 1) x.new r.new }
 {
     if subframes == 4 {
-        let a = ec_dec_icdf8_run(packet, d, interpolation_row_run(rows));
-        x.interp = a.value as i8;
-        a.state
+        x.interp = r.symbol_run(interpolation_row_run(rows)) as i8;
     } else {
         x.interp = 4;
-        d
     }
 }
 
-pub fn seed_run(packet: &[u8], d: Dec, rows: &[u8], x: &mut Indices) -> Dec
-    requires { Reading packet.now d rows.now (2 ^ 29) }
-    ensures { Ran packet.now d (seed x.old) (of_symbols 1) x.new result }
+pub fn seed_run(r: &mut Reader, rows: &[u8], x: &mut Indices)
+    requires few { r.old.state.total ≤ 2 ^ 29 }
+    requires rows { IndexRows rows.now }
+    ensures { Along r.old (seed x.old) (of_symbols 1) x.new r.new }
 {
-    let a = ec_dec_icdf8_run(packet, d, seed_row_run(rows));
-    x.seed = a.value as i8;
-    a.state
+    x.seed = r.symbol_run(seed_row_run(rows)) as i8;
 }

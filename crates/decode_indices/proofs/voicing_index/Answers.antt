@@ -1,7 +1,7 @@
 -- A voiced frame has a pitch. Assumes nothing.
 use Rattle.std.proofs.Common.{arith}
 use borrow.Author.Tests.{eq-eqb, ne_eqb}
-use Rattle.tree.proofs.Ran.{ran_done, ran_within}
+use Rattle.symbol_reader.proofs.AlongLaws.{along_done, along_within}
 use Rattle.silk.specs.IndexSyntax.{voicing}
 use Rattle.decode_indices.proofs.voicing_index.Goals as goal
 
@@ -11,5 +11,4 @@ returns-then-signal-eq2 c = rw (eq-eqb _ _ c.if-signal-eq2.true) c.pitch_run.ens
 
 pub returns-else-signal-eq2 : goal.returns-else-signal-eq2
 unfolding voicing
-returns-else-signal-eq2 c =
-    rw (ne_eqb _ _ c.if-signal-eq2.false) (ran_within {n = 0} {m = 160} (omega arith) (ran_done c.requires.reading.core))
+returns-else-signal-eq2 c = rw (ne_eqb _ _ c.if-signal-eq2.false) (along_within {n = 0} {m = 160} (omega arith) (along_done _ _))

@@ -1,19 +1,18 @@
 -- `index_filters_read::scale_index_run` meets its contract. Assumes nothing.
 use Rattle.std.proofs.Common.{arith}
-use Rattle.sheet.specs.Directory.{scale_row}
-use Rattle.silk.specs.Record.{put_scale}
-use Rattle.silk.specs.IndexSyntax.{said, scale}
-use Rattle.silk.proofs.IndexSteps.{coded_read, fixed_read}
+use borrow.Author.Tests.{eq-eqb, ne_eqb}
+use Rattle.symbol_reader.proofs.AlongLaws.{along_done, along_ask, along_within}
+use Rattle.silk.specs.IndexSyntax.{scale}
+use Rattle.silk.proofs.IndexSteps.{symbol_is}
 use Rattle.index_filters_read.proofs.scale_index_run.Goals as goal
 
-pub returns-then-mode-eq0 : goal.returns-then-mode-eq0
+pub returns-then-coded : goal.returns-then-coded
 unfolding scale
-returns-then-mode-eq0 c =
+returns-then-coded c =
+    let a = c.symbol_run in
     let t = c.scale_row_run.ensures in
-    coded_read c.args.mode 0 scale_row (λ y. said y.scale) (put_scale c.args.x.now) 0
-    c.if-mode-eq0.true t.is c.ec_dec_icdf8_run-a.ensures (omega (arith, t.size))
+    rw (eq-eqb c.args.mode 0 c.if-coded.true, symbol_is t a.ensures.took (omega arith)) (along_ask t.is a.ensures (along_done _ _))
 
-pub returns-else-mode-eq0 : goal.returns-else-mode-eq0
+pub returns-else-coded : goal.returns-else-coded
 unfolding scale
-returns-else-mode-eq0 c =
-    fixed_read c.args.mode 0 scale_row (λ y. said y.scale) (put_scale c.args.x.now) 0 (λ q. omega arith) c.requires.core
+returns-else-coded c = rw (ne_eqb c.args.mode 0 c.if-coded.false) (along_within {n = 0} {m = 16} (omega arith) (along_done _ _))

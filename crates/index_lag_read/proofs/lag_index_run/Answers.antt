@@ -5,28 +5,28 @@ use borrow.Author.Tests.{eq-eqb, ne_eqb}
 use mir.Syntax.{w16}
 use mir.Val.{SFits}
 use mir.Facts.{to_z-of_z}
-use Rattle.tree.proofs.Ran.{ran_done, ran_ask, ran_within}
+use Rattle.symbol_reader.proofs.AlongLaws.{along_done, along_ask, along_within}
 use Rattle.silk.specs.IndexSyntax.{lag_after, lag}
 use Rattle.index_lag_read.proofs.lag_index_run.Goals as goal
 
-pub returns-then-a-eq0 : goal.returns-then-a-eq0
+pub returns-then-v-eq0 : goal.returns-then-v-eq0
 unfolding lag
-returns-then-a-eq0 c =
-    let a = c.ec_dec_icdf8_run-a in
+returns-then-v-eq0 c =
+    let a = c.symbol_run-v in
     rw c.if-relative.true
-    (ran_ask {n = 32} c.delta_lag_row_run.ensures.is a.ensures (rw (eq-eqb _ _ c.if-a-eq0.true) c.absolute_lag.ensures))
+    (along_ask {n = 32} c.delta_lag_row_run.ensures.is a.ensures (rw (eq-eqb _ _ c.if-v-eq0.true) c.absolute_lag.ensures))
 
-pub returns-else-a-eq0 : goal.returns-else-a-eq0
+pub returns-else-v-eq0 : goal.returns-else-v-eq0
 unfolding lag
-returns-else-a-eq0 c =
-    let a = c.ec_dec_icdf8_run-a in
+returns-else-v-eq0 c =
+    let a = c.symbol_run-v in
     let l = c.lag_after-x in
-    let e : l.result ≡ lag_after c.args.before a.result.value = rw (to_z-of_z c.ranges.before) at l.ensures in
+    let e : l.result ≡ lag_after c.args.before a.result = rw (to_z-of_z c.ranges.before) at l.ensures in
     let f : SFits w16 l.result = sfits_of l.type_inv in
     rw (to_z-of_z f, c.if-relative.true, e)
-    (ran_within {n = 16} {m = 48} (omega arith)
-    (ran_ask {n = 0} c.delta_lag_row_run.ensures.is a.ensures (rw (ne_eqb _ _ c.if-a-eq0.false) (ran_done a.ensures.core))))
+    (along_within {n = 16} {m = 48} (omega arith)
+    (along_ask {n = 0} c.delta_lag_row_run.ensures.is a.ensures (rw (ne_eqb _ _ c.if-v-eq0.false) (along_done _ _))))
 
 pub returns-else-relative : goal.returns-else-relative
 unfolding lag
-returns-else-relative c = rw c.if-relative.false (ran_within {n = 32} {m = 48} (omega arith) c.absolute_lag-else-relative.ensures)
+returns-else-relative c = rw c.if-relative.false (along_within {n = 32} {m = 48} (omega arith) c.absolute_lag-else-relative.ensures)

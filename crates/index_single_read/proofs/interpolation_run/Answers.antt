@@ -1,20 +1,19 @@
 -- `index_single_read::interpolation_run` meets its contract. Assumes nothing.
 use Rattle.std.proofs.Common.{arith}
-use Rattle.sheet.specs.Directory.{interpolation_row}
-use Rattle.silk.specs.Record.{put_interp}
-use Rattle.silk.specs.IndexSyntax.{said, interpolation}
-use Rattle.silk.proofs.IndexSteps.{coded_read, fixed_read}
+use borrow.Author.Tests.{eq-eqb, ne_eqb}
+use Rattle.symbol_reader.proofs.AlongLaws.{along_done, along_ask, along_within}
+use Rattle.silk.specs.IndexSyntax.{interpolation}
+use Rattle.silk.proofs.IndexSteps.{symbol_is}
 use Rattle.index_single_read.proofs.interpolation_run.Goals as goal
 
 pub returns-then-subframes-eq4 : goal.returns-then-subframes-eq4
 unfolding interpolation
 returns-then-subframes-eq4 c =
+    let a = c.symbol_run in
     let t = c.interpolation_row_run.ensures in
-    coded_read c.args.subframes 4 interpolation_row (λ y. said y.interp) (put_interp c.args.x.now) 4
-    c.if-subframes-eq4.true t.is c.ec_dec_icdf8_run-a.ensures (omega (arith, t.size))
+    rw (eq-eqb _ _ c.if-subframes-eq4.true, symbol_is t a.ensures.took (omega arith)) (along_ask t.is a.ensures (along_done _ _))
 
 pub returns-else-subframes-eq4 : goal.returns-else-subframes-eq4
 unfolding interpolation
 returns-else-subframes-eq4 c =
-    fixed_read c.args.subframes 4 interpolation_row (λ y. said y.interp) (put_interp c.args.x.now) 4
-    c.if-subframes-eq4.false c.requires.core
+    rw (ne_eqb _ _ c.if-subframes-eq4.false) (along_within {n = 0} {m = 16} (omega arith) (along_done _ _))

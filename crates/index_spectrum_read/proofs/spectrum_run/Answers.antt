@@ -1,7 +1,7 @@
 -- `index_spectrum_read::spectrum_run` meets its contract. Assumes nothing.
-use Rattle.std.proofs.Common.{◌≡◌, length, pos, arith}
+use Rattle.std.proofs.Common.{◌≡◌, length, pos, to_z, w8, arith}
 use borrow.Author.Rules.{rules}
-use Rattle.tree.proofs.Ran.{ran_ask}
+use Rattle.symbol_reader.proofs.AlongLaws.{along_ask}
 use Rattle.silk.specs.Record.{with_nlsf}
 use Rattle.silk.specs.IndexSyntax.{book_of, spectrum}
 use Rattle.silk.proofs.IndexParts.{order_most}
@@ -17,9 +17,10 @@ residual_indices-requires-clause-rate c =
 pub returns : goal.returns
 unfolding spectrum
 returns c =
-    let a = c.ec_dec_icdf8_run-a in
+    let a = c.symbol_run-first in
     let s = c.selectors_run-s in
     let t = c.first_index_row_run.ensures in
-    let x = with_nlsf c.args.x.now 0 (pos a.result.value) in
+    let w : to_z w8 a.result ≡ pos a.result = symbol_is t a.ensures.took (omega arith) in
+    let x = with_nlsf c.args.x.now 0 (pos a.result) in
     let e = residuals_picked c.args.khz s.result _ (book_of c.args.khz).order 0 x (λ j l. s.ensures j (omega arith)) in
-    ran_ask {n = 512} t.is a.ensures (rw (symbol_is t a.ensures (omega arith), c.order_of.ensures, e) at c.residual_indices.ensures)
+    along_ask {n = 512} t.is a.ensures (rw (w, c.order_of.ensures, e) at c.residual_indices.ensures)
