@@ -1,23 +1,16 @@
 -- The window: bytes from the end, and filling. Assumes nothing.
 use Rattle.std.proofs.Common.{◌≡◌, ℕ, suc, ◌+◌, ◌-◌, ◌*◌, ◌/◌, ◌%◌, ◌^◌, ◌<◌, ◌≤◌, List, length, ap, arith}
 use Rattle.entcode.specs.declared.Dec.{Dec}
-use Rattle.entcode.specs.Reader.{byte_at, last_of, fetch, fetches, Bytes}
+use Rattle.entcode.specs.Reader.{last_of, fetch, fetches, Bytes}
 use Rattle.entcode.proofs.ReaderLaws.{last_byte}
 use Rattle.entcode.proofs.TailLaws.{append_slim}
 use Rattle.entcode.proofs.Window.{window_sum}
 use Rattle.entdec_bytes.specs.Inner.{Windowed}
 
--- the byte at a place counted from the end
-pub last_at : (b : List ℕ) (i : ℕ) → i < length b → last_of b (length b - i) ≡ byte_at b (length b - (i + 1))
-last_at b i h = let e : length b - i ≡ suc (length b - (i + 1)) = omega arith in ap (last_of b) e
-
-pub last_past : (b : List ℕ) (i : ℕ) → length b ≤ i → last_of b (length b - i) ≡ 0
-last_past b i h = let e : length b - i ≡ 0 = omega arith in ap (last_of b) e
-
 -- a byte shifted above the window
 pub byte_above : (b : List ℕ) (d : Dec) → Bytes b → Windowed b d → d.wbits ≤ 24
     → let x = last_of b (length b - d.endoffs) in
-    (d.window + x * 2 ^ d.wbits % 2 ^ 32) % 2 ^ 32 ≡ d.window + x * 2 ^ d.wbits
+    (x * 2 ^ d.wbits % 2 ^ 32 ≡ x * 2 ^ d.wbits) × (d.window + x * 2 ^ d.wbits < 2 ^ 32)
 byte_above b d y h l =
     window_sum d.window (last_of b (length b - d.endoffs)) d.wbits 8 h.slim (last_byte b y (length b - d.endoffs)) (omega arith)
 

@@ -16,11 +16,9 @@ use entcode::{Dec, Decoded, nought_reader};
 fn ec_read_byte(packet: &[u8], at: u32) -> u32
     ensures { result ≡ byte_at packet.now at }
 {
-    let i = at as usize;
-    if i < packet.len() {
-        packet[i] as u32
-    } else {
-        0
+    match packet.get(at as usize) {
+        Some(b) => u32::from(*b),
+        None => 0,
     }
 }
 
@@ -30,8 +28,7 @@ fn ec_read_byte_from_end(packet: &[u8], at: u32) -> u32
 {
     let i = at as usize;
     if i < packet.len() {
-        let k = packet.len() - (i + 1);
-        packet[k] as u32
+        u32::from(packet[packet.len() - (i + 1)])
     } else {
         0
     }
@@ -58,17 +55,16 @@ fn turn(packet: &[u8], d: Dec) -> Dec
     ensures { result ≡ shift_r packet.now d }
 {
     let b = ec_read_byte(packet, d.offs);
-    let o = place_after(packet, d.offs);
     let sym = (256 * d.rem + b) / 2 % 256;
-    let low = 255 - sym;
-    let v = std::num::wrapping_add_u32(256 * d.val, low);
-    let mut q = d;
-    q.rng = 256 * d.rng;
-    q.val = v % 0x8000_0000;
-    q.rem = b;
-    q.offs = o;
-    q.total = d.total + 8;
-    q
+    let val = 256 * d.val + (255 - sym);
+    Dec {
+        total: d.total + 8,
+        offs: place_after(packet, d.offs),
+        rng: 256 * d.rng,
+        val: val % 0x8000_0000,
+        rem: b,
+        ..d
+    }
 }
 
 fn ec_dec_normalize(packet: &[u8], from: Dec) -> Dec
@@ -88,16 +84,15 @@ pub fn ec_dec_init_run(packet: &[u8]) -> Dec
     ensures { result ≡ opened packet.now }
 {
     let b = ec_read_byte(packet, 0);
-    let o = place_after(packet, 0);
-    let n = packet.len() as u32;
-    let v = 127 - b / 2;
-    let mut d = nought_reader();
-    d.storage = n;
-    d.total = 9;
-    d.offs = o;
-    d.rng = 128;
-    d.val = v;
-    d.rem = b;
+    let d = Dec {
+        storage: packet.len() as u32,
+        total: 9,
+        offs: place_after(packet, 0),
+        rng: 128,
+        val: 127 - b / 2,
+        rem: b,
+        ..nought_reader()
+    };
     ec_dec_normalize(packet, d)
 }
 
@@ -108,10 +103,12 @@ pub fn cut_run(packet: &[u8], d: Dec, t: u32, s: u32) -> Dec
     requires s_bound { (s + 256 ≤ t) × (t ≤ d.rng) × (s ≤ d.val) × (d.val < t) }
     ensures { result ≡ cut_down packet.now d t s }
 {
-    let mut q = d;
-    q.rng = t - s;
-    q.val = d.val - s;
-    ec_dec_normalize(packet, q)
+    let part = Dec {
+        rng: t - s,
+        val: d.val - s,
+        ..d
+    };
+    ec_dec_normalize(packet, part)
 }
 
 // ---- from the end
@@ -123,12 +120,12 @@ fn fetch_byte(packet: &[u8], d: Dec) -> Dec
     ensures { result ≡ fetch packet.now d }
 {
     let b = ec_read_byte_from_end(packet, d.endoffs);
-    let o = place_after(packet, d.endoffs);
-    let mut q = d;
-    q.window = std::num::wrapping_add_u32(d.window, b << d.wbits);
-    q.wbits = d.wbits + 8;
-    q.endoffs = o;
-    q
+    Dec {
+        endoffs: place_after(packet, d.endoffs),
+        window: d.window + (b << d.wbits),
+        wbits: d.wbits + 8,
+        ..d
+    }
 }
 
 // Bytes while one more fits the window.
@@ -156,16 +153,14 @@ fn draw(d: Dec, n: u32) -> Decoded
     requires { (n ≤ 25) × (n ≤ d.wbits) × (d.total ≤ 2 ^ 31) }
     ensures { result ≡ gives (d.window % 2 ^ n) (drop_bits n d) }
 {
-    let v = d.window & ((1u32 << n) - 1);
-    let mut q = d;
-    q.window = d.window >> n;
-    q.wbits = d.wbits - n;
-    q.total = d.total + n;
-    Decoded {
-        refusal: 0,
-        value: v,
-        state: q,
-    }
+    let value = d.window & ((1u32 << n) - 1);
+    let state = Dec {
+        window: d.window >> n,
+        wbits: d.wbits - n,
+        total: d.total + n,
+        ..d
+    };
+    Decoded::of(value, state)
 }
 
 // The next n raw bits, none too.

@@ -4,7 +4,7 @@
 // `entdec_search`.
 #![tactic(auto)]
 
-ghost use Rattle.std.specs.Prelude.{◌≡◌, cond, suc, ◌^◌, ◌<◌, ◌≤◌, min, leb};
+ghost use Rattle.std.specs.Prelude.{◌≡◌, cond, suc, ◌^◌, ◌<◌, ◌≤◌, leb};
 ghost use Rattle.icdf.specs.Rule.{Icdf};
 ghost use Rattle.entcode.specs.Models.{bit, raw, num, tab, raw_bits};
 ghost use Rattle.entcode.specs.Cuts.{upper, lower};
@@ -25,19 +25,9 @@ pub fn ec_dec_bit_logp_run(packet: &[u8], d: Dec, lp: u32) -> Decoded
 {
     let part = d.rng >> lp;
     if d.val < part {
-        let q = cut_run(packet, d, part, 0);
-        Decoded {
-            refusal: 0,
-            value: 1,
-            state: q,
-        }
+        Decoded::of(1, cut_run(packet, d, part, 0))
     } else {
-        let q = cut_run(packet, d, d.rng, part);
-        Decoded {
-            refusal: 0,
-            value: 0,
-            state: q,
-        }
+        Decoded::of(0, cut_run(packet, d, d.rng, part))
     }
 }
 
@@ -50,12 +40,8 @@ pub fn ec_dec_icdf_run(packet: &[u8], d: Dec, table: &[u8], scale: u32) -> Decod
 {
     let unit = d.rng >> scale;
     let p = find_part_run(table, scale, unit, d.val, d.rng);
-    let q = cut_run(packet, d, p.top, p.low);
-    Decoded {
-        refusal: 0,
-        value: p.symbol as u32,
-        state: q,
-    }
+    let state = cut_run(packet, d, p.top, p.low);
+    Decoded::of(p.symbol as u32, state)
 }
 
 // A symbol of a row of SILK: all of them have scale 8.
@@ -80,20 +66,13 @@ pub fn ec_dec_bits_run(packet: &[u8], d: Dec, n: u32) -> Decoded
 
 // ---- bounded numbers
 
-fn least(a: u32, b: u32) -> u32
-    ensures { result ≡ min a b }
-{
-    if a <= b { a } else { b }
-}
-
 // The number that the value stands for, out of ft.
 fn ec_decode(d: Dec, ft: u32) -> u32
     requires { (2 ^ 23 < d.rng) × (d.val < 2 ^ 31) × (1 ≤ ft) × (ft ≤ 256) }
     ensures { result ≡ sought d.rng d.val ft }
 {
     let step = d.rng / ft;
-    let n = least(d.val / step + 1, ft);
-    ft - n
+    ft - (d.val / step + 1).min(ft)
 }
 
 // The piece [fl, fl + 1) of ft, which holds the value, is kept.
@@ -114,29 +93,18 @@ fn raw_count(ft: u32) -> u32
     requires { 1 ≤ ft }
     ensures { result ≡ raw_bits ft }
 {
-    let bits = bitlen::ec_ilog(ft - 1);
-    if 8 < bits { bits - 8 } else { 0 }
+    bitlen::ec_ilog(ft - 1).saturating_sub(8)
 }
 
 // A number of at most top, or top and the error.
 fn clamp(d: Dec, number: u32, top: u32, step: u32) -> Decoded
     ensures { result ≡ cond (leb number top) (gives number (at_end d step d.error)) (gives top (at_end d step 1)) }
 {
-    let mut q = d;
-    q.ext = step;
+    let state = Dec { ext: step, ..d };
     if number <= top {
-        Decoded {
-            refusal: 0,
-            value: number,
-            state: q,
-        }
+        Decoded::of(number, state)
     } else {
-        q.error = 1;
-        Decoded {
-            refusal: 0,
-            value: top,
-            state: q,
-        }
+        Decoded::of(top, Dec { error: 1, ..state })
     }
 }
 

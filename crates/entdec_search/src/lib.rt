@@ -14,6 +14,7 @@ pub struct Part {
 }
 
 // The first symbol whose entry, times the unit, is not above v: the end just computed is the next one's upper end.
+// The table's last entry is 0 and ends the search: `low` is read a turn ahead, and no turn tests the table's length.
 fn search_part(table: &[u8], scale: u32, unit: u32, v: u32, rng: u32) -> Part
     requires icdf { Icdf scale table.now }
     requires scale_bound { unit * 2 ^ scale ≤ 2 ^ 31 }
@@ -21,11 +22,11 @@ fn search_part(table: &[u8], scale: u32, unit: u32, v: u32, rng: u32) -> Part
 {
     let mut k: usize = 0;
     let mut top = rng;
-    let mut low = unit * (table[0] as u32);
+    let mut low = unit * u32::from(table[0]);
     while v < low {
         k += 1;
         top = low;
-        low = unit * (table[k] as u32);
+        low = unit * u32::from(table[k]);
     }
     Part {
         symbol: k,
@@ -47,7 +48,7 @@ fn two_part(table: &[u8], scale: u32, unit: u32, v: u32, rng: u32) -> Part
     requires scale_bound { unit * 2 ^ scale ≤ 2 ^ 31 }
     ensures { result ≡ part_of rng unit v table.now }
 {
-    let edge = unit * (table[0] as u32);
+    let edge = unit * u32::from(table[0]);
     let second = v < edge;
     let symbol = pick(second, 1, 0) as usize;
     let low = pick(second, 0, edge);

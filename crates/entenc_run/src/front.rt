@@ -13,14 +13,13 @@ fn turn(buf: &mut [u8], w: Enc) -> Enc
     requires rng_bound { w.rng ≤ 2 ^ 23 }
     ensures { out buf.new result ≡ turned (out buf.old w) }
 {
-    let rng = 256 * w.rng;
-    let val = 256 * (w.val % 0x80_0000);
-    let total = w.total + 8;
-    let mut q = carry_out_run(buf, w, w.val / 0x80_0000);
-    q.rng = rng;
-    q.val = val;
-    q.total = total;
-    q
+    let q = carry_out_run(buf, w, w.val / 0x80_0000);
+    Enc {
+        total: w.total + 8,
+        rng: 256 * w.rng,
+        val: 256 * (w.val % 0x80_0000),
+        ..q
+    }
 }
 
 // Turns while the range is at most 2^23.
@@ -43,9 +42,10 @@ pub(crate) fn keep(buf: &mut [u8], w: Enc, t: u32, s: u32) -> Enc
     requires cut_ok { CutOk w.rng t s }
     ensures { Stepped 16 (out buf.old w) (cut (out buf.old w) t s) (out buf.new result) }
 {
-    let mut q = w;
-    let above = w.rng - t;
-    q.rng = t - s;
-    q.val = std::num::wrapping_add_u32(w.val, above);
-    normalize(buf, q)
+    let part = Enc {
+        rng: t - s,
+        val: w.val + (w.rng - t),
+        ..w
+    };
+    normalize(buf, part)
 }

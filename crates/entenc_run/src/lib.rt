@@ -41,9 +41,8 @@ fn symbol_top(table: &[u8], k: u32, unit: u32, rng: u32) -> u32
     requires by_index { (i : ℕ) → unit * slice_index table.now i ≤ 2 ^ 31 }
     ensures { result ≡ top_of rng unit table.now k }
 {
-    let i = k as usize;
-    let j = if i == 0 { 0 } else { i - 1 };
-    let part = unit * (table[j] as u32);
+    let before = (k as usize).saturating_sub(1);
+    let part = unit * u32::from(table[before]);
     if k == 0 { rng } else { part }
 }
 
@@ -56,8 +55,7 @@ pub fn ec_enc_icdf_run(buf: &mut [u8], w: Enc, k: u32, table: &[u8], scale: u32)
     ensures { Wrote (out buf.old w) (record { model = tab scale table.now; value = k }) (out buf.new result) }
 {
     let unit = w.rng >> scale;
-    let i = k as usize;
-    let low = unit * (table[i] as u32);
+    let low = unit * u32::from(table[k as usize]);
     let top = symbol_top(table, k, unit, w.rng);
     keep(buf, w, top, low)
 }

@@ -26,11 +26,11 @@ pub(crate) fn append(buf: &mut [u8], w: Enc, v: u32, n: u32) -> Enc
     requires le_n { (1 ≤ n) × (n ≤ 25) × (v < 2 ^ n) }
     ensures { Stepped n (out buf.old w) (appended (out buf.old w) n v) (out buf.new result) }
 {
-    let total = w.total + n;
     let a = spare_for(buf, w, n);
-    let mut q = a;
-    q.window = std::num::wrapping_add_u32(a.window, v << a.wbits);
-    q.wbits = a.wbits + n;
-    q.total = total;
-    q
+    Enc {
+        window: a.window + (v << a.wbits),
+        wbits: a.wbits + n,
+        total: w.total + n,
+        ..a
+    }
 }
