@@ -20,8 +20,8 @@ blocks_of_run-blocks-requires c =
     let m = k.own.frame.numbers in
     (m.khz16, m.subframes4)
 
-pub plan_run-x-requires : goal.plan_run-x-requires
-plan_run-x-requires c =
+pub plan_run-requires : goal.plan_run-requires
+plan_run-requires c =
     let a = c.args in
     let f = a.f in
     let o = out a.buf.now a.w in
@@ -44,19 +44,19 @@ silk_encode_pulses_run-state-requires c =
     let m = k.own.frame.numbers in
     let few : c.blocks_of_run-blocks.result ≤ 20 =
     omega (arith, c.blocks_of_run-blocks.ensures, blocks_most f.khz f.subframes m.khz16 m.subframes4) in
-    let sized : length c.in-Some.result.lows ≡ 20 = search rules in
-    let x = c.in-Some in
+    let x = c.in-Some.x in
+    let sized : length c.in-Some.x.lows ≡ 20 = search rules in
     record {
       core = k.gate.core;
       total_bound = omega (arith, k.gate.low);
       pulse_rows = pulse_rows_lem _ c.pulse_rows-rows.ensures;
       blocks_bound =
           (few, omega (arith, c.blocks_of_run-blocks.ensures, k.own.frame.length16), m.signal2, m.offset1, k.own.rate8);
-      suited = plan_suits _ a.pulses.now x.result.counts x.result.lows x.result.fits x.ensures c.if-x.true (omega (arith, sized, few));
+      suited = plan_suits _ a.pulses.now x.counts x.lows true c.in-Some.ensures refl (omega (arith, sized, few));
     }
 
-pub returns-then-x : goal.returns-then-x
-returns-then-x c =
+pub returns-in-Some : goal.returns-in-Some
+returns-in-Some c =
     let a = c.args in
     let f = a.f in
     let o = out a.buf.now a.w in
@@ -66,28 +66,26 @@ returns-then-x c =
     let m = k.own.frame.numbers in
     let few : c.blocks_of_run-blocks.result ≤ 20 =
     omega (arith, c.blocks_of_run-blocks.ensures, blocks_most f.khz f.subframes m.khz16 m.subframes4) in
-    let sized : length c.in-Some.result.lows ≡ 20 = search rules in
-    let x = c.in-Some in
+    let x = c.in-Some.x in
+    let sized : length c.in-Some.x.lows ≡ 20 = search rules in
     let r = c.silk_encode_pulses_run-state in
     let n = c.blocks_of_run-blocks.ensures in
-    let t = c.if-x.true in
     rw c.of.ensures
     (pulses_sent o a.pulses.now f.khz f.subframes f.signal f.offset a.rate 0 e refl _
-    (plan_fits _ _ a.pulses.now x.result.counts x.result.lows x.result.fits true x.ensures n t)
-    (plan_says _ a.pulses.now x.result.counts x.result.lows x.result.fits x.ensures t (omega (arith, sized, few)) _ _
+    (plan_fits _ _ a.pulses.now x.counts x.lows true true c.in-Some.ensures n refl)
+    (plan_says _ a.pulses.now x.counts x.lows true c.in-Some.ensures refl (omega (arith, sized, few)) _ _
     f.signal f.offset a.rate _ 64656 n r.ensures))
 
-pub returns-else-x : goal.returns-else-x
-returns-else-x c =
+pub returns-in-None : goal.returns-in-None
+returns-in-None c =
     let a = c.args in
     let f = a.f in
     let o = out a.buf.now a.w in
     let e = sym (ap refusal_of c.in-Ok.is)
     ∙ and_refuses c.gate.result c.write_rule-rule.result c.and.ensures c.gate.ensures c.write_rule-rule.ensures in
-    let x = c.in-Some in
     rw c.refused.ensures
     (pulses_unfit o a.pulses.now f.khz f.subframes f.signal f.offset a.rate 0 e refl
-    (plan_fits _ _ a.pulses.now x.result.counts x.result.lows x.result.fits false x.ensures c.blocks_of_run-blocks.ensures c.if-x.false))
+    (plan_fits _ _ a.pulses.now _ _ false false c.in-None.ensures c.blocks_of_run-blocks.ensures refl))
 
 pub returns-in-Err : goal.returns-in-Err
 returns-in-Err c =
