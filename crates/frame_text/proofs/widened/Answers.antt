@@ -13,8 +13,7 @@ loop-i-preserved g c =
     let l : length xs ≡ g.row.N = search rules in
     let inside : i < length xs = omega arith in
     let room : i < length c.loop-i.wide = omega (arith, before.0) in
-    let x = widened c.from.type_inv c.from.ensures (search rules) in
-    (
+    let x = widened c.from.type_inv c.from.ensures (search rules) in (
       length-set c.loop-i.wide i _ ∙ before.0,
       rw add-one
           (take-suc-set c.loop-i.wide i _ room
