@@ -32,6 +32,7 @@ SIDES = r'where one has `(?P<{0}>[^`]*)`\s*\((?:expected|left)\).*?the other has
 COMPUTED = re.compile(r'computed as far as they go, the two (?:types|sides) (?:(?:differ only|first differ) ' + SIDES.format('a', 'b') +
                       r'|are `(?P<c>[^`]*)`\s*\(expected\) and `(?P<d>[^`]*)`\s*\(found\))', re.S)
 STATED = re.compile(r'expected type `(?P<a>[^`]*)`,?\s+but this has type `(?P<b>[^`]*)`', re.S)
+HELD = re.compile(r'`(?P<a>[^`]*)`\s+≟ `(?P<b>[^`]*)`\s+does not hold')
 PRINTED = re.compile(r'as printed, the two (?:types|sides) (?:differ only|first differ) ' + SIDES.format('a', 'b'), re.S)
 
 
@@ -90,7 +91,8 @@ def sides(error):
         return computed['a'], computed['b']
     whole = computed and (computed['c'], computed['d']) or stated and (stated['a'], stated['b'])
     if not whole:
-        return printed and (printed['a'], printed['b'])
+        held = printed or HELD.search(error)
+        return held and (held['a'], held['b'])
     if head(whole[0]) != head(whole[1]):
         return head(whole[0]), head(whole[1]), 'types'
     if words(whole[0])[0] != words(whole[1])[0]:  # one relation, written in two ways
