@@ -114,6 +114,8 @@ def kind(error):
         return 'shape', broken[0]
     if '`omega`' in error.split('\n')[0] and 'does not follow' in error:
         return 'bound', numbers(error)
+    if '`grind` found no proof' in error.split('\n')[0] and 'the goal fails at' in error:
+        return 'bound', 'does not follow'
     if left and 'ensures' not in left[1]:
         return 'bound', left[1]
     if left or '`search`: no proof of' in error:
