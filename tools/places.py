@@ -138,6 +138,14 @@ def point_4c():
             yield path, line, name
 
 
+def thrice(groups):
+    """The functions of each group of three or more, the largest group first."""
+    for what, places in sorted(groups.items(), key=lambda it: -len(it[1])):
+        if len(places) > 2:
+            for path, line, name in places:
+                yield path, line, f"{what}: {name}"
+
+
 def point_5a():
     "facts of a value in the requires of three functions or more: each function that has one"
     facts = collections.defaultdict(list)
@@ -145,10 +153,7 @@ def point_5a():
         clauses = " ".join(re.findall(r"requires(?: \w+)? \{(.*?)\}\s*(?=requires|ensures|\n|$)", head, re.S))
         for fact in sorted(set(re.findall(r"(?:^|[×(]) *([A-Z]\w+) ", clauses))):
             facts[fact].append((path, line, name))
-    for fact, places in sorted(facts.items(), key=lambda it: -len(it[1])):
-        if len(places) > 2:
-            for path, line, name in places:
-                yield path, line, f"{fact}: {name}"
+    yield from thrice(facts)
 
 
 def point_5b():
@@ -157,11 +162,8 @@ def point_5b():
     for path, line, name, head, _ in functions():
         names = [p for p, _, _ in parameters(head)]
         for pair in zip(names, names[1:]):
-            pairs[pair].append((path, line, name))
-    for pair, places in sorted(pairs.items(), key=lambda it: -len(it[1])):
-        if len(places) > 2:
-            for path, line, name in places:
-                yield path, line, f"({', '.join(pair)}): {name}"
+            pairs[f"({', '.join(pair)})"].append((path, line, name))
+    yield from thrice(pairs)
 
 
 def point_6a():
