@@ -12,6 +12,8 @@ trap 'rm -rf "$place"' EXIT
 
 make -s install PREFIX="$place" >/dev/null
 export PKG_CONFIG_PATH=$place/lib/pkgconfig
+# A host without a C library gives the archive one name.
+"$($CC -print-prog-name=nm)" -u "$place/lib/libtignarops.a" | awk '$1 == "U" { print $2 }' | sort -u | diff <(echo memset) -
 example() { # NAME PACKAGE...
     # shellcheck disable=SC2046 # flags are words
     $CC -std=c99 -Wall -Wextra -Werror "examples/$1.c" $(pkg-config --cflags --libs "${@:2}") -o "$place/$1"

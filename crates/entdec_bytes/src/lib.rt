@@ -56,7 +56,7 @@ fn turn(packet: &[u8], d: Dec) -> Dec
 {
     let b = ec_read_byte(packet, d.offs);
     let sym = (256 * d.rem + b) / 2 % 256;
-    let val = 256 * d.val + (255 - sym);
+    let val = (256 * d.val).wrapping_add(255 - sym);
     Dec {
         total: d.total + 8,
         offs: place_after(packet, d.offs),
@@ -122,7 +122,7 @@ fn fetch_byte(packet: &[u8], d: Dec) -> Dec
     let b = ec_read_byte_from_end(packet, d.endoffs);
     Dec {
         endoffs: place_after(packet, d.endoffs),
-        window: d.window + (b << d.wbits),
+        window: d.window.wrapping_add(b << d.wbits),
         wbits: d.wbits + 8,
         ..d
     }

@@ -44,7 +44,7 @@ pub(crate) fn keep(buf: &mut [u8], w: Enc, t: u32, s: u32) -> Enc
 {
     let part = Enc {
         rng: t - s,
-        val: w.val + (w.rng - t),
+        val: w.val.wrapping_add(w.rng - t),
         ..w
     };
     normalize(buf, part)

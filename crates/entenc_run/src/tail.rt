@@ -28,7 +28,7 @@ pub(crate) fn append(buf: &mut [u8], w: Enc, v: u32, n: u32) -> Enc
 {
     let a = spare_for(buf, w, n);
     Enc {
-        window: a.window + (v << a.wbits),
+        window: a.window.wrapping_add(v << a.wbits),
         wbits: a.wbits + n,
         total: w.total + n,
         ..a

@@ -4,7 +4,7 @@ use record_bytes::numbers::{Unread, fill};
 use record_frames::{Kept, Numbers, call_numbers, kept_for_next, side_indices};
 use record_head::Record;
 use record_states::{reader_answer, reader_state};
-use records::Left;
+use records::{FRAME_NUMBERS, Left};
 use silk::{Indices, IndicesRead};
 
 // What is asked of a packet, and what it should answer and leave.
@@ -22,7 +22,7 @@ fn reading_of<'a>(record: Record<'a>, before: Left<'a>) -> Option<Reading<'a>> {
     let mut body = Unread { left: record.body };
     let should = reader_answer(&mut body)?;
     let numbers = call_numbers(&mut body)?;
-    let mut parts = records::coded(record, body, before)?;
+    let mut parts = records::coded(record, FRAME_NUMBERS, before)?;
     let given = reader_state(&mut parts.state)?;
     Some(Reading {
         packet: before.bytes,

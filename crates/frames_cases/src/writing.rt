@@ -4,7 +4,7 @@ use record_bytes::numbers::{Unread, fill};
 use record_frames::{Kept, Numbers, call_numbers, kept_for_next, side_indices};
 use record_head::Record;
 use record_states::{writer_answer, writer_state};
-use records::Left;
+use records::{FRAME_NUMBERS, Left};
 use silk::{Indices, IndicesWritten};
 
 // What is asked of a buffer, and what it should answer and leave. A twin of `Reading`: the C interface has `Enc` and `Dec` apart.
@@ -22,7 +22,7 @@ fn writing_of<'a>(record: Record<'a>, before: Left<'a>) -> Option<Writing<'a>> {
     let mut body = Unread { left: record.body };
     let should = writer_answer(&mut body)?;
     let numbers = call_numbers(&mut body)?;
-    let mut parts = records::coded(record, body, before)?;
+    let mut parts = records::coded(record, FRAME_NUMBERS, before)?;
     let given = writer_state(&mut parts.state)?;
     Some(Writing {
         buffer: before.bytes,

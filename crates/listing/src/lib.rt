@@ -12,9 +12,12 @@ pub fn put_word_run(out: &mut [u8], at: usize, word: &[u8]) -> usize
     requires { at + length word.now ≤ length out.old }
     ensures { Put (length word.now) out.old at word.now out.new result }
 {
-    let end = at + word.len();
-    out[at..end].copy_from_slice(word);
-    end
+    // By a copy of the slice the archive for C would ask its linker for `memmove`.
+    let mut place = at;
+    for byte in word {
+        place = put_byte_run(out, place, *byte);
+    }
+    place
 }
 
 // A number after a space.

@@ -5,8 +5,8 @@
 
 use record_bytes::numbers::Unread;
 use record_head::Record;
-use records::Left;
 use records::calls::ProgramCall;
+use records::{Left, PROGRAM_NUMBERS};
 use std::io;
 
 // ---- one input
@@ -49,7 +49,8 @@ fn agrees<'a>(record: Record<'a>, before: Left<'a>) -> Option<Left<'a>> {
     let call = ProgramCall::try_from(record.call).ok()?;
     let mut body = Unread { left: record.body };
     let size = body.word()? as usize;
-    let same = prints(call, size, before.bytes, record.how, body.left)?;
+    let text = record.body.get(PROGRAM_NUMBERS..)?;
+    let same = prints(call, size, before.bytes, record.how, text)?;
     same.then_some(before)
 }
 

@@ -98,7 +98,7 @@ module _ {k w n left p : ℕ} {r₀ : Reader} {s₀ : List ℤ} where
     sized : length s ≡ h * w + (w + w - h * w)
     sized = ap length g.is ∙ length-append g.front (drop (h * w) s₀) ∙ rw (g.size, length-drop (h * w) s₀, g.wide)
 
-    halving_kept : length s ≡ length s₀
+    pub halving_kept : length s ≡ length s₀
     halving_kept = omega (arith, sized, within w h g.to, g.wide)
 
     -- both are read, behind their split
@@ -113,7 +113,7 @@ module _ {k w n left p : ℕ} {r₀ : Reader} {s₀ : List ℤ} where
         (same_packet r₋ r₀ k (p - left) a.packet t.second))
 
     module _ (l : h < 2) where
-      halving_fits : h * w + w ≤ length s
+      pub halving_fits : h * w + w ≤ length s
       halving_fits = omega (arith, halving_kept, g.wide, one_more w h l, within w (h + 1) (omega arith))
 
       -- the half at hand

@@ -7,8 +7,8 @@ use entcode::{Dec, Decoded};
 use record_bytes::numbers::Unread;
 use record_head::Record;
 use record_states::{reader_answer, reader_state};
-use records::Left;
 use records::calls::CoderCall;
+use records::{Left, READER_NUMBERS};
 use std::io;
 
 // A reader has no call that finishes.
@@ -30,7 +30,7 @@ fn agrees<'a>(record: Record<'a>, before: Left<'a>) -> Option<Left<'a>> {
     let mut numbers = Unread { left: record.body };
     let should = reader_answer(&mut numbers)?;
     let number = numbers.word()?;
-    let mut parts = records::coded(record, numbers, before)?;
+    let mut parts = records::coded(record, READER_NUMBERS, before)?;
     let given = reader_state(&mut parts.state)?;
     let answer = ask(call, before.bytes, given, number, parts.besides)?;
     (answer == should).then_some(parts.left)

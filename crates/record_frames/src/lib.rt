@@ -2,7 +2,7 @@
 // (docs/RECORDED.md, "Layout"). None where too few are left.
 #![tactic(auto)]
 
-ghost use Rattle.std.specs.Prelude.{◌≡◌, ◌+◌, length, IfSome};
+ghost use Rattle.std.specs.Prelude.{◌≡◌, ◌+◌, ◌<◌, length, MatchOption};
 
 use record_bytes::numbers::Unread;
 use silk::Indices;
@@ -10,7 +10,7 @@ use silk::Indices;
 // ---- side indices
 
 pub fn side_indices(bytes: &mut Unread<'_>) -> Option<Indices>
-    ensures { IfSome result (λ _. length bytes.new.left.now + 34 ≡ length bytes.old.left.now) }
+    ensures { MatchOption result (length bytes.old.left.now < 34) (λ _. length bytes.new.left.now + 34 ≡ length bytes.old.left.now) }
 {
     Some(Indices {
         gains: bytes.smalls()?,
@@ -36,7 +36,7 @@ pub struct Kept {
 }
 
 pub fn kept_for_next(bytes: &mut Unread<'_>) -> Option<Kept>
-    ensures { IfSome result (λ _. length bytes.new.left.now + 6 ≡ length bytes.old.left.now) }
+    ensures { MatchOption result (length bytes.old.left.now < 6) (λ _. length bytes.new.left.now + 6 ≡ length bytes.old.left.now) }
 {
     Some(Kept {
         prevtype: bytes.word()?,
@@ -57,7 +57,7 @@ pub struct Numbers {
 }
 
 pub fn call_numbers(bytes: &mut Unread<'_>) -> Option<Numbers>
-    ensures { IfSome result (λ _. length bytes.new.left.now + 20 ≡ length bytes.old.left.now) }
+    ensures { MatchOption result (length bytes.old.left.now < 20) (λ _. length bytes.new.left.now + 20 ≡ length bytes.old.left.now) }
 {
     Some(Numbers {
         khz: bytes.word()?,

@@ -2,13 +2,13 @@
 // are left.
 #![tactic(auto)]
 
-ghost use Rattle.std.specs.Prelude.{◌≡◌, ◌+◌, length, IfSome};
+ghost use Rattle.std.specs.Prelude.{◌≡◌, ◌+◌, ◌<◌, length, MatchOption};
 
 use entcode::{Dec, Decoded, Enc, Encoded};
 use record_bytes::numbers::Unread;
 
 pub fn reader_state(bytes: &mut Unread<'_>) -> Option<Dec>
-    ensures { IfSome result (λ _. length bytes.new.left.now + 44 ≡ length bytes.old.left.now) }
+    ensures { MatchOption result (length bytes.old.left.now < 44) (λ _. length bytes.new.left.now + 44 ≡ length bytes.old.left.now) }
 {
     Some(Dec {
         storage: bytes.word()?,
@@ -27,7 +27,7 @@ pub fn reader_state(bytes: &mut Unread<'_>) -> Option<Dec>
 
 // The last two have a sign. Twins of the reader's: the C interface has `Dec` and `Enc`, `Decoded` and `Encoded` apart.
 pub fn writer_state(bytes: &mut Unread<'_>) -> Option<Enc>
-    ensures { IfSome result (λ _. length bytes.new.left.now + 44 ≡ length bytes.old.left.now) }
+    ensures { MatchOption result (length bytes.old.left.now < 44) (λ _. length bytes.new.left.now + 44 ≡ length bytes.old.left.now) }
 {
     Some(Enc {
         storage: bytes.word()?,
@@ -45,7 +45,7 @@ pub fn writer_state(bytes: &mut Unread<'_>) -> Option<Enc>
 }
 
 pub fn reader_answer(bytes: &mut Unread<'_>) -> Option<Decoded>
-    ensures { IfSome result (λ _. length bytes.new.left.now + 52 ≡ length bytes.old.left.now) }
+    ensures { MatchOption result (length bytes.old.left.now < 52) (λ _. length bytes.new.left.now + 52 ≡ length bytes.old.left.now) }
 {
     Some(Decoded {
         refusal: bytes.word()?,
@@ -55,7 +55,7 @@ pub fn reader_answer(bytes: &mut Unread<'_>) -> Option<Decoded>
 }
 
 pub fn writer_answer(bytes: &mut Unread<'_>) -> Option<Encoded>
-    ensures { IfSome result (λ _. length bytes.new.left.now + 52 ≡ length bytes.old.left.now) }
+    ensures { MatchOption result (length bytes.old.left.now < 52) (λ _. length bytes.new.left.now + 52 ≡ length bytes.old.left.now) }
 {
     Some(Encoded {
         refusal: bytes.word()?,

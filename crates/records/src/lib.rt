@@ -2,7 +2,7 @@
 // counted and printed of the calls. What the programs that replay them share.
 #![tactic(auto)]
 
-ghost use Rattle.std.specs.Prelude.{◌≡◌, length, IfSome};
+ghost use Rattle.std.specs.Prelude.{◌≡◌, [], length, IfSome};
 
 use record_bytes::numbers::Unread;
 use record_head::{CutShort, Record, Records};
@@ -15,7 +15,17 @@ pub mod calls; // calls.rt: the calls by their numbers
 // A state, eleven numbers; and an answer: refusal, value and the state handed back.
 pub const STATE_BYTES: usize = 44;
 
-const ANSWER_BYTES: usize = 52;
+pub const ANSWER_BYTES: usize = 52;
+
+// An answer and the numbers behind it: of a reader and of line spectra one, of a writer two, of frames five. Of the
+// programs, the input's length alone.
+pub const READER_NUMBERS: usize = 56;
+
+pub const WRITER_NUMBERS: usize = 60;
+
+pub const FRAME_NUMBERS: usize = 72;
+
+pub const PROGRAM_NUMBERS: usize = 4;
 
 // The call of a record of bytes.
 const BYTES: u8 = 0;
@@ -27,6 +37,16 @@ pub struct Left<'a> {
     pub state: &'a [u8],
 }
 
+// Before the first call: no bytes, and the file's own in place of a state.
+pub fn start(file: &[u8]) -> Left<'_>
+    ensures { (result.bytes.now ≡ []) × (result.state.now ≡ file.now) }
+{
+    Left {
+        bytes: &[],
+        state: file,
+    }
+}
+
 // What stands behind the numbers of a call that is given a state and may change its bytes: the state, what the call is
 // given besides, and what it leaves.
 #[derive(Clone, Copy)]
@@ -36,12 +56,14 @@ pub struct Parts<'a> {
     pub left: Left<'a>,
 }
 
-// None where the record breaks the layout, which has `how` as bits. The bytes after a call that changes them, as long as
-// before, stand last.
-pub fn coded<'a>(record: Record<'a>, numbers: Unread<'a>, before: Left<'a>) -> Option<Parts<'a>>
+// Of a record whose answer and numbers have so many bytes. None where it breaks the layout, which has `how` as bits. The bytes
+// after a call that changes them, as long as before, stand last.
+pub fn coded<'a>(record: Record<'a>, numbers: usize, before: Left<'a>) -> Option<Parts<'a>>
     ensures { IfSome result (λ s. length s.left.bytes.now ≡ length before.entry.bytes.now) }
 {
-    let mut rest = numbers;
+    let mut rest = Unread {
+        left: record.body.get(numbers..)?,
+    };
     let handed_back = record.body.get(ANSWER_BYTES - STATE_BYTES..)?;
     let state = if record.how % 2 == 1 {
         before.state
@@ -76,8 +98,7 @@ enum Verdict {
     Differs(u32),
 }
 
-// How many calls of each number agree, and the verdict: the replay ends at the first call that does not agree. Before the
-// first call the file's own bytes stand for the state.
+// How many calls of each number agree, and the verdict: the replay ends at the first call that does not agree.
 fn tally_run<'a, F: Fn(Record<'a>, Left<'a>) -> Option<Left<'a>>>(
     file: &'a [u8],
     agrees: F,
@@ -86,10 +107,7 @@ fn tally_run<'a, F: Fn(Record<'a>, Left<'a>) -> Option<Left<'a>>>(
 {
     let mut agreed = [0u32; NUMBERS];
     let mut calls: u32 = 0;
-    let mut left = Left {
-        bytes: &[],
-        state: file,
-    };
+    let mut left = start(file);
     for record in (Records { file }) {
         match record {
             Ok(given) if given.call == BYTES => left.bytes = given.body,

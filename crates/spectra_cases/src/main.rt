@@ -6,7 +6,7 @@
 use record_bytes::numbers::{Unread, fill};
 use record_head::Record;
 use records::calls::SpectraCall;
-use records::{Left, STATE_BYTES};
+use records::{Left, READER_NUMBERS, STATE_BYTES};
 use spectrum::{Moves, Spectrum};
 use std::io;
 
@@ -56,7 +56,7 @@ fn agrees<'a>(record: Record<'a>, before: Left<'a>) -> Option<Left<'a>> {
     };
     let after = vector_of(&mut numbers)?;
     let khz = numbers.word()?;
-    let mut parts = records::coded(record, numbers, before)?;
+    let mut parts = records::coded(record, READER_NUMBERS, before)?;
     let given = vector_of(&mut parts.state)?;
     let mut space = [0i16; 17];
     let vector = space.get_mut(..given.len() / 2)?;

@@ -92,7 +92,8 @@ pub fn header_rows() -> [u8; 10]
     rows
 }
 
-// The rows of side indices.
+// The rows of side indices. Inlined, so that a writer of them does not copy its rows once more, by a `memcpy` from outside.
+#[inline(always)]
 pub fn index_rows() -> [u8; 556]
     ensures { result ≡ flatten index_rows }
 {

@@ -7,8 +7,8 @@ use entcode::{Enc, Encoded};
 use record_bytes::numbers::Unread;
 use record_head::Record;
 use record_states::{writer_answer, writer_state};
-use records::Left;
 use records::calls::CoderCall;
+use records::{Left, WRITER_NUMBERS};
 use std::io;
 
 // What a call is asked besides its state and its table.
@@ -38,7 +38,7 @@ fn agrees<'a>(record: Record<'a>, before: Left<'a>) -> Option<Left<'a>> {
     let should = writer_answer(&mut numbers)?;
     let number = numbers.word()?;
     let value = numbers.word()?;
-    let mut parts = records::coded(record, numbers, before)?;
+    let mut parts = records::coded(record, WRITER_NUMBERS, before)?;
     let given = writer_state(&mut parts.state)?;
     let mut space = [0u8; 1276];
     let lent = space.get_mut(..before.bytes.len())?;

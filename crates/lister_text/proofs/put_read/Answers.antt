@@ -31,7 +31,8 @@ put_frame-requires-clause-rate c =
     let b = c.args.packet.now in
     let y : Bytes b = λ i. omega (arith, c.type_inv.packet i) in
     let e = reading b c.args.s c.silk_decode_indices-a.ensures (ap (λ (a : Decoded). a.state) c.ec_dec_init.ensures) c.blank.ensures in
-    listable b c.args.s y (sym (ap (λ (a : IndicesRead). a.refusal) e) ∙ c.if-a-eq0.true)
+    let a = listable b c.args.s y (sym (ap (λ (a : IndicesRead). a.refusal) e) ∙ c.if-a-eq0.true) in
+    (a.rate, a.subframes)
 
 pub returns-then-a-eq0 : goal.returns-then-a-eq0
 returns-then-a-eq0 c =

@@ -1,5 +1,5 @@
 -- This shift is the first that passes, or the next may be.
-use Rattle.std.proofs.Common.{◌≡◌, ◌≤◌, ◌<◌, ◌∙◌, ℕ, sym, arith}
+use Rattle.std.proofs.Common.{◌≡◌, ◌≤◌, ◌<◌, ◌∙◌, ℕ, sym, arith, rules}
 use mathlib.Core.Bool.{Bool}
 use mathlib.Core.List.{List}
 use borrow.Author.Tests.{le-leb, lt-leb}
@@ -7,6 +7,7 @@ use lib.Dec.{leb}
 use lib.IntN.{ℤ}
 use Rattle.silk.specs.PulseSyntax.{total}
 use Rattle.silk.specs.PulseWriting.{shifted_by}
+use Rattle.silk.specs.Inner.Pulses.{Shift}
 use Rattle.pulse_shifts.proofs.Search.{first_here, first_next, first_none}
 use Rattle.pulse_shifts.proofs.shift_of.Goals as goal
 
@@ -38,9 +39,10 @@ pub returns : goal.returns
 returns c =
     let l = c.loop-j in
     let e : c.loop-j.j ≡ 11 = omega arith in
-    record {
+    let s : Shift c.args.part.now 0 11 = record {
       is = sym e ∙ sym (first_none (small c.args.part.now) 11 l.j (omega arith)) ∙ l.invariant;
       counted = λ h. absurd (omega arith);
       most = omega arith;
       upto = omega arith;
-    }
+    } in
+    search (rules, s)
