@@ -22,7 +22,7 @@ fn reading_of<'a>(record: Record<'a>, before: Left<'a>) -> Option<Reading<'a>> {
     let mut body = Unread { left: record.body };
     let should = reader_answer(&mut body)?;
     let numbers = call_numbers(&mut body)?;
-    let mut parts = records::coded(record, FRAME_NUMBERS, before)?;
+    let mut parts = records::coded_behind(record, FRAME_NUMBERS, before)?;
     let given = reader_state(&mut parts.state)?;
     Some(Reading {
         packet: before.bytes,

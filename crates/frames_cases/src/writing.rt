@@ -22,7 +22,7 @@ fn writing_of<'a>(record: Record<'a>, before: Left<'a>) -> Option<Writing<'a>> {
     let mut body = Unread { left: record.body };
     let should = writer_answer(&mut body)?;
     let numbers = call_numbers(&mut body)?;
-    let mut parts = records::coded(record, FRAME_NUMBERS, before)?;
+    let mut parts = records::coded_behind(record, FRAME_NUMBERS, before)?;
     let given = writer_state(&mut parts.state)?;
     Some(Writing {
         buffer: before.bytes,

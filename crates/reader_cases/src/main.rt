@@ -30,7 +30,7 @@ fn agrees<'a>(record: Record<'a>, before: Left<'a>) -> Option<Left<'a>> {
     let mut numbers = Unread { left: record.body };
     let should = reader_answer(&mut numbers)?;
     let number = numbers.word()?;
-    let mut parts = records::coded(record, READER_NUMBERS, before)?;
+    let mut parts = records::coded_behind(record, READER_NUMBERS, before)?;
     let given = reader_state(&mut parts.state)?;
     let answer = ask(call, before.bytes, given, number, parts.besides)?;
     (answer == should).then_some(parts.left)

@@ -56,21 +56,23 @@ pub struct Parts<'a> {
     pub left: Left<'a>,
 }
 
-// Of a record whose answer and numbers have so many bytes. None where it breaks the layout, which has `how` as bits. The bytes
-// after a call that changes them, as long as before, stand last.
-pub fn coded<'a>(record: Record<'a>, numbers: usize, before: Left<'a>) -> Option<Parts<'a>>
+// The parts of what stands behind the numbers, by `how`, the layout's bits. The bytes after a call that changes them, as long as
+// before, stand last.
+fn parted<'a>(
+    how: u8,
+    handed_back: &'a [u8],
+    behind: Unread<'a>,
+    before: Left<'a>,
+) -> Option<Parts<'a>>
     ensures { IfSome result (λ s. length s.left.bytes.now ≡ length before.entry.bytes.now) }
 {
-    let mut rest = Unread {
-        left: record.body.get(numbers..)?,
-    };
-    let handed_back = record.body.get(ANSWER_BYTES - STATE_BYTES..)?;
-    let state = if record.how % 2 == 1 {
+    let mut rest = behind;
+    let state = if how % 2 == 1 {
         before.state
     } else {
         rest.bytes(STATE_BYTES)?
     };
-    let (besides, bytes) = if record.how < 2 {
+    let (besides, bytes) = if how < 2 {
         (rest.left, before.bytes)
     } else {
         let size = rest.left.len().checked_sub(before.bytes.len())?;
@@ -84,6 +86,25 @@ pub fn coded<'a>(record: Record<'a>, numbers: usize, before: Left<'a>) -> Option
             state: handed_back,
         },
     })
+}
+
+// None where the record breaks the layout.
+pub fn coded<'a>(record: Record<'a>, numbers: Unread<'a>, before: Left<'a>) -> Option<Parts<'a>>
+    ensures { IfSome result (λ s. length s.left.bytes.now ≡ length before.entry.bytes.now) }
+{
+    let handed_back = record.body.get(ANSWER_BYTES - STATE_BYTES..)?;
+    parted(record.how, handed_back, numbers, before)
+}
+
+// The same of a record whose answer and numbers have so many bytes.
+pub fn coded_behind<'a>(record: Record<'a>, numbers: usize, before: Left<'a>) -> Option<Parts<'a>>
+    ensures { IfSome result (λ s. length s.left.bytes.now ≡ length before.entry.bytes.now) }
+{
+    let behind = Unread {
+        left: record.body.get(numbers..)?,
+    };
+    let handed_back = record.body.get(ANSWER_BYTES - STATE_BYTES..)?;
+    parted(record.how, handed_back, behind, before)
 }
 
 // ---- a replay
@@ -144,5 +165,78 @@ pub fn replay_run<'a, F: Fn(Record<'a>, Left<'a>) -> Option<Left<'a>>>(
     match verdict {
         Verdict::Agree(calls) => println!(rt; "all {calls} agree"),
         Verdict::Differs(call) => println!(rt; "call {call} differs"),
+    }
+}
+
+#[cfg(test)]
+mod tests {
+    use super::*;
+    use std::process::Abort;
+
+    const BEFORE: Left<'static> = Left {
+        bytes: &[200, 201],
+        state: &[210; 44],
+    };
+
+    fn body_of_places() -> [u8; 120] {
+        let mut body = [0; 120];
+        for (place, byte) in (0..120).zip(&mut body) {
+            *byte = place;
+        }
+        body
+    }
+
+    // What both answer of a reader's record whose call is given by `how`; its answer and number have 56 bytes.
+    fn parts_are(
+        rt: &impl Abort,
+        body: &[u8; 120],
+        how: u8,
+        state: &[u8],
+        besides: &[u8],
+        bytes: &[u8],
+    ) {
+        let record = Record { call: 1, how, body };
+        let numbers = Unread { left: &body[56..] };
+        for parts in [
+            coded(record, numbers, BEFORE),
+            coded_behind(record, READER_NUMBERS, BEFORE),
+        ] {
+            let parts = parts.expect(rt, "no parts");
+            assert_eq!(rt; parts.state.left, state, "state, how {how}");
+            assert_eq!(rt; parts.besides, besides, "besides, how {how}");
+            assert_eq!(rt; parts.left.bytes, bytes, "bytes left, how {how}");
+            assert_eq!(rt; parts.left.state, &body[8..], "state left, how {how}");
+        }
+    }
+
+    // By docs/RECORDED.md, "Layout".
+    #[test]
+    fn parts_by_how_a_call_is_given(rt: HostRuntime) {
+        let body = body_of_places();
+        parts_are(&rt, &body, 0, &body[56..100], &body[100..], BEFORE.bytes);
+        parts_are(&rt, &body, 1, BEFORE.state, &body[56..], BEFORE.bytes);
+        parts_are(&rt, &body, 2, &body[56..100], &body[100..118], &body[118..]);
+        parts_are(&rt, &body, 3, BEFORE.state, &body[56..118], &body[118..]);
+    }
+
+    // `coded` takes numbers that are no part of the record; a count of the record's own bytes reaches none of them.
+    #[test]
+    fn numbers_beside_the_record(rt: HostRuntime) {
+        let record = Record {
+            call: 1,
+            how: 0,
+            body: &[220; 8],
+        };
+        let parts = coded(record, Unread { left: &[230; 45] }, BEFORE).expect(&rt, "no parts");
+        assert_eq!(rt; parts.state.left, [230; 44].as_slice());
+        assert_eq!(rt; parts.besides, [230].as_slice());
+        assert_eq!(rt; parts.left.bytes, BEFORE.bytes);
+        assert!(rt; parts.left.state.is_empty());
+        for count in 0..10 {
+            assert!(rt;
+                coded_behind(record, count, BEFORE).is_none(),
+                "count {count}"
+            );
+        }
     }
 }

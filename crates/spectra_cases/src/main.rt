@@ -56,7 +56,7 @@ fn agrees<'a>(record: Record<'a>, before: Left<'a>) -> Option<Left<'a>> {
     };
     let after = vector_of(&mut numbers)?;
     let khz = numbers.word()?;
-    let mut parts = records::coded(record, READER_NUMBERS, before)?;
+    let mut parts = records::coded_behind(record, READER_NUMBERS, before)?;
     let given = vector_of(&mut parts.state)?;
     let mut space = [0i16; 17];
     let vector = space.get_mut(..given.len() / 2)?;

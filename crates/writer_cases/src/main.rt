@@ -38,7 +38,7 @@ fn agrees<'a>(record: Record<'a>, before: Left<'a>) -> Option<Left<'a>> {
     let should = writer_answer(&mut numbers)?;
     let number = numbers.word()?;
     let value = numbers.word()?;
-    let mut parts = records::coded(record, WRITER_NUMBERS, before)?;
+    let mut parts = records::coded_behind(record, WRITER_NUMBERS, before)?;
     let given = writer_state(&mut parts.state)?;
     let mut space = [0u8; 1276];
     let lent = space.get_mut(..before.bytes.len())?;
